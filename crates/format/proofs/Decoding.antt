@@ -1,0 +1,188 @@
+-- The record that is decoded fits the bytes, and a record that fits them, with an address of its bus type's kind, is decoded.
+-- Assumes nothing.
+use Prim.Native.Nat.{ℕ, _+_, _-_, _*_, _≤_, _<_}
+use native.Mathlib.Omega.{arith}
+use mathlib.Core.Path.{_≡_, refl, sym, _∙_, ap}
+use mathlib.Core.Bool.{Bool, true, false}
+use mathlib.Core.List.{List, [], _∷_, _++_}
+use mathlib.Core.Option.{Option, none, some}
+use lib.ListN.{length, take, drop, length-take, length-drop, drop-of-length-le}
+use lib.Dec.{eqb, leb}
+use borrow.Author.Tests.{eqb-true, le-leb, leb-true}
+use Rattle.format.specs.Slots.{Slot, whole, reserved, word, Starts, Fits, byte, Bytes}
+use Rattle.format.specs.Records.{Block, Record, digital, analogue, fan, led, current, controller, tachometer, zone, string, rgb, elementOf}
+use Rattle.format.specs.Layout.{fixed, part, entries, blocks, idOf, body, layout}
+use Rattle.format.specs.Rules.{ofItsKind}
+use Rattle.format.specs.Verdict.{stated, Stands}
+use Rattle.format.specs.Decode.{readDigital, readAnalogue, readFan, readLed, readCurrent, readDevice, readRgb, content, guard, bind, cutBlocks, cutTwo, pick, decode}
+use Rattle.format.specs.declared.records.BusDevice.{BusDevice}
+use Rattle.format.specs.declared.records.RegisterPair.{RegisterPair}
+use Rattle.format.specs.declared.records.Element.the-variants.{Controller, Tachometer}
+use Rattle.format.proofs.Slots.{Over, bytes-drop, bytes-take, starts-over, over-starts, over-at, starts-rest, starts-length, starts-count, starts-split, starts-append, take-fits, fits-take}
+use Rattle.format.proofs.Blocks.{BlocksFit, blocks-fits, blocks-only, TwoFit, two-fits, two-only}
+use Rattle.format.proofs.EachKind.{address-kind, digital-only, digital-fits, analogue-only, analogue-fits, fan-only, fan-fits, led-only, led-fits, current-only, current-fits, rgb-only, rgb-fits, device-only, controller-fits, tachometer-fits, whole-only, whole-fits}
+
+-- what decoding says of the bytes after a header
+abbrev Reads : ℕ → List ℕ → Option Record → Type 0
+Reads id c none = Unit {0}
+Reads id c (some r) = (id ≡ idOf (elementOf r)) × Fits c (body r) × (ofItsKind r ≡ true)
+
+pick-cases :
+    (P : Option Record → Type 0) (n k : ℕ) (a b : Option Record) → (n ≡ k → P a) → P b → P (pick (eqb n k) a b)
+pick-cases P n k a b f g = go (eqb n k) refl
+  where
+    go : (t : Bool) → eqb n k ≡ t → P (pick t a b)
+    go true e = f (eqb-true n k e)
+    go false e = g
+
+guard-cases : (id : ℕ) (c : List ℕ) (t : Bool) (r : Option Record) → (t ≡ true → Reads id c r) → Reads id c (guard t r)
+guard-cases id c true r f = f refl
+guard-cases id c false r f = tt
+
+-- a kind of one length
+over-fits : (c : List ℕ) (ss : List Slot) → length c ≡ length ss → Over (byte c) ss → Fits c ss
+over-fits c ss n o = rw (drop-of-length-le c {i = length ss} (omega arith)) at (over-starts c ss (omega arith) o)
+
+even-fits :
+    (id : ℕ) (c : List ℕ) (n : ℕ) (r : Record)
+    → length (body r) ≡ n
+    → ofItsKind r ≡ true
+    → id ≡ idOf (elementOf r)
+    → Over (byte c) (body r)
+    → Reads id c (guard (eqb (length c) n) (some r))
+even-fits id c n r l k at o =
+    guard-cases id c (eqb (length c) n) (some r) (λ t. (at, over-fits c (body r) (eqb-true (length c) n t ∙ sym l) o, k))
+
+-- a kind with blocks
+blocks-read :
+    (id : ℕ) (c : List ℕ)
+    → id ≡ 9
+    → 8 ≤ length c
+    → (l : Option (List Block))
+    → BlocksFit (drop 8 c) l
+    → Reads id c (bind l (λ l. some (controller (readDevice (byte c)) l)))
+blocks-read id c at long none f = tt
+blocks-read id c at long (some l) f =
+    let ss = fixed (Controller (readDevice (byte c))) in
+    (at, starts-append c ss (blocks l) (drop 8 c) [] (over-starts c ss long (controller-fits (byte c))) f, address-kind (byte c))
+
+two-read :
+    (id : ℕ) (c : List ℕ)
+    → id ≡ 10
+    → 9 ≤ length c
+    → (t : Option (List RegisterPair × List RegisterPair))
+    → TwoFit (drop 9 c) t
+    → Reads id c (bind t (λ t. some (tachometer (readDevice (byte c)) (t .0) (t .1))))
+two-read id c at long none f = tt
+two-read id c at long (some t) f =
+    let ss = fixed (Tachometer (readDevice (byte c))) in
+    (at, starts-append c ss (entries (t .0) ++ entries (t .1)) (drop 9 c) [] (over-starts c ss long (tachometer-fits (byte c))) f, address-kind (byte c))
+
+decode-reads : (id : ℕ) (c : List ℕ) → Bytes c → Reads id c (decode id c)
+unfolding decode
+decode-reads id c small =
+    let f = byte c in
+    let n = length c in
+    let P = Reads id c in
+    pick-cases P id 1 _ _ (λ at. even-fits id c 18 (digital (readDigital f)) refl (address-kind f) at (digital-fits f small))
+    (pick-cases P id 2 _ _ (λ at. even-fits id c 17 (analogue (readAnalogue f)) refl refl at (analogue-fits f small))
+    (pick-cases P id 3 _ _ (λ at. even-fits id c 13 (fan (readFan f)) refl refl at (fan-fits f small))
+    (pick-cases P id 4 _ _ (λ at. even-fits id c 11 (led (readLed f)) refl refl at (led-fits f small))
+    (pick-cases P id 8 _ _ (λ at. even-fits id c 11 (current (readCurrent f)) refl refl at (current-fits f small))
+    (pick-cases P id 9 _ _
+    (λ at.
+    guard-cases id c (leb 8 n) _
+    (λ t. blocks-read id c at (leb-true 8 n t) (cutBlocks n (drop 8 c)) (blocks-fits n (drop 8 c) (bytes-drop 8 c small))))
+    (pick-cases P id 10 _ _
+    (λ at.
+    guard-cases id c (leb 9 n) _
+    (λ t. two-read id c at (leb-true 9 n t) (cutTwo (drop 9 c)) (two-fits (drop 9 c) (bytes-drop 9 c small))))
+    (pick-cases P id 11 _ _ (λ at. (at, whole-fits c, refl))
+    (pick-cases P id 12 _ _ (λ at. (at, whole-fits c, refl))
+    (pick-cases P id 14 _ _ (λ at. even-fits id c 8 (rgb (readRgb f)) refl refl at (rgb-fits f small)) tt)))))))))
+
+-- a record that fits is decoded
+fits-length : (c : List ℕ) (ss : List Slot) → Fits c ss → length c ≡ length ss
+fits-length c ss h = omega (arith, starts-count c ss [] h)
+
+decode-finds : (c : List ℕ) (r : Record) → Fits c (body r) → ofItsKind r ≡ true → decode (idOf (elementOf r)) c ≡ some r
+unfolding decode
+decode-finds c (digital x) h k =
+    simp (fits-length c (body (digital x)) h, digital-only (byte c) x (starts-over c (body (digital x)) [] h) k)
+decode-finds c (analogue x) h k =
+    simp (fits-length c (body (analogue x)) h, analogue-only (byte c) x (starts-over c (body (analogue x)) [] h))
+decode-finds c (fan x) h k = simp (fits-length c (body (fan x)) h, fan-only (byte c) x (starts-over c (body (fan x)) [] h))
+decode-finds c (led x) h k = simp (fits-length c (body (led x)) h, led-only (byte c) x (starts-over c (body (led x)) [] h))
+decode-finds c (current x) h k =
+    simp (fits-length c (body (current x)) h, current-only (byte c) x (starts-over c (body (current x)) [] h))
+decode-finds c (controller d l) h k =
+    let ss = fixed (Controller d) in
+    let m = starts-split c ss (blocks l) [] h in
+    let f : Fits (drop 8 c) (blocks l) = rw (starts-rest c ss (m .0) (m .1)) at (m .2) in
+    simp (le-leb 8 (length c) (starts-length c ss (m .0) (m .1)), blocks-only l (length c) (drop 8 c) (omega (arith, length-drop 8 c)) f, device-only (byte c) d (blocks l) (starts-over c (body (controller d l)) [] h) k)
+decode-finds c (tachometer d a b) h k =
+    let ss = fixed (Tachometer d) in
+    let m = starts-split c ss (entries a ++ entries b) [] h in
+    let f : Fits (drop 9 c) (entries a ++ entries b) = rw (starts-rest c ss (m .0) (m .1)) at (m .2) in
+    simp (le-leb 9 (length c) (starts-length c ss (m .0) (m .1)), two-only (drop 9 c) a b f, device-only (byte c) d (reserved ∷ entries a ++ entries b) (starts-over c (body (tachometer d a b)) [] h) k)
+decode-finds c (zone z) h k = ap (λ (l : List ℕ). some (zone l)) (sym (whole-only c z h))
+decode-finds c (string z) h k = ap (λ (l : List ℕ). some (string l)) (sym (whole-only c z h))
+decode-finds c (rgb x) h k = simp (fits-length c (body (rgb x)) h, rgb-only (byte c) x (starts-over c (body (rgb x)) [] h))
+
+-- The header, once for all kinds: a record that fits has the length that stands in its header, and its body fits what follows.
+pub starts-stated : (bs : List ℕ) (r : Record) (rest : List ℕ) → Starts bs (layout r) rest → stated bs ≡ length (layout r)
+starts-stated bs r rest h =
+    let o = starts-over bs (layout r) rest h in
+    omega (arith, over-at (byte bs) (layout r) o 1, over-at (byte bs) (layout r) o 2)
+
+pub starts-next : (bs : List ℕ) (r : Record) (rest : List ℕ) → Starts bs (layout r) rest → rest ≡ drop (stated bs) bs
+starts-next bs r rest h = rw (starts-stated bs r rest h) (starts-rest bs (layout r) rest h)
+
+abbrev header : Record → List Slot
+header r = whole (idOf (elementOf r)) ∷ word (3 + length (body r))
+
+starts-content : (bs : List ℕ) (r : Record) (rest : List ℕ) → Starts bs (layout r) rest → Fits (content bs) (body r)
+starts-content bs r rest h =
+    let c = starts-split bs (header r) (body r) rest h in
+    let m : length (body r) ≡ stated bs - 3 = omega (arith, starts-stated bs r rest h) in
+    rw (← m, ← (starts-rest bs (header r) (c .0) (c .1))) (take-fits (c .0) (body r) rest (c .2))
+
+content-stands :
+    (bs : List ℕ) (r : Record)
+    → Bytes bs
+    → 3 ≤ stated bs
+    → stated bs ≤ length bs
+    → byte bs 0 ≡ idOf (elementOf r)
+    → Fits (content bs) (body r)
+    → ofItsKind r ≡ true
+    → Stands bs r
+content-stands bs r small least most id f k =
+    let n : 3 + length (body r) ≡ stated bs =
+    omega (arith, starts-count (content bs) (body r) [] f, length-take (stated bs - 3) (drop 3 bs), length-drop 3 bs) in
+    record {
+      rest = drop (stated bs - 3) (drop 3 bs);
+      starts =
+          starts-append bs (header r) (body r) (drop 3 bs) (drop (stated bs - 3) (drop 3 bs))
+          (over-starts bs (header r) (omega arith) (id, (omega (arith, small 1), (omega (arith, small 1), tt))))
+          (fits-take (stated bs - 3) (drop 3 bs) (body r) f);
+      kind = k;
+    }
+
+-- what is decoded of an element stands at the head of the bytes, and what stands there is decoded
+abbrev pub StandsIf : List ℕ → Option Record → Type 0
+StandsIf bs none = Unit {0}
+StandsIf bs (some r) = Stands bs r
+
+pub decoded-stands :
+    (bs : List ℕ) → Bytes bs → 3 ≤ stated bs → stated bs ≤ length bs → StandsIf bs (decode (byte bs 0) (content bs))
+decoded-stands bs small least most =
+    go (decode (byte bs 0) (content bs)) (decode-reads (byte bs 0) (content bs) (bytes-take (stated bs - 3) (drop 3 bs) (bytes-drop 3 bs small)))
+  where
+    go : (o : Option Record) → Reads (byte bs 0) (content bs) o → StandsIf bs o
+    go none h = tt
+    go (some r) h = content-stands bs r small least most (h .0) (h .1) (h .2)
+
+pub stands-decoded : (bs : List ℕ) (r : Record) → Stands bs r → decode (byte bs 0) (content bs) ≡ some r
+stands-decoded bs r s =
+    rw (starts-over bs (layout r) (s .rest) (s .starts) .0)
+    (decode-finds (content bs) r (starts-content bs r (s .rest) (s .starts)) (s .kind))

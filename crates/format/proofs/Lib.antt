@@ -1,0 +1,13 @@
+pub mod Slots
+pub mod Blocks
+pub mod EachKind
+pub mod Kept
+pub mod Decoding
+pub mod Stepping
+pub mod Passing
+pub mod Opening
+pub mod Theorem
+pub mod Written
+pub mod Asking
+pub mod KnownTables
+pub mod Demand3

@@ -1,0 +1,72 @@
+-- The description: one that starts the bytes is the one that is read, and the one that is read starts them.
+-- Assumes nothing.
+use Prim.Native.Nat.{ℕ, _+_, _*_, _≤_, _<_}
+use native.Mathlib.Omega.{arith}
+use mathlib.Core.Path.{_≡_, refl, sym, subst}
+use mathlib.Core.List.{List, [], _∷_, _++_}
+use lib.ListN.{length, drop, length-append}
+use Rattle.format.specs.Slots.{Starts, Fits, byte, Bytes}
+use Rattle.format.specs.Records.{Record}
+use Rattle.format.specs.Layout.{layouts, opening, table}
+use Rattle.format.specs.Verdict.{stated, Opened, Passed}
+use Rattle.format.specs.Decode.{readDescription}
+use Rattle.format.specs.declared.records.Description.{Description}
+use Rattle.format.proofs.Slots.{starts-over, over-starts, starts-rest, starts-length, starts-count, starts-split, starts-append}
+use Rattle.format.proofs.EachKind.{description-only, description-fits}
+
+pub opened-only :
+    (b : List ℕ) (d : Description) (rest : List ℕ) → Opened b d rest → (d ≡ readDescription (byte b)) × (rest ≡ drop 16 b)
+opened-only b d rest o = (
+  description-only (byte b) d (length b) (starts-over b (opening d (length b)) rest (o .starts)),
+  starts-rest b (opening d (length b)) rest (o .starts),
+)
+
+pub opened-fits :
+    (b : List ℕ)
+    → Bytes b
+    → 16 ≤ length b
+    → byte b 0 ≡ 1
+    → stated b ≡ length b
+    → stated b ≤ 4096
+    → Opened b (readDescription (byte b)) (drop 16 b)
+opened-fits b small long one len top =
+    record {
+      limit = omega arith;
+      starts = over-starts b (opening (readDescription (byte b)) (length b)) (omega arith) (description-fits (byte b) (length b) small one len);
+    }
+
+-- what a description that starts the bytes says of rules 1 to 3
+pub opened-facts :
+    (b : List ℕ) (d : Description) (rest : List ℕ)
+    → Opened b d rest
+    → (16 ≤ length b) × (byte b 0 ≡ 1) × (stated b ≡ length b) × (stated b ≤ 4096)
+opened-facts b d rest o =
+    let l = starts-length b (opening d (length b)) rest (o .starts) in
+    let v = starts-over b (opening d (length b)) rest (o .starts) in
+    let s : stated b ≡ length b = omega (arith, v .1 .0, v .1 .1 .0) in
+    (l, v .0, s, omega (arith, o .limit, s))
+
+-- a table's layout is the description's, for its own length, and then the elements'
+pub table-length : (b : List ℕ) (d : Description) (rs : List Record) → Fits b (table d rs) → length b ≡ 16 + length (layouts rs)
+table-length b d rs f =
+    omega (arith, starts-count b (table d rs) [] f, length-append (opening d (16 + length (layouts rs))) (layouts rs))
+
+pub record Split (b : List ℕ) (d : Description) (rs : List Record) : Type 0 where
+  pub rest : List ℕ
+  pub opened : Opened b d rest
+  pub fits : Fits rest (layouts rs)
+
+pub table-split : (b : List ℕ) (d : Description) (rs : List Record) → length b ≤ 4096 → Fits b (table d rs) → Split b d rs
+table-split b d rs top f =
+    let c = starts-split b (opening d (16 + length (layouts rs))) (layouts rs) [] f in
+    record {
+      rest = c .0;
+      opened = record { limit = top; starts = subst (λ (n : ℕ). Starts b (opening d n) (c .0)) (sym (table-length b d rs f)) (c .1) };
+      fits = c .2;
+    }
+
+pub table-join : (b : List ℕ) (d : Description) (rs : List Record) (rest : List ℕ) → Opened b d rest → Fits rest (layouts rs) → Fits b (table d rs)
+table-join b d rs rest o f =
+    let n : length b ≡ 16 + length (layouts rs) =
+    omega (arith, starts-count b (opening d (length b)) rest (o .starts), starts-count rest (layouts rs) [] f) in
+    starts-append b (opening d (16 + length (layouts rs))) (layouts rs) rest [] (subst (λ (n : ℕ). Starts b (opening d n) rest) n (o .starts)) f

@@ -1,0 +1,205 @@
+-- From bytes to records, as a function: what a reader does. No statement of `Verdict` names it.
+-- Assumes nothing.
+use Prim.Native.Nat.{ℕ, zero, suc, _+_, _-_, _*_, _/_, _%_}
+use mathlib.Core.Bool.{Bool, true, false}
+use mathlib.Core.List.{List, [], _∷_}
+use mathlib.Core.Option.{Option, none, some}
+use lib.ListN.{length, take, drop}
+use lib.Dec.{eqb, leb}
+use Rattle.format.specs.Slots.{byte}
+use Rattle.format.specs.Records.{Block, Record, digital, analogue, fan, led, current, controller, tachometer, zone, string, rgb}
+use Rattle.format.specs.Verdict.{stated}
+use Rattle.format.specs.declared.records.Description.{Description}
+use Rattle.format.specs.declared.records.Placement.{Placement}
+use Rattle.format.specs.declared.records.DigitalSensor.{DigitalSensor}
+use Rattle.format.specs.declared.records.AnalogueSensor.{AnalogueSensor}
+use Rattle.format.specs.declared.records.PwmFan.{PwmFan}
+use Rattle.format.specs.declared.records.Lamp.{Lamp}
+use Rattle.format.specs.declared.records.StatusLed.{StatusLed}
+use Rattle.format.specs.declared.records.CurrentSensor.{CurrentSensor}
+use Rattle.format.specs.declared.records.BusDevice.{BusDevice}
+use Rattle.format.specs.declared.records.RgbLed.{RgbLed}
+use Rattle.format.specs.declared.records.RegisterPair.{RegisterPair}
+use Rattle.format.specs.declared.records.Address.{Address}
+use Rattle.format.specs.declared.records.Address.the-variants.{Bus, Select}
+
+-- each record by its numbers, in the order of its fields
+abbrev pub placementOf : ℕ → ℕ → ℕ → ℕ → ℕ → Placement
+placementOf s x y z n =
+    record { string = s; x = record { 0 = x }; y = record { 0 = y }; z = record { 0 = z }; zone = n }
+
+abbrev pub digitalOf : Placement → ℕ → Address → ℕ → ℕ → ℕ → ℕ → ℕ → ℕ → DigitalSensor
+digitalOf p bus a lsb msb v t w u =
+    record {
+      placement = p;
+      bus = bus;
+      address = a;
+      lsb = lsb;
+      msb = msb;
+      minvalue = v;
+      mintemp = record { 0 = t };
+      maxvalue = w;
+      maxtemp = record { 0 = u };
+    }
+
+abbrev pub analogueOf : Placement → ℕ → ℕ → ℕ → ℕ → ℕ → ℕ → ℕ → AnalogueSensor
+analogueOf p t pin a b c d e =
+    record {
+      placement = p;
+      thermal = t;
+      pin = record { 0 = pin };
+      at0 = record { 0 = a };
+      at25 = record { 0 = b };
+      at50 = record { 0 = c };
+      at75 = record { 0 = d };
+      at100 = record { 0 = e };
+    }
+
+abbrev pub fanOf : Placement → ℕ → ℕ → ℕ → ℕ → ℕ → ℕ → PwmFan
+fanOf p pwm t ppr a b duty =
+    record {
+      placement = p;
+      pwm = record { 0 = pwm };
+      tachometer = record { 0 = t };
+      ppr = ppr;
+      minrpm = record { 0 = a };
+      maxrpm = record { 0 = b };
+      duty = duty;
+    }
+
+abbrev pub lampOf : ℕ → ℕ → ℕ → Lamp
+lampOf pin c u = record { pin = record { 0 = pin }; colour = c; purpose = u }
+
+abbrev pub ledOf : Placement → Lamp → Lamp → Lamp → StatusLed
+ledOf p a b c = record { placement = p; one = a; two = b; three = c }
+
+abbrev pub currentOf : Placement → ℕ → ℕ → ℕ → CurrentSensor
+currentOf p pin a b =
+    record { placement = p; pin = record { 0 = pin }; imin = record { 0 = a }; imax = record { 0 = b } }
+
+abbrev pub deviceOf : Placement → ℕ → Address → BusDevice
+deviceOf p bus a = record { placement = p; bus = bus; address = a }
+
+abbrev pub rgbOf : Placement → ℕ → ℕ → ℕ → RgbLed
+rgbOf p r g b = record { placement = p; red = record { 0 = r }; green = record { 0 = g }; blue = record { 0 = b } }
+
+abbrev pub descriptionOf : ℕ → ℕ → ℕ → Bool → ℕ → ℕ → ℕ → ℕ → Description
+descriptionOf k s n f u a b c =
+    record {
+      device = k;
+      string = s;
+      serial = n;
+      spwr = f;
+      power = record { 0 = u };
+      revision0 = record { 0 = a };
+      revision1 = record { 0 = b };
+      revision2 = record { 0 = c };
+    }
+
+abbrev pub pairOf : ℕ → ℕ → RegisterPair
+pairOf a v = record { address = a; «data» = v }
+
+abbrev pub blockOf : ℕ → List RegisterPair → Block
+blockOf s ps = record { speed = record { 0 = s }; pairs = ps }
+
+-- the records in the bytes after the header, given byte by byte
+abbrev pub wordAt : (ℕ → ℕ) → ℕ → ℕ
+wordAt f i = f i + 256 * f (i + 1)
+
+abbrev pub readPlacement : (ℕ → ℕ) → Placement
+readPlacement f = placementOf (f 0) (f 1) (f 2) (f 3) (f 4)
+
+abbrev pub pickAddress : Bool → ℕ → Address
+pickAddress true b = Select (record { 0 = b })
+pickAddress false b = Bus (b / 2)
+
+abbrev pub readAddress : (ℕ → ℕ) → Address
+readAddress f = pickAddress (eqb (f 5 % 16) 3) (f 6)
+
+abbrev pub readDigital : (ℕ → ℕ) → DigitalSensor
+readDigital f =
+    digitalOf (readPlacement f) (f 5 % 16) (readAddress f) (wordAt f 8) (wordAt f 10) (wordAt f 12) (f 14) (wordAt f 15) (f 17)
+
+abbrev pub readAnalogue : (ℕ → ℕ) → AnalogueSensor
+readAnalogue f =
+    analogueOf (readPlacement f) (f 5 % 16) (f 6) (wordAt f 7) (wordAt f 9) (wordAt f 11) (wordAt f 13) (wordAt f 15)
+
+abbrev pub readFan : (ℕ → ℕ) → PwmFan
+readFan f = fanOf (readPlacement f) (f 5) (f 6) (f 7) (wordAt f 8) (wordAt f 10) (f 12)
+
+abbrev pub readLamp : (ℕ → ℕ) → ℕ → Lamp
+readLamp f i = lampOf (f i) (f (suc i) / 16) (f (suc i) % 16)
+
+abbrev pub readLed : (ℕ → ℕ) → StatusLed
+readLed f = ledOf (readPlacement f) (readLamp f 5) (readLamp f 7) (readLamp f 9)
+
+abbrev pub readCurrent : (ℕ → ℕ) → CurrentSensor
+readCurrent f = currentOf (readPlacement f) (f 5) (wordAt f 7) (wordAt f 9)
+
+abbrev pub readDevice : (ℕ → ℕ) → BusDevice
+readDevice f = deviceOf (readPlacement f) (f 5 % 16) (readAddress f)
+
+abbrev pub readRgb : (ℕ → ℕ) → RgbLed
+readRgb f = rgbOf (readPlacement f) (f 5) (f 6) (f 7)
+
+abbrev pub readDescription : (ℕ → ℕ) → Description
+readDescription f =
+    descriptionOf (f 3) (f 4) (f 5 + 256 * f 6 + 65536 * f 7) (leb 128 (f 8)) (f 8 % 128) (f 9) (f 10) (f 11)
+
+-- the element's bytes after its header
+abbrev pub content : List ℕ → List ℕ
+content bs = take (stated bs - 3) (drop 3 bs)
+
+-- so many register pairs
+abbrev pub readPairs : ℕ → List ℕ → List RegisterPair
+readPairs zero bs = []
+readPairs (suc n) bs = pairOf (wordAt (byte bs) 0) (wordAt (byte bs) 2) ∷ readPairs n (drop 4 bs)
+
+abbrev pub guard : {A : Type 0} → Bool → Option A → Option A
+guard true a = a
+guard false a = none
+
+abbrev pub bind : {A B : Type 0} → Option A → (A → Option B) → Option B
+bind none f = none
+bind (some a) f = f a
+
+-- ENTRIES and that many pairs, and what follows them
+abbrev pub cutEntries : List ℕ → Option (List RegisterPair × List ℕ)
+cutEntries [] = none
+cutEntries (k ∷ bs) = guard (leb (4 * k) (length bs)) (some (readPairs k bs, drop (4 * k) bs))
+
+-- speed blocks to the end, of bytes that are no more than the first number
+abbrev pub cutBlocks : ℕ → List ℕ → Option (List Block)
+cutBlocks zero [] = some []
+cutBlocks zero (s ∷ bs) = none
+cutBlocks (suc n) [] = some []
+cutBlocks (suc n) (s ∷ bs) =
+    bind (cutEntries bs) (λ c. bind (cutBlocks n (c .1)) (λ more. some (blockOf s (c .0) ∷ more)))
+
+-- two blocks of ENTRIES and pairs, to the end
+abbrev pub whenNil : {A : Type 0} → List ℕ → A → Option A
+whenNil [] a = some a
+whenNil (b ∷ bs) a = none
+
+abbrev pub cutTwo : List ℕ → Option (List RegisterPair × List RegisterPair)
+cutTwo bs = bind (cutEntries bs) (λ c. bind (cutEntries (c .1)) (λ d. whenNil (d .1) (c .0, d .0)))
+
+abbrev pub pick : Bool → Option Record → Option Record → Option Record
+pick true a b = a
+pick false a b = b
+
+-- the record in the bytes after a header, by its identifier, where they have the layout's length
+unfoldable pub decode : ℕ → List ℕ → Option Record
+decode id c =
+    pick (eqb id 0x01) (guard (eqb (length c) 18) (some (digital (readDigital (byte c)))))
+    (pick (eqb id 0x02) (guard (eqb (length c) 17) (some (analogue (readAnalogue (byte c)))))
+    (pick (eqb id 0x03) (guard (eqb (length c) 13) (some (fan (readFan (byte c)))))
+    (pick (eqb id 0x04) (guard (eqb (length c) 11) (some (led (readLed (byte c)))))
+    (pick (eqb id 0x08) (guard (eqb (length c) 11) (some (current (readCurrent (byte c)))))
+    (pick (eqb id 0x09)
+    (guard (leb 8 (length c)) (bind (cutBlocks (length c) (drop 8 c)) (λ l. some (controller (readDevice (byte c)) l))))
+    (pick (eqb id 0x0a)
+    (guard (leb 9 (length c)) (bind (cutTwo (drop 9 c)) (λ t. some (tachometer (readDevice (byte c)) (t .0) (t .1)))))
+    (pick (eqb id 0x0b) (some (zone c))
+    (pick (eqb id 0x0c) (some (string c))
+    (pick (eqb id 0x0e) (guard (eqb (length c) 8) (some (rgb (readRgb (byte c))))) none)))))))))

@@ -1,0 +1,83 @@
+-- The starred rows of 'Known tables', and rows of two faults at once, whose answers are proved of the verdict itself.
+-- Assumes nothing.
+use Prim.Native.Nat.{ℕ}
+use mathlib.Core.List.{List, [], _∷_, _++_}
+use Rattle.format.specs.declared.answers.Answer.{Answer}
+use Rattle.format.specs.declared.answers.Answer.the-variants.{Accepted, Refused}
+
+-- table A without its last byte, but for byte 0, byte 1, byte 3, byte 4, byte 8 and byte 9
+abbrev pub headWith : ℕ → ℕ → ℕ → ℕ → ℕ → ℕ → List ℕ
+headWith revision n device string power pin =
+    revision ∷ n ∷ 0x00 ∷ device ∷ string ∷ 0x07 ∷ 0x00 ∷ 0x00 ∷ power ∷ pin ∷ 0xff ∷ 0xff ∷ 0x00 ∷ 0x00 ∷ 0x00 ∷ []
+
+-- table A, but for byte 0, byte 1, byte 8 and byte 9
+abbrev pub tableA : ℕ → ℕ → ℕ → ℕ → List ℕ
+tableA revision n power pin = headWith revision n 0x02 0x00 power pin ++ 0x00 ∷ []
+
+-- A with its length mended and an element added
+abbrev pub after : ℕ → List ℕ → List ℕ
+after n element = tableA 0x01 n 0x80 0xff ++ element
+
+-- fan F without its last byte: its length, PWM and tachometer pin
+abbrev pub headF : ℕ → ℕ → ℕ → List ℕ
+headF n pwm tachometer =
+    0x03 ∷ n ∷ 0x00 ∷ 0x00 ∷ 0xff ∷ 0xff ∷ 0xff ∷ 0x01 ∷ pwm ∷ tachometer ∷ 0x02 ∷ 0x2c ∷ 0x01 ∷ 0xdc ∷ 0x05 ∷ []
+
+abbrev pub fanF : ℕ → ℕ → List ℕ
+fanF pwm tachometer = headF 0x10 pwm tachometer ++ 0x40 ∷ []
+
+-- controller C: its ENTRIES
+abbrev pub controllerC : ℕ → List ℕ
+controllerC entries =
+    0x09 ∷ 0x11 ∷ 0x00 ∷ 0x00 ∷ 0xff ∷ 0xff ∷ 0xff ∷ 0x01 ∷ 0x00 ∷ 0x40 ∷ 0x00 ∷ 0x05 ∷ entries ∷ 0x07 ∷ 0x00 ∷ 0x0c ∷ 0x00 ∷ []
+
+pub record Row : Type 0 where
+  pub bytes : List ℕ
+  pub answer : Answer
+
+infixr 4 _gives_
+abbrev pub _gives_ : List ℕ → Answer → Row
+bytes gives answer = record { bytes = bytes; answer = answer }
+
+abbrev pub starred : List Row
+starred =
+    (tableA 0x01 0x10 0x80 0xff gives Accepted 0)
+    ∷ (headWith 0x01 0x10 0x02 0x00 0x80 0xff gives Refused 1 0)
+    ∷ ([] gives Refused 1 0)
+    ∷ (tableA 0x10 0x10 0x80 0xff gives Refused 2 0)
+    ∷ (tableA 0x01 17 0x80 0xff gives Refused 3 0)
+    ∷ (tableA 0x01 0x10 0x7d 0xff gives Accepted 0)
+    ∷ (tableA 0x01 0x10 0x7e 0xff gives Refused 5 0)
+    ∷ (tableA 0x01 0x10 0x80 0x30 gives Accepted 0)
+    ∷ (tableA 0x01 0x10 0x80 0x31 gives Refused 10 0)
+    ∷ (tableA 0x01 0x10 0x80 0x10 gives Refused 15 0)
+    ∷ (after 18 (0x03 ∷ 0x10 ∷ []) gives Refused 6 16)
+    ∷ (after 32 (fanF 0x05 0x06) gives Refused 13 16)
+    ∷ (after 32 (fanF 0x05 0xff) gives Refused 9 16)
+    ∷ (after 32 (fanF 0x06 0x05) gives Refused 10 16)
+    ∷ (after 31 (headF 15 0x05 0x06) gives Refused 8 16)
+    ∷ (after 33 (controllerC 1) gives Refused 13 16)
+    ∷ (after 33 (controllerC 2) gives Refused 8 16)
+    ∷ (after 33 (controllerC 0) gives Refused 9 16)
+    ∷ []
+
+-- Two faults at once: the answer is the first in document 01's order.
+
+-- table A, but for byte 1, byte 3, byte 4, byte 8 and byte 9
+abbrev pub tableWith : ℕ → ℕ → ℕ → ℕ → ℕ → List ℕ
+tableWith n device string power pin = headWith 0x01 n device string power pin ++ 0x00 ∷ []
+
+abbrev pub twofold : List Row
+twofold =
+    -- 2 and 3, 4 and 5, 5 and 10, 10 of the description and 6
+    (tableA 0x10 17 0x80 0xff gives Refused 2 0)
+    ∷ (tableWith 16 0x04 0x00 0x7e 0xff gives Refused 4 0)
+    ∷ (tableWith 16 0x02 0x00 0x7e 0x31 gives Refused 5 0)
+    ∷ (tableWith 18 0x02 0x00 0x80 0x31 ++ 0x03 ∷ 0x10 ∷ [] gives Refused 10 0)
+    -- 9 and 10, 10 and 13
+    ∷ (after 32 (fanF 0x00 0xff) gives Refused 9 16)
+    ∷ (after 32 (fanF 0x00 0x06) gives Refused 10 16)
+    -- 13 and 14 of the description, 14 and 15
+    ∷ (tableWith 32 0x02 0x09 0x80 0xff ++ fanF 0x05 0x06 gives Refused 13 16)
+    ∷ (tableWith 16 0x02 0x09 0x80 0x10 gives Refused 14 0)
+    ∷ []

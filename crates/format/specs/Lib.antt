@@ -1,0 +1,15 @@
+pub mod Slots
+pub mod Records
+pub mod Layout
+pub mod Pins
+pub mod Rules
+pub mod Numbers
+pub mod Claims
+pub mod Table
+pub mod Verdict
+pub mod Answers
+pub mod Cleared
+pub mod Asked
+pub mod Known
+pub mod Decode
+pub mod Reader

@@ -1,0 +1,62 @@
+-- The record of an element: its fixed fields and, taken apart, its variable part. One case for each of the ten kinds.
+-- Assumes nothing.
+use Prim.Native.Nat.{ℕ}
+use mathlib.Core.List.{List}
+use lib.ListN.{getD, drop}
+use Rattle.format.specs.declared.units.HundredRpm.{HundredRpm}
+use Rattle.format.specs.declared.records.DigitalSensor.{DigitalSensor}
+use Rattle.format.specs.declared.records.AnalogueSensor.{AnalogueSensor}
+use Rattle.format.specs.declared.records.PwmFan.{PwmFan}
+use Rattle.format.specs.declared.records.StatusLed.{StatusLed}
+use Rattle.format.specs.declared.records.CurrentSensor.{CurrentSensor}
+use Rattle.format.specs.declared.records.BusDevice.{BusDevice}
+use Rattle.format.specs.declared.records.RgbLed.{RgbLed}
+use Rattle.format.specs.declared.records.RegisterPair.{RegisterPair}
+use Rattle.format.specs.declared.records.Element.{Element}
+use Rattle.format.specs.declared.records.Element.the-variants.{Digital, Analogue, Fan, Led, Current, Controller, Tachometer, Zone, Text, Rgb}
+
+-- 01: 'A speed block is SPEED (in units of 100 RPM), ENTRIES and that many pairs'; the layout supplies ENTRIES
+pub record Block : Type 0 where
+  pub speed : HundredRpm
+  pub pairs : List RegisterPair
+
+pub data Record : Type 0 where
+  digital : DigitalSensor → Record
+  analogue : AnalogueSensor → Record
+  fan : PwmFan → Record
+  led : StatusLed → Record
+  current : CurrentSensor → Record
+  -- 'Element 09h holds the default block and then 0 to 5 more'
+  controller : BusDevice → List Block → Record
+  -- 'Element 0Ah holds two blocks of one ENTRIES byte and its pairs'
+  tachometer : BusDevice → List RegisterPair → List RegisterPair → Record
+  -- 'of a string or zone all bytes after the header, which are its whole record'
+  zone : List ℕ → Record
+  string : List ℕ → Record
+  rgb : RgbLed → Record
+
+-- Table 30: the zone's number and its string index; Table 29: the string's number and its text
+abbrev pub zoneNumber : List ℕ → ℕ
+zoneNumber bytes = getD bytes 0 0
+
+abbrev pub zoneString : List ℕ → ℕ
+zoneString bytes = getD bytes 1 0
+
+abbrev pub stringNumber : List ℕ → ℕ
+stringNumber bytes = getD bytes 0 0
+
+abbrev pub textOf : List ℕ → List ℕ
+textOf bytes = drop 3 bytes
+
+-- the element that a record is of, as the code holds it: the record but for its variable part
+abbrev pub elementOf : Record → Element
+elementOf (digital d) = Digital d
+elementOf (analogue a) = Analogue a
+elementOf (fan f) = Fan f
+elementOf (led l) = Led l
+elementOf (current c) = Current c
+elementOf (controller d bs) = Controller d
+elementOf (tachometer d a b) = Tachometer d
+elementOf (zone bytes) = Zone
+elementOf (string bytes) = Text
+elementOf (rgb r) = Rgb r

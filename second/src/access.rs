@@ -1,0 +1,48 @@
+//! Asking a table for its description or one element. The whole table is checked first.
+
+use crate::answer::{number, Refusal, Verdict, DESCRIPTION_LENGTH};
+use crate::element::{read_description, read_element, word};
+use crate::reader::check;
+use crate::record::{Description, Element};
+
+/// The bytes of each element of an accepted table, with the offset where it starts.
+pub fn walk(table: &[u8]) -> impl Iterator<Item = (usize, &[u8])> {
+    let mut place = DESCRIPTION_LENGTH;
+    std::iter::from_fn(move || {
+        if place >= table.len() {
+            return None;
+        }
+        let start = place;
+        place += usize::from(word(table, start + 1));
+        Some((start, &table[start..place]))
+    })
+}
+
+/// The description of an accepted table, or the table's refusal.
+pub fn description(table: &[u8]) -> Result<Description, Refusal> {
+    check(table).into_result()?;
+    Ok(read_description(table))
+}
+
+/// Element k, counted from 0: its record, or the table's refusal, or 17.
+///
+/// The blocks of 09h and 0Ah and the whole content of a string or zone are its [`part`].
+pub fn element(table: &[u8], k: usize) -> Result<Element, Refusal> {
+    record_and_part(table, k).map(|(record, _)| record)
+}
+
+/// The variable part of element k as that part of the lent table; empty with a refusal.
+pub fn part(table: &[u8], k: usize) -> &[u8] {
+    record_and_part(table, k).map_or(&[], |(_, part)| part)
+}
+
+/// Record and variable part of element k together.
+pub fn record_and_part(table: &[u8], k: usize) -> Result<(Element, &[u8]), Refusal> {
+    if let Verdict::Refused { number, place } = check(table) {
+        return Err(Refusal::at(number, place));
+    }
+    walk(table)
+        .nth(k)
+        .and_then(|(_, bytes)| read_element(bytes))
+        .ok_or(Refusal::at(number::PAST_LAST, 0))
+}

@@ -1,0 +1,79 @@
+//! `check` and `make`: tables in files.
+
+use super::options::Options;
+use super::End;
+use second::generator;
+use second::random::Random;
+use std::path::Path;
+
+/// One line for each file: number, place or count, file.
+pub fn check(files: &[String]) -> End {
+    if files.is_empty() {
+        return End::Misused("name one file or more".into());
+    }
+    let mut end = End::Good;
+    for file in files {
+        match std::fs::read(file) {
+            Ok(table) => {
+                let verdict = second::check(&table);
+                println!("{}\t{}\t{file}", verdict.number(), verdict.beside());
+            }
+            Err(why) => {
+                eprintln!("second: cannot read {file}: {why}");
+                end = End::Failed;
+            }
+        }
+    }
+    end
+}
+
+type Make = fn(&mut Random) -> Vec<u8>;
+
+fn maker(kind: &str) -> Result<Make, String> {
+    match kind {
+        "valid" => Ok(generator::valid),
+        "mixed" => Ok(generator::mixed),
+        "controllers" => Ok(generator::controllers),
+        "damaged" => Ok(generator::damaged),
+        "any" => Ok(generator::any),
+        _ => Err(format!("there is no kind '{kind}'")),
+    }
+}
+
+/// Writes generated tables as files `KIND-000000.bin` and so on.
+pub fn make(arguments: &[String]) -> End {
+    match try_make(arguments) {
+        Ok(Ok(())) => End::Good,
+        Ok(Err(why)) => {
+            eprintln!("second: cannot write: {why}");
+            End::Failed
+        }
+        Err(why) => End::Misused(why),
+    }
+}
+
+fn try_make(arguments: &[String]) -> Result<std::io::Result<()>, String> {
+    let options = Options::read(arguments, &["seed", "count"])?;
+    let [kind, directory] = options.others.as_slice() else {
+        return Err("name a kind and a directory".into());
+    };
+    let make = maker(kind)?;
+    let mut random = Random::new(options.number("seed")?);
+    let count = options.number("count")?;
+    Ok(write_all(kind, Path::new(directory), count, || {
+        make(&mut random)
+    }))
+}
+
+fn write_all(
+    kind: &str,
+    directory: &Path,
+    count: u64,
+    mut next: impl FnMut() -> Vec<u8>,
+) -> std::io::Result<()> {
+    std::fs::create_dir_all(directory)?;
+    for at in 0..count {
+        std::fs::write(directory.join(format!("{kind}-{at:06}.bin")), next())?;
+    }
+    Ok(())
+}

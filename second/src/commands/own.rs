@@ -1,0 +1,89 @@
+//! `self`: the program's own parts held against each other.
+
+use super::options::Options;
+use super::End;
+use second::generator;
+use second::histogram::Histogram;
+use second::random::Random;
+use second::{plain, Verdict};
+
+pub fn own(arguments: &[String]) -> End {
+    let (seed, count) = match read(arguments) {
+        Ok(read) => read,
+        Err(why) => return End::Misused(why),
+    };
+    let mut random = Random::new(seed);
+    let mut histogram = Histogram::new();
+    let mut differences = 0;
+    for _ in 0..count {
+        let table = generator::any(&mut random);
+        let verdict = second::check(&table);
+        histogram.add(verdict.number());
+        if let Err(what) = compare(&table, verdict) {
+            differences += 1;
+            eprintln!("second: {what}: {table:02X?}");
+        }
+    }
+    print!("{}", histogram.lines());
+    println!("{} tables, {differences} differences", histogram.total());
+    if differences == 0 {
+        End::Good
+    } else {
+        End::Failed
+    }
+}
+
+fn read(arguments: &[String]) -> Result<(u64, u64), String> {
+    let options = Options::read(arguments, &["seed", "count"])?;
+    options.no_others()?;
+    Ok((options.number("seed")?, options.number("count")?))
+}
+
+/// Fast against plain; rewritten against cleared, and once more; the listing's shape.
+fn compare(table: &[u8], fast: Verdict) -> Result<(), &'static str> {
+    if plain::check(table) != fast {
+        return Err("the fast and the plain reader differ");
+    }
+    let mut out = vec![0xA5; table.len()];
+    match (second::rewrite(table, &mut out), fast) {
+        (Ok(length), Verdict::Accepted(_)) if length == table.len() => (),
+        (Err(refusal), Verdict::Refused { number, place })
+            if (refusal.number, refusal.place) == (number, place) => {}
+        _ => return Err("reader and rewriter differ"),
+    }
+    let text = String::from_utf8(second::listing(table)).map_err(|_| "the listing is no text")?;
+    let Verdict::Accepted(count) = fast else {
+        let only = format!("R\t{}\t{}\n", fast.number(), fast.beside());
+        return (text == only).then_some(()).ok_or("the R line is wrong");
+    };
+    if out != second::cleared(table) {
+        return Err("rewritten and cleared differ");
+    }
+    let mut again = vec![0x5A; out.len()];
+    if second::rewrite(&out, &mut again).is_err() || again != out {
+        return Err("rewriting twice changes something");
+    }
+    shape(&text, count)
+}
+
+/// One `T` line of ten fields, then one `E` line of five fields for each element.
+fn shape(text: &str, count: usize) -> Result<(), &'static str> {
+    let mut lines = text.split_terminator('\n');
+    let good = |line: Option<&str>, letter: &str, fields: usize| {
+        line.is_some_and(|line| {
+            let split: Vec<&str> = line.split('\t').collect();
+            split[0] == letter
+                && split.len() == fields
+                && split
+                    .iter()
+                    .all(|field| !field.is_empty() && field.is_ascii())
+        })
+    };
+    let first = good(lines.next(), "T", 10);
+    let elements: Vec<&str> = lines.collect();
+    let rest = elements.iter().all(|&line| good(Some(line), "E", 5));
+    let closed = text.ends_with('\n');
+    (first && rest && closed && elements.len() == count)
+        .then_some(())
+        .ok_or("the listing has another shape")
+}

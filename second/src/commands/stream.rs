@@ -1,0 +1,45 @@
+//! `list` and `rewrite`: a table from standard input.
+
+use super::End;
+use std::io::{Read, Write};
+
+/// Standard input up to 4,097 bytes. No more is needed: a table over 4,096 bytes answers 2 or 3 by
+/// its first byte alone, and 4,097 of its bytes still are such a table.
+fn read_table() -> std::io::Result<Vec<u8>> {
+    let mut table = Vec::new();
+    std::io::stdin().lock().take(4097).read_to_end(&mut table)?;
+    Ok(table)
+}
+
+fn transform(arguments: &[String], make: fn(&[u8]) -> Vec<u8>) -> End {
+    if let Some(other) = arguments.first() {
+        return End::Misused(format!("'{other}' is one argument too many"));
+    }
+    let done = read_table().and_then(|table| {
+        let mut out = std::io::stdout().lock();
+        out.write_all(&make(&table))?;
+        out.flush()
+    });
+    match done {
+        Ok(()) => End::Good,
+        Err(why) => {
+            eprintln!("second: standard input or output failed: {why}");
+            End::Failed
+        }
+    }
+}
+
+pub fn list(arguments: &[String]) -> End {
+    transform(arguments, second::listing)
+}
+
+/// The rewritten bytes, or the `R` line.
+pub fn rewrite(arguments: &[String]) -> End {
+    transform(arguments, |table| {
+        let mut out = vec![0; table.len()];
+        match second::rewrite(table, &mut out) {
+            Ok(length) => out[..length].to_vec(),
+            Err(refusal) => format!("R\t{}\t{}\n", refusal.number, refusal.place).into_bytes(),
+        }
+    })
+}

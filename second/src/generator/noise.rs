@@ -1,0 +1,65 @@
+//! Random bytes, and random bytes behind sensible headers.
+
+use super::raw;
+use crate::element::{fixed_length, id};
+use crate::random::Random;
+
+/// Bytes without any sense, sometimes with a good first byte and length.
+pub fn random_bytes(random: &mut Random) -> Vec<u8> {
+    let length = *random.pick(&[0, 15, 16, 17, 30, 60, 200, 1000, 4096, 5000]);
+    let mut table = vec![0; random.between(0, length)];
+    for byte in &mut table {
+        *byte = random.byte();
+    }
+    if !table.is_empty() && random.chance(60) {
+        table[0] = 1;
+        raw::mend(&mut table);
+    }
+    table
+}
+
+/// A good description, then headers that fit with bodies of chance.
+pub fn structured(random: &mut Random) -> Vec<u8> {
+    let mut table = raw::TABLE_A.to_vec();
+    if random.chance(20) {
+        table[9] = random.byte();
+    }
+    for _ in 0..random.below(12) {
+        table.extend(likely(random));
+    }
+    if random.chance(70) {
+        for zone in 0..random.below(4) {
+            table.extend(raw::zone(zone as u8, 0));
+        }
+    }
+    raw::mend(&mut table);
+    table
+}
+
+/// An element whose bytes are drawn from those that mean something somewhere.
+fn likely(random: &mut Random) -> Vec<u8> {
+    let identifier = *random.pick(&id::ALL);
+    let length = match identifier {
+        id::ZONE => 30,
+        id::TEXT => 6 + random.below(4),
+        id::CONTROLLER => 17 + 6 * random.below(2),
+        id::TACHOMETER => 14 + 4 * random.below(3),
+        _ => fixed_length(identifier),
+    };
+    const BYTES: [u8; 20] = [
+        0, 0, 0, 0, 1, 1, 1, 2, 3, 3, 5, 6, 0x11, 0x12, 0x13, 0x14, 0x15, 0x20, 0x30, 0xFF,
+    ];
+    let mut body: Vec<u8> = (0..length - 3).map(|_| *random.pick(&BYTES)).collect();
+    if identifier != id::TEXT && identifier != id::ZONE {
+        body[0] = 0;
+        body[4] = random.below(3) as u8;
+    }
+    if identifier == id::CONTROLLER && random.chance(80) {
+        body[9] = 1;
+        body[1..]
+            .get_mut(14)
+            .into_iter()
+            .for_each(|entries| *entries = 1);
+    }
+    raw::element(identifier, &body)
+}

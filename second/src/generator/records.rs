@@ -1,0 +1,134 @@
+//! Records for the writer: good ones out of accepted tables, then bent at the boundaries.
+
+use super::valid::valid;
+use crate::access::walk;
+use crate::element::{read_description, read_element};
+use crate::pins::Pin;
+use crate::random::Random;
+use crate::record::*;
+use crate::units::FourMilliamps;
+
+/// Values around the ends of the fields of 3, 4 and 7 bits.
+const EDGES: [u8; 14] = [0, 1, 2, 3, 4, 5, 6, 7, 15, 16, 127, 128, 254, 255];
+
+/// The description of an accepted table, at times bent.
+pub fn some_description(random: &mut Random) -> Description {
+    let mut description = read_description(&valid(random));
+    for _ in 0..random.below(3) {
+        bend_description(random, &mut description);
+    }
+    description
+}
+
+fn bend_description(random: &mut Random, description: &mut Description) {
+    match random.below(5) {
+        0 => {
+            let serials = [0, 0xFF_FFFF, 0x100_0000, 0x8000_0000, u32::MAX];
+            description.serial = *random.pick(&serials);
+        }
+        1 => description.power = FourMilliamps(*random.pick(&[0, 125, 126, 127, 128, 255])),
+        2 => description.self_powered = !description.self_powered,
+        3 => description.device_type = *random.pick(&[0, 1, 3, 4, 255]),
+        _ => description.hardware[random.below(3)] = any_pin(random),
+    }
+}
+
+/// An element of an accepted table with its part, at times bent.
+pub fn some_element(random: &mut Random) -> (Element, Vec<u8>) {
+    let (mut element, mut part) = good_element(random);
+    for _ in 0..*random.pick(&[0, 0, 1, 1, 2]) {
+        bend(random, &mut element);
+    }
+    if random.chance(25) {
+        bend_part(random, &mut part);
+    }
+    (element, part)
+}
+
+pub fn good_element(random: &mut Random) -> (Element, Vec<u8>) {
+    loop {
+        let table = valid(random);
+        let elements: Vec<&[u8]> = walk(&table).map(|(_, bytes)| bytes).collect();
+        if elements.is_empty() {
+            continue;
+        }
+        if let Some((element, part)) = read_element(elements[random.below(elements.len())]) {
+            return (element, part.to_vec());
+        }
+    }
+}
+
+/// Any pin byte, rather one that is near the permitted ones.
+fn any_pin(random: &mut Random) -> Pin {
+    const NEAR: [u8; 16] = [
+        0x00, 0x04, 0x05, 0x06, 0x07, 0x08, 0x10, 0x11, 0x13, 0x14, 0x27, 0x28, 0x30, 0x31, 0xEE,
+        0xFF,
+    ];
+    if random.chance(70) {
+        Pin(*random.pick(&NEAR))
+    } else {
+        Pin(random.byte())
+    }
+}
+
+fn bend(random: &mut Random, element: &mut Element) {
+    match element {
+        Element::DigitalSensor(e) => bend_attachment(random, &mut e.attachment),
+        Element::Controller(e) => bend_attachment(random, &mut e.attachment),
+        Element::Tachometer(e) => bend_attachment(random, &mut e.attachment),
+        Element::AnalogueSensor(e) => match random.below(3) {
+            0 => e.thermal_type = *random.pick(&EDGES),
+            1 => e.pin = any_pin(random),
+            _ => {
+                let values = [0, 1022, 1023, 1024, 1025, 65535];
+                e.calibration[random.below(5)] = *random.pick(&values);
+            }
+        },
+        Element::Fan(e) => match random.below(3) {
+            0 => e.pwm = any_pin(random),
+            1 => e.tachometer = any_pin(random),
+            _ => e.pulses_per_revolution = *random.pick(&[0, 1, 255]),
+        },
+        Element::StatusLed(e) => {
+            let light = &mut e.lights[random.below(3)];
+            match random.below(3) {
+                0 => light.pin = any_pin(random),
+                1 => light.colour = *random.pick(&EDGES),
+                _ => light.purpose = *random.pick(&EDGES),
+            }
+        }
+        Element::Current(e) => e.pin = any_pin(random),
+        Element::RgbLed(e) => {
+            let pins = [&mut e.red, &mut e.green, &mut e.blue];
+            *pins.into_iter().nth(random.below(3)).expect("three pins") = any_pin(random);
+        }
+        Element::Text(_) | Element::Zone(_) => (),
+    }
+}
+
+fn bend_attachment(random: &mut Random, attachment: &mut Attachment) {
+    match random.below(3) {
+        0 => attachment.bus_type = *random.pick(&EDGES),
+        1 => attachment.address = Address::Bus(*random.pick(&EDGES)),
+        _ => attachment.address = Address::Select(any_pin(random)),
+    }
+}
+
+/// A part grown, cut, emptied or changed.
+fn bend_part(random: &mut Random, part: &mut Vec<u8>) {
+    match random.below(8) {
+        0 => part.clear(),
+        1 => part.push(0),
+        2 => part.extend([1, 1, 0, 0, 0, 0]),
+        3 => {
+            part.pop();
+        }
+        4 => part.truncate(random.below(4)),
+        5 => *part = vec![0; random.between(1, 14)],
+        _ if part.is_empty() => part.push(1),
+        _ => {
+            let at = random.below(part.len().min(4));
+            part[at] = *random.pick(&[0, 1, 2, 255]);
+        }
+    }
+}

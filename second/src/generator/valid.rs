@@ -1,0 +1,195 @@
+//! Accepted tables of every shape.
+
+use super::pool::Pool;
+use super::raw::{self, Parts};
+use crate::answer::LARGEST_TABLE;
+use crate::element::id;
+use crate::random::Random;
+
+/// The eight kinds that stand in a zone.
+pub const DEVICES: [u8; 8] = [
+    id::DIGITAL_SENSOR,
+    id::ANALOGUE_SENSOR,
+    id::FAN,
+    id::STATUS_LED,
+    id::CURRENT,
+    id::CONTROLLER,
+    id::TACHOMETER,
+    id::RGB_LED,
+];
+
+/// All eight, those first whose pins others may take.
+const HARDEST_FIRST: [u8; 8] = [
+    id::RGB_LED,
+    id::FAN,
+    id::ANALOGUE_SENSOR,
+    id::CURRENT,
+    id::DIGITAL_SENSOR,
+    id::CONTROLLER,
+    id::TACHOMETER,
+    id::STATUS_LED,
+];
+
+/// The longest of the devices without a variable part; 09h and 0Ah can be as short as 17 and 14.
+const FIXED_ROOM: usize = 21;
+
+/// How many elements of which sort, and how long the table shall be.
+struct Plan {
+    zones: usize,
+    strings: usize,
+    devices: usize,
+    /// Kinds that must be there, first of all devices.
+    forced: Vec<u8>,
+    /// Kinds to pick the other devices from.
+    kinds: Vec<u8>,
+    /// Most bytes the table may have.
+    limit: usize,
+    /// Fill a string until the limit is reached exactly.
+    exact: bool,
+}
+
+/// An accepted table, as its parts.
+pub fn valid_parts(random: &mut Random) -> Parts {
+    let plan = plan(random);
+    build(random, &plan)
+}
+
+/// An accepted table.
+pub fn valid(random: &mut Random) -> Vec<u8> {
+    valid_parts(random).bytes()
+}
+
+/// An accepted table of exactly 4,096 bytes with all ten kinds.
+pub fn mixed(random: &mut Random) -> Vec<u8> {
+    let zones = random.between(1, 12);
+    let strings = random.between(4, 20);
+    let plan = Plan {
+        zones,
+        strings,
+        devices: random.between(80, 96) - zones - strings,
+        forced: HARDEST_FIRST.to_vec(),
+        kinds: DEVICES.to_vec(),
+        limit: LARGEST_TABLE,
+        exact: true,
+    };
+    build(random, &plan).bytes()
+}
+
+fn plan(random: &mut Random) -> Plan {
+    let elements = match random.below(10) {
+        0 => 0,
+        1..=4 => random.between(1, 8),
+        5..=7 => random.between(5, 40),
+        8 => random.between(40, 96),
+        _ => 96,
+    };
+    let some = random.below(13);
+    let most = *random.pick(&[0, 1, 2, 3, 12, 12, some]);
+    let zones = most.min(elements);
+    let mut strings = random.below(elements - zones + 1);
+    if random.chance(50) {
+        strings /= 4;
+    }
+    if zones == 0 {
+        // Without a zone nothing but strings can stand.
+        strings = elements;
+    }
+    let exact = strings > 0 && random.chance(20);
+    let limit = match random.below(3) {
+        _ if exact => LARGEST_TABLE,
+        0 => LARGEST_TABLE,
+        _ => (16 + elements * 30 + random.below(200)).min(LARGEST_TABLE),
+    };
+    Plan {
+        zones,
+        strings,
+        devices: elements - zones - strings,
+        forced: Vec::new(),
+        kinds: kinds(random),
+        limit,
+        exact,
+    }
+}
+
+/// Usually all kinds, sometimes a few only.
+fn kinds(random: &mut Random) -> Vec<u8> {
+    if random.chance(60) {
+        return DEVICES.to_vec();
+    }
+    (0..random.between(1, 3))
+        .map(|_| *random.pick(&DEVICES))
+        .collect()
+}
+
+fn build(random: &mut Random, plan: &Plan) -> Parts {
+    let mut pool = Pool::new(random, plan.zones, plan.strings);
+    // Hardware revision pins before the elements' pins, unless certain elements must find theirs.
+    let early = plan.forced.is_empty().then(|| pool.description());
+    let mut elements = Vec::new();
+    let mut room = plan.limit - 16 - 30 * plan.zones - 6 * plan.strings;
+    for made in 0..plan.devices {
+        let kept = FIXED_ROOM * (plan.devices - made - 1);
+        let kind = match plan.forced.get(made) {
+            Some(&kind) => kind,
+            None => *pool.random.pick(&plan.kinds),
+        };
+        let element = pool.device(kind, room.saturating_sub(kept));
+        room -= element.len();
+        elements.push(element);
+    }
+    let description = early.unwrap_or_else(|| pool.description());
+    elements.extend(pool.zone_elements());
+    elements.extend(pool.string_elements(room, plan.exact));
+    random.shuffle(&mut elements);
+    Parts {
+        description,
+        elements,
+    }
+}
+
+/// An accepted table of exactly 4,096 bytes: one zone descriptor and then 09h elements only.
+pub fn controllers(random: &mut Random) -> Vec<u8> {
+    // 30 bytes of zone leave 4,050 = 11 x elements + 2 x blocks + 4 x pairs, so that the elements
+    // are even in number, and so are 11 x elements / 2 + blocks + 2025 together.
+    let count = 2 * random.between(25, 47);
+    let mut blocks: Vec<Vec<u8>> = (0..count).map(|_| vec![1; random.between(1, 3)]).collect();
+    let total: usize = blocks.iter().map(Vec::len).sum();
+    if (4050 - 11 * count - 2 * total) % 4 != 0 {
+        blocks[0].push(1);
+    }
+    let used: usize = blocks.iter().map(|list| 11 + 6 * list.len()).sum();
+    spread(random, &mut blocks, (4050 - used) / 4);
+    let zone = random.byte();
+    let mut elements = vec![raw::zone(zone, 0)];
+    for list in &blocks {
+        let bus = random.below(4) as u8;
+        let address = if bus == 3 {
+            *random.pick(&[0x14, 0x15, 0x27, 0x30, 0x05])
+        } else {
+            random.byte()
+        };
+        elements.push(raw::controller(zone, bus, address, list));
+    }
+    let last = random.below(elements.len());
+    elements.swap(0, last);
+    raw::table(&elements)
+}
+
+/// Gives four bytes each to register pairs; now and then six pairs' worth to blocks instead.
+fn spread(random: &mut Random, blocks: &mut [Vec<u8>], mut pairs: usize) {
+    while pairs > 0 {
+        let at = random.below(blocks.len());
+        // Two more blocks of one pair each take twelve bytes, as three pairs do.
+        if pairs >= 3 && blocks[at].len() <= 4 && random.chance(15) {
+            blocks[at].extend([1, 1]);
+            pairs -= 3;
+        } else {
+            let which = random.below(blocks[at].len());
+            let entries = &mut blocks[at][which];
+            if *entries < 255 {
+                *entries += 1;
+                pairs -= 1;
+            }
+        }
+    }
+}

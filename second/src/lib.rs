@@ -1,0 +1,32 @@
+//! Bindsatchel's second program: an independent reader and writer of ESA configuration tables,
+//! revision 0.90, to be compared with the proved one and to be its benchmark's baseline.
+//!
+//! Written from the scope of work (document 01), its rulings and the ESA Device Specification
+//! 0.90a (source document 000). Entry points for benchmarks: [`check`], [`start`], [`append`],
+//! and the tables of [`generator::mixed`] and [`generator::controllers`].
+#![forbid(unsafe_code)]
+
+pub mod access;
+pub mod answer;
+pub mod blocks;
+pub mod element;
+pub mod generator;
+pub mod histogram;
+pub mod layout;
+pub mod listing;
+pub mod pins;
+pub mod plain;
+pub mod random;
+pub mod reader;
+pub mod record;
+pub mod rewrite;
+pub mod rules;
+pub mod units;
+pub mod writer;
+
+pub use access::{description, element, part};
+pub use answer::{Refusal, Verdict};
+pub use listing::listing;
+pub use reader::check;
+pub use rewrite::{cleared, rewrite};
+pub use writer::{append, start};

@@ -1,0 +1,281 @@
+//! The plain reader: the same rules as the fast one, with lists and no cleverness.
+//!
+//! Everything is decoded to records first; numbers are looked up in lists; claims are compared
+//! pairwise. It exists to be held against the fast reader.
+
+use crate::answer::{
+    number, Refusal, Verdict, DESCRIPTION_LENGTH, LARGEST_TABLE, MOST_ELEMENTS, MOST_ZONES,
+};
+use crate::element::{self, id, read_description, read_element, word};
+use crate::pins::{Pin, FAULT_LED, I2C_BUS, REFERENCE, SPI_BUS};
+use crate::record::{Address, Description, Element};
+use crate::rules;
+
+/// One element as found: where it starts, its record and its variable part.
+#[derive(Clone, Debug)]
+pub struct Found<'t> {
+    pub place: usize,
+    pub element: Element,
+    pub part: &'t [u8],
+}
+
+/// How a pin is claimed.
+#[derive(Clone, Copy, Debug, PartialEq, Eq)]
+pub enum Use {
+    Shared,
+    Select,
+    Alone,
+}
+
+/// One claim, with the place that answers for it.
+#[derive(Clone, Copy, Debug)]
+pub struct Claim {
+    pub pin: Pin,
+    pub usage: Use,
+    pub place: usize,
+}
+
+/// The verdict on a whole table.
+pub fn check(table: &[u8]) -> Verdict {
+    match elements(table) {
+        Ok(found) => Verdict::Accepted(found.len()),
+        Err(Refusal { number, place }) => Verdict::Refused { number, place },
+    }
+}
+
+/// All elements of an accepted table, or the refusal.
+pub fn elements(table: &[u8]) -> Result<Vec<Found<'_>>, Refusal> {
+    check_description(table)?;
+    let description = read_description(table);
+    let found = pass(table)?;
+    check_zones(&found)?;
+    check_strings(&description, &found)?;
+    check_claims(&claims(&description, &found))?;
+    Ok(found)
+}
+
+/// 1 to 5, then the hardware revision pins (10).
+fn check_description(table: &[u8]) -> Result<(), Refusal> {
+    if table.len() < DESCRIPTION_LENGTH {
+        return Err(Refusal::at(number::SHORT, 0));
+    }
+    if table[0] != 0x01 {
+        return Err(Refusal::at(number::REVISION, 0));
+    }
+    if usize::from(word(table, 1)) != table.len() || table.len() > LARGEST_TABLE {
+        return Err(Refusal::at(number::LENGTH, 0));
+    }
+    let description = read_description(table);
+    if ![1, 2, 3].contains(&description.device_type) {
+        return Err(Refusal::at(number::DEVICE_TYPE, 0));
+    }
+    if !description.self_powered && description.power.0 > 125 {
+        return Err(Refusal::at(number::POWER, 0));
+    }
+    if !rules::hardware_pins_good(&description) {
+        return Err(Refusal::at(number::PIN, 0));
+    }
+    Ok(())
+}
+
+/// Each element from offset 16 is taken through 6, the 97th, 7, 8, 9, 10, the 13th zone and 12
+/// before the next is looked at.
+fn pass(table: &[u8]) -> Result<Vec<Found<'_>>, Refusal> {
+    let mut found: Vec<Found> = Vec::new();
+    let mut place = DESCRIPTION_LENGTH;
+    while place < table.len() {
+        let bytes = cut(&table[place..]).ok_or(Refusal::at(number::HEADER, place))?;
+        if found.len() == MOST_ELEMENTS {
+            return Err(Refusal::at(number::TOO_MANY, place));
+        }
+        let (element, part) = judge(bytes).map_err(|number| Refusal::at(number, place))?;
+        let new = Found {
+            place,
+            element,
+            part,
+        };
+        check_number(&found, &new)?;
+        found.push(new);
+        place += bytes.len();
+    }
+    Ok(found)
+}
+
+/// 6: the bytes of the element at the front; `None` when its header or its length do not fit.
+fn cut(rest: &[u8]) -> Option<&[u8]> {
+    if rest.len() < element::HEADER_LENGTH {
+        return None;
+    }
+    let length = usize::from(word(rest, 1));
+    if length < element::HEADER_LENGTH || length > rest.len() {
+        return None;
+    }
+    Some(&rest[..length])
+}
+
+/// 7, 8, 9, 10 for one element.
+fn judge(bytes: &[u8]) -> Result<(Element, &[u8]), u8> {
+    if !id::ALL.contains(&bytes[0]) {
+        return Err(number::IDENTIFIER);
+    }
+    let (element, part) = read_element(bytes).ok_or(number::LAYOUT)?;
+    if !rules::part_fits(&element, part) {
+        return Err(number::LAYOUT);
+    }
+    if !rules::codes_good(&element, part) {
+        return Err(number::CODE);
+    }
+    if !rules::pins_good(&element) {
+        return Err(number::PIN);
+    }
+    Ok((element, part))
+}
+
+/// The numbers of all zones, or of all strings, among those found.
+fn numbers(found: &[Found], identifier: u8) -> Vec<u8> {
+    found
+        .iter()
+        .filter(|one| one.element.identifier() == identifier)
+        .map(|one| one.part[0])
+        .collect()
+}
+
+/// The 13th zone (11), then a string or zone number a second time (12).
+fn check_number(found: &[Found], new: &Found) -> Result<(), Refusal> {
+    let identifier = new.element.identifier();
+    if identifier != id::ZONE && identifier != id::TEXT {
+        return Ok(());
+    }
+    let known = numbers(found, identifier);
+    if identifier == id::ZONE && known.len() == MOST_ZONES {
+        return Err(Refusal::at(number::TOO_MANY, new.place));
+    }
+    if known.contains(&new.part[0]) {
+        return Err(Refusal::at(number::TWICE, new.place));
+    }
+    Ok(())
+}
+
+/// 13: the zone of an element has no descriptor.
+fn check_zones(found: &[Found]) -> Result<(), Refusal> {
+    let known = numbers(found, id::ZONE);
+    for one in found {
+        if let Some(common) = one.element.common() {
+            if !known.contains(&common.zone) {
+                return Err(Refusal::at(number::NO_ZONE, one.place));
+            }
+        }
+    }
+    Ok(())
+}
+
+/// A zone's string index is byte 4 of the element; a string has none.
+fn string_index(one: &Found) -> u8 {
+    match (&one.element, one.element.common()) {
+        (_, Some(common)) => common.string,
+        (Element::Zone(_), None) => one.part[1],
+        _ => 0,
+    }
+}
+
+/// 14: a string index that is not 0 and has no string; the description first.
+fn check_strings(description: &Description, found: &[Found]) -> Result<(), Refusal> {
+    let known = numbers(found, id::TEXT);
+    let missing = |index: u8| index != 0 && !known.contains(&index);
+    if missing(description.string) {
+        return Err(Refusal::at(number::NO_STRING, 0));
+    }
+    for one in found {
+        if missing(string_index(one)) {
+            return Err(Refusal::at(number::NO_STRING, one.place));
+        }
+    }
+    Ok(())
+}
+
+/// All claims in order: the fault LED, hardware revision 0 to 2, then each element in turn.
+pub fn claims(description: &Description, found: &[Found]) -> Vec<Claim> {
+    let mut claims = vec![Claim {
+        pin: FAULT_LED,
+        usage: Use::Alone,
+        place: 0,
+    }];
+    for &pin in &description.hardware {
+        if pin.is_used() {
+            claims.push(Claim {
+                pin,
+                usage: Use::Alone,
+                place: 0,
+            });
+        }
+    }
+    for one in found {
+        for pin in shared_pins(&one.element) {
+            claims.push(Claim {
+                pin,
+                usage: Use::Shared,
+                place: one.place,
+            });
+        }
+        for pin in own_pins(&one.element) {
+            claims.push(Claim {
+                pin,
+                usage: own_use(&one.element),
+                place: one.place,
+            });
+        }
+    }
+    claims
+}
+
+/// P0.3 and P0.4 for bus types 0 to 2, P0.0 to P0.2 for SPI, P0.7 for 02h and 08h.
+pub fn shared_pins(element: &Element) -> Vec<Pin> {
+    match (element, element.attachment()) {
+        (_, Some(attachment)) => match attachment.address {
+            Address::Bus(_) => I2C_BUS.to_vec(),
+            Address::Select(_) => SPI_BUS.to_vec(),
+        },
+        (Element::AnalogueSensor(_) | Element::Current(_), None) => REFERENCE.to_vec(),
+        _ => Vec::new(),
+    }
+}
+
+/// The element's own used pins in field order, a chip select being one.
+pub fn own_pins(element: &Element) -> Vec<Pin> {
+    let fields: Vec<Pin> = match element {
+        Element::AnalogueSensor(e) => vec![e.pin],
+        Element::Current(e) => vec![e.pin],
+        Element::Fan(e) => vec![e.pwm, e.tachometer],
+        Element::StatusLed(e) => e.lights.iter().map(|light| light.pin).collect(),
+        Element::RgbLed(e) => vec![e.red, e.green, e.blue],
+        _ => match element.attachment().map(|attachment| attachment.address) {
+            Some(Address::Select(pin)) => vec![pin],
+            _ => Vec::new(),
+        },
+    };
+    fields.into_iter().filter(|pin| pin.is_used()).collect()
+}
+
+fn own_use(element: &Element) -> Use {
+    if element.attachment().is_some() {
+        Use::Select
+    } else {
+        Use::Alone
+    }
+}
+
+/// Two shared claims do not clash, nor do two chip selects (000, 5.5).
+fn clash(earlier: &Claim, later: &Claim) -> bool {
+    let peaceful = earlier.usage == later.usage && earlier.usage != Use::Alone;
+    earlier.pin == later.pin && !peaceful
+}
+
+/// 15: the first claim, in claim order, that clashes with any earlier one.
+fn check_claims(claims: &[Claim]) -> Result<(), Refusal> {
+    for (at, later) in claims.iter().enumerate() {
+        if claims[..at].iter().any(|earlier| clash(earlier, later)) {
+            return Err(Refusal::at(number::CLASH, later.place));
+        }
+    }
+    Ok(())
+}

@@ -1,0 +1,272 @@
+//! Rules 7 to 12 for one element of each kind, over its bytes.
+
+use super::bit;
+use super::seen::{Claims, Numbers};
+use super::sets::{
+    ANALOGUE, CHIP_SELECT, FAN_LIST, I2C_BUS, NO_PIN, REFERENCE, SPI_BUS, STATUS_LED,
+};
+use crate::answer::{number, MOST_ZONES};
+use crate::element::id;
+use std::hint::select_unpredictable;
+
+/// Takes one element, cut out of `rest` by its length; 0 when it breaks none of the pass's rules.
+#[inline(always)]
+pub fn take(
+    identifier: u8,
+    element: &[u8],
+    rest: &[u8],
+    numbers: &mut Numbers,
+    claims: &mut Claims,
+) -> u8 {
+    match identifier {
+        id::DIGITAL_SENSOR => digital_sensor(element, claims),
+        id::ANALOGUE_SENSOR => analogue_sensor(element, claims),
+        id::FAN => fan(element, claims),
+        id::STATUS_LED => status_led(element, claims),
+        id::CURRENT => current(element, claims),
+        id::CONTROLLER => controller(element, rest, claims),
+        id::TACHOMETER => tachometer(element, claims),
+        id::ZONE => zone(element, numbers),
+        id::TEXT => text(element, numbers),
+        id::RGB_LED => rgb_led(element, claims),
+        _ => number::IDENTIFIER,
+    }
+}
+
+/// Bus type (9), chip select (10) and the claims of a serial device: bytes 8 and 9.
+///
+/// Both kinds of bus are worked out and one is chosen, as the choice is hard to foretell.
+#[inline(always)]
+fn attachment(bus: u8, address: u8, claims: &mut Claims) -> u8 {
+    let bus = bus & 0x0F;
+    if bus > 3 {
+        return number::CODE;
+    }
+    let spi = bus == 3;
+    let select = select_unpredictable(spi, bit(address) & CHIP_SELECT, NO_PIN);
+    if select == 0 {
+        return number::PIN;
+    }
+    claims.shared |= select_unpredictable(spi, SPI_BUS, I2C_BUS);
+    claims.select |= select;
+    0
+}
+
+#[inline(always)]
+pub fn digital_sensor(element: &[u8], claims: &mut Claims) -> u8 {
+    let Ok(e) = <&[u8; 21]>::try_from(element) else {
+        return number::LAYOUT;
+    };
+    attachment(e[8], e[9], claims)
+}
+
+#[inline(always)]
+pub fn analogue_sensor(element: &[u8], claims: &mut Claims) -> u8 {
+    let Ok(e) = <&[u8; 20]>::try_from(element) else {
+        return number::LAYOUT;
+    };
+    // A value over 1023 has a bit in its high byte above the lowest two.
+    let high = e[11] | e[13] | e[15] | e[17] | e[19];
+    if e[8] & 0x0F != 1 || high > 3 {
+        return number::CODE;
+    }
+    analogue_pin(e[9], claims)
+}
+
+#[inline(always)]
+fn analogue_pin(pin: u8, claims: &mut Claims) -> u8 {
+    let pin = bit(pin) & ANALOGUE;
+    if pin == 0 {
+        return number::PIN;
+    }
+    claims.shared |= REFERENCE;
+    claims.alone(pin);
+    0
+}
+
+#[inline(always)]
+pub fn fan(element: &[u8], claims: &mut Claims) -> u8 {
+    let Ok(e) = <&[u8; 16]>::try_from(element) else {
+        return number::LAYOUT;
+    };
+    let used = e[9] != 0xFF;
+    if !used & (e[10] != 0) {
+        return number::CODE;
+    }
+    let pwm = bit(e[8]) & FAN_LIST;
+    let tachometer = bit(e[9]) & FAN_LIST;
+    // An absent pin is 0, so the order of the bits also finds a used tachometer off the list.
+    if (pwm == 0) | (used & (tachometer <= pwm)) {
+        return number::PIN;
+    }
+    claims.alone(pwm | tachometer);
+    0
+}
+
+#[inline(always)]
+pub fn status_led(element: &[u8], claims: &mut Claims) -> u8 {
+    let Ok(e) = <&[u8; 14]>::try_from(element) else {
+        return number::LAYOUT;
+    };
+    let codes = bad_light(e[8], e[9]) | bad_light(e[10], e[11]) | bad_light(e[12], e[13]);
+    if codes {
+        return number::CODE;
+    }
+    if bad_led_pin(e[8]) | bad_led_pin(e[10]) | bad_led_pin(e[12]) {
+        return number::PIN;
+    }
+    // One by one: two lights of one element may meet on a pin.
+    claims.alone(bit(e[8]));
+    claims.alone(bit(e[10]));
+    claims.alone(bit(e[12]));
+    0
+}
+
+/// Beside a used pin, colour 1 to 5 in bits 7-4 and purpose 0 to 4 in bits 3-0.
+#[inline(always)]
+fn bad_light(pin: u8, code: u8) -> bool {
+    (pin != 0xFF) & ((code.wrapping_sub(0x10) >= 0x50) | (code & 0x0F > 4))
+}
+
+#[inline(always)]
+fn bad_led_pin(pin: u8) -> bool {
+    (pin != 0xFF) & (bit(pin) & STATUS_LED == 0)
+}
+
+#[inline(always)]
+pub fn current(element: &[u8], claims: &mut Claims) -> u8 {
+    let Ok(e) = <&[u8; 14]>::try_from(element) else {
+        return number::LAYOUT;
+    };
+    analogue_pin(e[8], claims)
+}
+
+#[inline(always)]
+pub fn controller(element: &[u8], rest: &[u8], claims: &mut Claims) -> u8 {
+    let Some(e) = element.first_chunk::<12>() else {
+        return number::LAYOUT;
+    };
+    let refusal = speed_blocks(element, rest);
+    if refusal != 0 {
+        return refusal;
+    }
+    attachment(e[8], e[9], claims)
+}
+
+/// One to six blocks fill the element from byte 11 exactly (8), and none has ENTRIES 0 (9).
+///
+/// Always six steps, for the number of blocks is hard to foretell and a step that stands still
+/// costs less than a wrong guess. Each step reads an ENTRIES byte; standing at the end, it reads
+/// the low length byte of the element that follows in `rest`, hardly ever 0. A block cut short
+/// steps past the end and so never meets it. Where there is nothing to read, or a 0, the slow walk
+/// decides.
+#[inline(always)]
+fn speed_blocks(element: &[u8], rest: &[u8]) -> u8 {
+    // Where the ENTRIES byte of one more block would stand.
+    let end = element.len() + 1;
+    let mut at = 12;
+    for _ in 0..6 {
+        match rest.get(at) {
+            None | Some(0) => return speed_blocks_slowly(element),
+            Some(&entries) => {
+                let next = at + 2 + 4 * usize::from(entries);
+                at = select_unpredictable(at < end, next, at);
+            }
+        }
+    }
+    if at == end {
+        0
+    } else {
+        number::LAYOUT
+    }
+}
+
+/// The same block by block, for the last element of a table and for those with ENTRIES 0.
+#[cold]
+fn speed_blocks_slowly(element: &[u8]) -> u8 {
+    let mut at = 11;
+    let mut blocks = 0;
+    let mut empty = false;
+    while at != element.len() {
+        let Some(&entries) = element.get(at + 1) else {
+            return number::LAYOUT;
+        };
+        empty |= entries == 0;
+        at += 2 + 4 * usize::from(entries);
+        blocks += 1;
+    }
+    if blocks == 0 || blocks > 6 {
+        number::LAYOUT
+    } else if empty {
+        number::CODE
+    } else {
+        0
+    }
+}
+
+#[inline(always)]
+pub fn tachometer(element: &[u8], claims: &mut Claims) -> u8 {
+    let Some((e, blocks)) = element.split_first_chunk::<12>() else {
+        return number::LAYOUT;
+    };
+    if !register_blocks(blocks) {
+        return number::LAYOUT;
+    }
+    attachment(e[8], e[9], claims)
+}
+
+/// Two blocks of one ENTRIES byte and its pairs fill the part exactly.
+#[inline(always)]
+fn register_blocks(part: &[u8]) -> bool {
+    let Some(&a) = part.first() else { return false };
+    let second = 1 + 4 * usize::from(a);
+    let Some(&b) = part.get(second) else {
+        return false;
+    };
+    part.len() == second + 1 + 4 * usize::from(b)
+}
+
+#[inline(always)]
+pub fn rgb_led(element: &[u8], claims: &mut Claims) -> u8 {
+    let Ok(e) = <&[u8; 11]>::try_from(element) else {
+        return number::LAYOUT;
+    };
+    let red = bit(e[8]) & FAN_LIST;
+    let green = bit(e[9]) & FAN_LIST;
+    let blue = bit(e[10]) & FAN_LIST;
+    if red == 0 || green <= red || blue <= green {
+        return number::PIN;
+    }
+    claims.alone(red | green | blue);
+    0
+}
+
+#[inline(always)]
+pub fn zone(element: &[u8], numbers: &mut Numbers) -> u8 {
+    let Ok(e) = <&[u8; 30]>::try_from(element) else {
+        return number::LAYOUT;
+    };
+    if numbers.zone_count == MOST_ZONES {
+        return number::TOO_MANY;
+    }
+    numbers.zone_count += 1;
+    if numbers.zones.add_again(e[3]) {
+        return number::TWICE;
+    }
+    numbers.strings_named.add(e[4]);
+    0
+}
+
+#[inline(always)]
+pub fn text(element: &[u8], numbers: &mut Numbers) -> u8 {
+    let Some(e) = element.first_chunk::<6>() else {
+        return number::LAYOUT;
+    };
+    if e[3] == 0 {
+        number::CODE
+    } else if numbers.strings.add_again(e[3]) {
+        number::TWICE
+    } else {
+        0
+    }
+}

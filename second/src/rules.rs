@@ -1,0 +1,122 @@
+//! The rules over one record, straight from the text: 25, 8, 9 and 10.
+//!
+//! The plain reader and the writer stand on these; the fast reader does not use them.
+
+use crate::blocks::{register_blocks, speed_blocks};
+use crate::pins::{Pin, ALL, ANALOGUE, CHIP_SELECT, FAN_LIST, STATUS_LED};
+use crate::record::*;
+
+/// 25 for a description: serial over 24 bits, power units over 7.
+pub fn description_fits(description: &Description) -> bool {
+    description.serial <= 0xFF_FFFF && description.power.0 <= 0x7F
+}
+
+/// 10 for a description: each hardware revision pin is unused or any of the 25.
+pub fn hardware_pins_good(description: &Description) -> bool {
+    description
+        .hardware
+        .iter()
+        .all(|pin| !pin.is_used() || ALL.contains(pin))
+}
+
+/// 25: every number that the record's type can hold and its field cannot.
+pub fn numbers_fit(element: &Element) -> bool {
+    if let Some(attachment) = element.attachment() {
+        let address_fits = match attachment.address {
+            Address::Bus(address) => address <= 0x7F,
+            Address::Select(_) => true,
+        };
+        return attachment.bus_type <= 0x0F && address_fits;
+    }
+    match element {
+        Element::AnalogueSensor(e) => e.thermal_type <= 0x0F,
+        // "Unchecked" beside an unused pin frees from 9 alone.
+        Element::StatusLed(e) => e
+            .lights
+            .iter()
+            .all(|light| light.colour <= 0x0F && light.purpose <= 0x0F),
+        _ => true,
+    }
+}
+
+/// 8: the part is one that the layout can have.
+pub fn part_fits(element: &Element, part: &[u8]) -> bool {
+    match element {
+        // The default block is one of the one to six.
+        Element::Controller(_) => {
+            speed_blocks(part).is_some_and(|blocks| (1..=6).contains(&blocks.len()))
+        }
+        Element::Tachometer(_) => register_blocks(part).is_some(),
+        // Number and locale are fixed, the text is open (Table 29).
+        Element::Text(_) => part.len() >= 3,
+        Element::Zone(_) => part.len() == 27,
+        _ => part.is_empty(),
+    }
+}
+
+/// 9: no reserved code and no other content that rule 9 names.
+pub fn codes_good(element: &Element, part: &[u8]) -> bool {
+    if let Some(attachment) = element.attachment() {
+        if !attachment_good(attachment) {
+            return false;
+        }
+    }
+    match element {
+        Element::AnalogueSensor(e) => {
+            e.thermal_type == 1 && e.calibration.iter().all(|&value| value <= 1023)
+        }
+        Element::Fan(e) => e.tachometer.is_used() || e.pulses_per_revolution == 0,
+        Element::StatusLed(e) => e.lights.iter().all(light_good),
+        Element::Controller(_) => speed_blocks(part)
+            .is_some_and(|blocks| blocks.iter().all(|block| !block.pairs.is_empty())),
+        Element::Text(_) => part.first() != Some(&0),
+        _ => true,
+    }
+}
+
+/// Table 8; the address must be of the kind that the bus type has.
+fn attachment_good(attachment: &Attachment) -> bool {
+    match (attachment.bus_type, attachment.address) {
+        (0..=2, Address::Bus(_)) => true,
+        (3, Address::Select(_)) => true,
+        _ => false,
+    }
+}
+
+/// Tables 16 and 17; beside an unused pin neither is checked.
+fn light_good(light: &Light) -> bool {
+    let colour_good = (1..=5).contains(&light.colour);
+    let purpose_good = (0..=4).contains(&light.purpose);
+    !light.pin.is_used() || (colour_good && purpose_good)
+}
+
+/// 10: every used pin exists, is permitted and keeps the rising order.
+pub fn pins_good(element: &Element) -> bool {
+    if let Some(attachment) = element.attachment() {
+        return match attachment.address {
+            Address::Bus(_) => true,
+            Address::Select(pin) => CHIP_SELECT.contains(&pin),
+        };
+    }
+    match element {
+        Element::AnalogueSensor(e) => ANALOGUE.contains(&e.pin),
+        Element::Current(e) => ANALOGUE.contains(&e.pin),
+        Element::Fan(e) if e.tachometer.is_used() => rising(&[e.pwm, e.tachometer]),
+        Element::Fan(e) => rising(&[e.pwm]),
+        Element::RgbLed(e) => rising(&[e.red, e.green, e.blue]),
+        Element::StatusLed(e) => e
+            .lights
+            .iter()
+            .all(|light| !light.pin.is_used() || STATUS_LED.contains(&light.pin)),
+        _ => true,
+    }
+}
+
+/// All on the fan list, in strictly rising order of it; gaps are allowed.
+fn rising(pins: &[Pin]) -> bool {
+    let places: Option<Vec<usize>> = pins
+        .iter()
+        .map(|pin| FAN_LIST.iter().position(|listed| listed == pin))
+        .collect();
+    places.is_some_and(|places| places.windows(2).all(|two| two[0] < two[1]))
+}

@@ -1,0 +1,117 @@
+//! The program itself, run as a program.
+
+use second::generator::raw::{self, TABLE_A};
+use std::io::Write;
+use std::process::{Command, Output, Stdio};
+
+fn run(arguments: &[&str], input: &[u8]) -> Output {
+    let mut child = Command::new(env!("CARGO_BIN_EXE_second"))
+        .args(arguments)
+        .stdin(Stdio::piped())
+        .stdout(Stdio::piped())
+        .stderr(Stdio::piped())
+        .spawn()
+        .unwrap();
+    // A program that does not read its input may be gone already.
+    let _ = child.stdin.take().unwrap().write_all(input);
+    child.wait_with_output().unwrap()
+}
+
+#[test]
+fn lists_and_rewrites() {
+    let out = run(&["list"], &TABLE_A);
+    assert!(out.status.success());
+    assert_eq!(out.stdout, b"T\t0.90\t16\t2\t0\t7\tself\t-\t-\t-\n");
+    let mut dirty = TABLE_A;
+    dirty[12..].fill(0xFF);
+    assert_eq!(run(&["rewrite"], &dirty).stdout, TABLE_A);
+    assert_eq!(run(&["rewrite"], &[]).stdout, b"R\t1\t0\n");
+}
+
+#[test]
+fn long_input_is_not_cut_to_a_table() {
+    let mut table = raw::table(&[raw::text(1, &vec![0; 4096 - 22])]);
+    assert_eq!(run(&["list"], &table).stdout.first(), Some(&b'T'));
+    table.push(0);
+    assert_eq!(run(&["list"], &table).stdout, b"R\t3\t0\n");
+    table.resize(70_000, 0);
+    assert_eq!(run(&["list"], &table).stdout, b"R\t3\t0\n");
+    table[0] = 0x10;
+    assert_eq!(run(&["list"], &table).stdout, b"R\t2\t0\n");
+}
+
+#[test]
+fn rows_are_the_same_for_the_same_seed() {
+    let rows = |seed: &str| {
+        let arguments = ["rows", "--seed", seed, "--count", "300", "--max", "600"];
+        let out = run(&arguments, &[]);
+        assert!(out.status.success() && out.stderr.is_empty());
+        String::from_utf8(out.stdout).unwrap()
+    };
+    let one = rows("1");
+    assert_eq!(one, rows("1"));
+    assert_ne!(one, rows("2"));
+    let lines: Vec<&str> = one.lines().collect();
+    assert_eq!(lines.len(), 300);
+    for number in 0..=15 {
+        let wanted = number.to_string();
+        let there = |line: &&str| line.split('\t').nth(1) == Some(&wanted);
+        assert!(lines.iter().any(|line| there(&line)), "{number}");
+    }
+}
+
+#[test]
+fn rows_say_what_is_left_out() {
+    let arguments = ["rows", "--seed", "1", "--count", "100", "--max", "405"];
+    let out = run(&arguments, &[]);
+    let said = String::from_utf8(out.stderr).unwrap();
+    assert!(said.contains("answer 11 is left out"), "{said}");
+}
+
+#[test]
+fn makes_files_and_checks_them() {
+    let folder = std::env::temp_dir().join(format!("second-test-{}", std::process::id()));
+    let folder_name = folder.to_str().unwrap();
+    let made = ["make", "mixed", "--seed", "3", "--count", "2", folder_name];
+    assert!(run(&made, &[]).status.success());
+    let file = folder.join("mixed-000001.bin");
+    let bytes = std::fs::read(&file).unwrap();
+    let out = run(&["check", file.to_str().unwrap()], &[]);
+    std::fs::remove_dir_all(&folder).unwrap();
+    assert_eq!(bytes.len(), 4096);
+    let line = String::from_utf8(out.stdout).unwrap();
+    let count = second::check(&bytes).beside();
+    assert_eq!(line, format!("0\t{count}\t{}\n", file.display()));
+}
+
+#[test]
+fn holds_itself_against_itself() {
+    let out = run(&["self", "--seed", "9", "--count", "2000"], &[]);
+    assert!(out.status.success());
+    let text = String::from_utf8(out.stdout).unwrap();
+    assert!(text.ends_with("2000 tables, 0 differences\n"), "{text}");
+}
+
+#[test]
+fn misuse_is_told_and_gives_status_2() {
+    let misuses: [&[&str]; 9] = [
+        &[],
+        &["dance"],
+        &["list", "extra"],
+        &["check"],
+        &["rows", "--seed", "1"],
+        &["rows", "--seed", "x", "--count", "1", "--max", "1"],
+        &["self", "--speed", "1"],
+        &["make", "cake", "--seed", "1", "--count", "1", "somewhere"],
+        &["bench", "now"],
+    ];
+    for arguments in misuses {
+        let out = run(arguments, &[]);
+        assert_eq!(out.status.code(), Some(2), "{arguments:?}");
+        assert!(out.stdout.is_empty());
+        let said = String::from_utf8(out.stderr).unwrap();
+        assert!(said.contains("use: second COMMAND"), "{arguments:?}");
+    }
+    let gone = run(&["check", "/no/such/file"], &[]);
+    assert_eq!(gone.status.code(), Some(1));
+}

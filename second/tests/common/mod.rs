@@ -1,0 +1,39 @@
+//! What several tests need.
+#![allow(dead_code)]
+
+use second::generator::raw::{self, TABLE_A};
+use second::{plain, Verdict};
+
+/// Both readers answer this number with this place, or count beside 0.
+#[track_caller]
+pub fn gives(table: &[u8], number: u8, beside: usize) {
+    let wanted = match number {
+        0 => Verdict::Accepted(beside),
+        _ => Verdict::Refused {
+            number,
+            place: beside,
+        },
+    };
+    assert_eq!(second::check(table), wanted, "fast: {table:02X?}");
+    assert_eq!(plain::check(table), wanted, "plain: {table:02X?}");
+}
+
+/// Table A with some bytes changed.
+pub fn changed(changes: &[(usize, u8)]) -> Vec<u8> {
+    with(changes, TABLE_A.to_vec())
+}
+
+/// These bytes with some of them changed.
+pub fn with(changes: &[(usize, u8)], mut bytes: Vec<u8>) -> Vec<u8> {
+    for &(at, value) in changes {
+        bytes[at] = value;
+    }
+    bytes
+}
+
+/// Table A, zone 1 at 16, and these elements from 46 on.
+pub fn zoned(elements: &[Vec<u8>]) -> Vec<u8> {
+    let mut all = vec![raw::zone(1, 0)];
+    all.extend_from_slice(elements);
+    raw::table(&all)
+}

@@ -1,0 +1,87 @@
+//! The listing, line by line.
+
+mod common;
+
+use common::{changed, with, zoned};
+use second::generator::raw::{self, Parts};
+
+fn text(table: &[u8]) -> String {
+    String::from_utf8(second::listing(table)).unwrap()
+}
+
+#[test]
+fn the_description_line() {
+    let table = changed(&[
+        (3, 3),
+        (5, 1),
+        (6, 2),
+        (7, 3),
+        (8, 125),
+        (9, 0x30),
+        (11, 0x07),
+    ]);
+    assert_eq!(
+        text(&table),
+        "T\t0.90\t16\t3\t0\t197121\t500\tP3.0\t-\tP0.7\n"
+    );
+    let table = changed(&[(8, 0)]);
+    assert_eq!(text(&table), "T\t0.90\t16\t2\t0\t7\t0\t-\t-\t-\n");
+    let table = changed(&[(8, 0xFF)]);
+    assert_eq!(text(&table), "T\t0.90\t16\t2\t0\t7\tself\t-\t-\t-\n");
+}
+
+#[test]
+fn the_refusal_line() {
+    assert_eq!(text(&[]), "R\t1\t0\n");
+    assert_eq!(text(&raw::table(&[raw::fan(1, 5, 6)])), "R\t13\t16\n");
+}
+
+#[test]
+fn one_line_for_each_kind() {
+    let table = zoned(&[
+        raw::digital(1, 0, 0x90),
+        raw::digital(1, 3, 0x14),
+        raw::analogue(1, 0x20),
+        raw::fan(1, 0x05, 0xFF),
+        raw::led(1, [0xFF, 0x30, 0x27]),
+        raw::led(1, [0xFF; 3]),
+        raw::current(1, 0x21),
+        raw::controller(1, 3, 0x14, &[1]),
+        raw::tachometer(1, 1, 0x40, 0, 0),
+        raw::rgb(1, 0x06, 0x11, 0x13),
+        raw::text(9, b"x"),
+    ]);
+    let wanted = "T\t0.90\t215\t2\t0\t7\tself\t-\t-\t-\n\
+        E\t16\t0B\t1\t-\n\
+        E\t46\t01\t1\t-\n\
+        E\t67\t01\t1\tP1.4\n\
+        E\t88\t02\t1\tP2.0\n\
+        E\t108\t03\t1\tP0.5\n\
+        E\t124\t04\t1\tP3.0,P2.7\n\
+        E\t138\t04\t1\t-\n\
+        E\t152\t08\t1\tP2.1\n\
+        E\t166\t09\t1\tP1.4\n\
+        E\t183\t0A\t1\t-\n\
+        E\t197\t0E\t1\tP0.6,P1.1,P1.3\n\
+        E\t208\t0C\t-\t-\n";
+    assert_eq!(text(&table), wanted);
+}
+
+#[test]
+fn zone_numbers_and_strings() {
+    let mut parts = Parts::of(&[
+        raw::zone(0, 255),
+        raw::zone(255, 0),
+        with(&[(3, 255)], raw::led(0, [0xFF; 3])),
+        raw::text(255, &[]),
+    ]);
+    parts.description[4] = 255;
+    let text = text(&parts.bytes());
+    let lines: Vec<&str> = text.lines().collect();
+    assert_eq!(lines[0], "T\t0.90\t96\t2\t255\t7\tself\t-\t-\t-");
+    assert_eq!(lines[1], "E\t16\t0B\t0\t-");
+    assert_eq!(lines[2], "E\t46\t0B\t255\t-");
+    assert_eq!(lines[3], "E\t76\t04\t0\t-");
+    assert_eq!(lines[4], "E\t90\t0C\t-\t-");
+    assert_eq!(lines.len(), 5);
+}

@@ -1,0 +1,56 @@
+//! Accepted tables written again.
+
+mod common;
+
+use common::zoned;
+use second::generator::{self, raw};
+use second::random::Random;
+use second::{cleared, rewrite, Refusal, Verdict};
+
+#[test]
+fn rewritten_is_cleared_and_twice_is_once() {
+    let mut random = Random::new(21);
+    let mut cleaned = 0;
+    for _ in 0..20_000 {
+        let table = generator::valid(&mut random);
+        let mut out = vec![0xA5; table.len() + 3];
+        assert_eq!(rewrite(&table, &mut out), Ok(table.len()));
+        assert_eq!(&out[table.len()..], &[0xA5; 3]);
+        out.truncate(table.len());
+        assert_eq!(out, cleared(&table));
+        cleaned += usize::from(out != table);
+        let mut again = vec![0x5A; out.len()];
+        assert_eq!(rewrite(&out, &mut again), Ok(out.len()));
+        assert_eq!(again, out);
+    }
+    // Junk in reserved places must have been there to be cleared.
+    assert!(cleaned > 5_000);
+}
+
+#[test]
+fn accepted_targeted_tables_too() {
+    let mut accepted = 0;
+    for (name, table) in generator::targeted() {
+        if let Verdict::Accepted(_) = second::check(table) {
+            let mut out = vec![0xA5; table.len()];
+            assert_eq!(rewrite(table, &mut out), Ok(table.len()), "{name}");
+            assert_eq!(out, cleared(table), "{name}");
+            accepted += 1;
+        }
+    }
+    assert!(accepted > 1000);
+}
+
+#[test]
+fn refusals_change_nothing() {
+    let table = zoned(&[raw::fan(1, 5, 6)]);
+    for length in 0..table.len() {
+        let mut out = vec![0xA5; length];
+        assert_eq!(rewrite(&table, &mut out), Err(Refusal::at(16, 0)));
+        assert!(out.iter().all(|&byte| byte == 0xA5));
+    }
+    let refused = raw::table(&[raw::fan(1, 5, 6)]);
+    let mut out = vec![0xA5; refused.len()];
+    assert_eq!(rewrite(&refused, &mut out), Err(Refusal::at(13, 16)));
+    assert!(out.iter().all(|&byte| byte == 0xA5));
+}
