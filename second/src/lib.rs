@@ -2,8 +2,8 @@
 //! revision 0.90, to be compared with the proved one and to be its benchmark's baseline.
 //!
 //! Written from the scope of work (document 01), its rulings and the ESA Device Specification
-//! 0.90a (source document 000). Entry points for benchmarks: [`check`], [`start`], [`append`],
-//! and the tables of [`generator::mixed`] and [`generator::controllers`].
+//! 0.90a (source document 000). For benchmarks: [`check`], on the tables of [`generator::mixed`],
+//! [`generator::controllers`] and [`generator::damaged`].
 #![forbid(unsafe_code)]
 
 pub mod access;

@@ -22,7 +22,8 @@ pub fn rewrite(table: &[u8], out: &mut [u8]) -> Result<usize, Refusal> {
     Ok(length)
 }
 
-/// The accepted table with its reserved places set to zero on the bytes, without records.
+/// The accepted table with its reserved places set to zero on the bytes, without records. Only for
+/// tables that the reader accepts.
 pub fn cleared(table: &[u8]) -> Vec<u8> {
     let mut bytes = table.to_vec();
     bytes[12..16].fill(0);

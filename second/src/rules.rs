@@ -76,11 +76,10 @@ pub fn codes_good(element: &Element, part: &[u8]) -> bool {
 
 /// Table 8; the address must be of the kind that the bus type has.
 fn attachment_good(attachment: &Attachment) -> bool {
-    match (attachment.bus_type, attachment.address) {
-        (0..=2, Address::Bus(_)) => true,
-        (3, Address::Select(_)) => true,
-        _ => false,
-    }
+    matches!(
+        (attachment.bus_type, attachment.address),
+        (0..=2, Address::Bus(_)) | (3, Address::Select(_))
+    )
 }
 
 /// Tables 16 and 17; beside an unused pin neither is checked.

@@ -56,7 +56,7 @@ fn rows_are_the_same_for_the_same_seed() {
     for number in 0..=15 {
         let wanted = number.to_string();
         let there = |line: &&str| line.split('\t').nth(1) == Some(&wanted);
-        assert!(lines.iter().any(|line| there(&line)), "{number}");
+        assert!(lines.iter().any(there), "{number}");
     }
 }
 

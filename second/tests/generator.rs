@@ -38,6 +38,54 @@ fn valid_tables_are_accepted_and_reach_every_bound() {
     assert_eq!(seen.len(), 10);
 }
 
+/// Each use meets each pin it permits, shared selects, both powers and every number of blocks.
+#[test]
+fn valid_tables_use_all_that_is_permitted() {
+    let mut random = Random::new(14);
+    let mut seen: HashSet<(&str, u8)> = HashSet::new();
+    for _ in 0..5_000 {
+        let table = generator::valid(&mut random);
+        seen.extend(table[9..12].iter().map(|&pin| ("hardware", pin)));
+        seen.insert(("self-powered", table[8] >> 7));
+        let mut selects = HashSet::new();
+        for (_, e) in walk(&table) {
+            let spi = matches!(e[0], 0x01 | 0x09 | 0x0A) && e[8] & 15 == 3;
+            if spi && !selects.insert(e[9]) {
+                seen.insert(("shared select", e[9]));
+            }
+            seen.extend(pins_of(e));
+            if e[0] == 0x09 {
+                let blocks = second::blocks::speed_blocks(&e[11..]).unwrap().len();
+                seen.insert(("blocks", blocks as u8));
+            }
+        }
+    }
+    let count = |name: &str| seen.iter().filter(|(of, _)| *of == name).count();
+    // All but P1.0, and unused.
+    assert_eq!(count("hardware"), 25);
+    assert_eq!(count("self-powered"), 2);
+    assert_eq!((count("select"), count("shared select")), (18, 18));
+    assert_eq!((count("analogue"), count("current")), (13, 13));
+    assert_eq!((count("light"), count("PWM")), (18 + 1, 5));
+    // Four pins can follow a PWM pin, and unused; three can be red, three green, three blue.
+    assert_eq!(count("tachometer"), 4 + 1);
+    assert_eq!((count("red"), count("green"), count("blue")), (3, 3, 3));
+    assert_eq!(count("blocks"), 6);
+}
+
+/// The pin fields of one element, each with its use.
+fn pins_of(e: &[u8]) -> Vec<(&'static str, u8)> {
+    match e[0] {
+        0x01 | 0x09 | 0x0A if e[8] & 15 == 3 => vec![("select", e[9])],
+        0x02 => vec![("analogue", e[9])],
+        0x03 => vec![("PWM", e[8]), ("tachometer", e[9])],
+        0x04 => vec![("light", e[8]), ("light", e[10]), ("light", e[12])],
+        0x08 => vec![("current", e[8])],
+        0x0E => vec![("red", e[8]), ("green", e[9]), ("blue", e[10])],
+        _ => Vec::new(),
+    }
+}
+
 #[test]
 fn mixed_tables_have_4096_bytes_and_all_ten_kinds() {
     let mut random = Random::new(12);

@@ -160,12 +160,12 @@ fn every_kind_with_a_zone_must_find_it_earlier_or_later() {
         raw::tachometer(1, 0, 0x40, 0, 0),
         raw::rgb(1, 0x05, 0x06, 0x11),
     ] {
-        gives(&raw::table(&[element.clone()]), 13, 16);
+        gives(&raw::table(std::slice::from_ref(&element)), 13, 16);
         gives(&raw::table(&[element.clone(), raw::text(1, &[])]), 13, 16);
         gives(&raw::table(&[element.clone(), raw::zone(1, 0)]), 0, 2);
         gives(&raw::table(&[raw::zone(1, 0), element.clone()]), 0, 2);
         let named = with(&[(3, 200)], element);
-        gives(&zoned(&[named.clone()]), 14, 46);
+        gives(&zoned(std::slice::from_ref(&named)), 14, 46);
         gives(&zoned(&[named.clone(), raw::text(200, &[])]), 0, 3);
         gives(&zoned(&[raw::text(200, &[]), named]), 0, 3);
     }
@@ -227,7 +227,7 @@ fn blocks_8_before_9() {
 fn a_controller_shorter_than_13_is_8() {
     let whole = raw::controller(1, 0, 0x40, &[0]);
     assert_eq!(whole.len(), 13);
-    gives(&zoned(&[whole.clone()]), 9, 46);
+    gives(&zoned(std::slice::from_ref(&whole)), 9, 46);
     for length in 3..13 {
         let cut = raw::element(0x09, &whole[3..length]);
         gives(&zoned(&[cut]), 8, 46);
@@ -246,10 +246,13 @@ fn the_part_of_a_tachometer_starts_at_12() {
     assert_eq!(second::part(&table, 1), &[5, 1, 7, 0, 0, 0]);
 }
 
+/// An element, and its reserved places with the bits to set there.
+type Reserved<'a> = (Vec<u8>, &'a [(usize, u8)]);
+
 /// Each reserved place set and found zero after rewriting; all other bytes stay.
 #[test]
 fn reserved_places_complete() {
-    let good: [(Vec<u8>, &[(usize, u8)]); 7] = [
+    let good: [Reserved; 7] = [
         (raw::digital(1, 0, 0x90), &[(8, 0xF0), (9, 1), (10, 0xFF)]),
         (raw::digital(1, 3, 0x15), &[(8, 0xF0), (10, 0xFF)]),
         (raw::analogue(1, 0x20), &[(8, 0xF0)]),
@@ -282,7 +285,7 @@ fn reserved_places_complete() {
 #[test]
 fn zone_byte_5_is_content() {
     let zone = with(&[(5, 0xFF)], raw::zone(1, 0));
-    let table = raw::table(&[zone.clone()]);
+    let table = raw::table(std::slice::from_ref(&zone));
     let mut out = vec![0; table.len()];
     second::rewrite(&table, &mut out).unwrap();
     assert_eq!(out, table);

@@ -1,11 +1,11 @@
 -- Zone numbers and string numbers: 11 and 12, which look at the elements before, 13 and 14, which look at all of them.
 -- Assumes nothing.
 use Prim.Native.Nat.{ℕ, _+_}
-use mathlib.Core.Bool.{Bool, true, _&&_, _||_, not}
+use mathlib.Core.Bool.{Bool, true, _&&_, not}
 use mathlib.Core.List.{List, [], _∷_, _++_}
 use mathlib.Core.Option.{Option, none}
 use lib.ListN.{length}
-use lib.Dec.{eqb, leb}
+use lib.Dec.{leb}
 use Rattle.format.specs.Records.{Record, digital, analogue, fan, led, current, controller, tachometer, zone, string, rgb, zoneNumber, zoneString, stringNumber}
 use Rattle.format.specs.Layout.{layout}
 use Rattle.format.specs.Pins.{among}
@@ -67,33 +67,32 @@ fresh before r = noneAmong (zoneDeclared (role r)) (zones before) && noneAmong (
 unfoldable pub rulesAgainst : List Record → Record → List Rule
 rulesAgainst before r = rule 11 (zonesFit before r) ∷ rule 12 (fresh before r) ∷ []
 
--- the zone that an element names, and its string index: 0 where it has none ('a string index that is not 0 ..')
+-- the zone that an element names, and its string index, if it has one
 abbrev pub zoneNamed : Role → List ℕ
 zoneNamed (placed p) = p .zone ∷ []
 zoneNamed (zoning bytes) = []
 zoneNamed (naming bytes) = []
 
-abbrev pub stringNamed : Role → ℕ
-stringNamed (placed p) = p .string
-stringNamed (zoning bytes) = zoneString bytes
-stringNamed (naming bytes) = 0
+abbrev pub stringNamed : Role → List ℕ
+stringNamed (placed p) = p .string ∷ []
+stringNamed (zoning bytes) = zoneString bytes ∷ []
+stringNamed (naming bytes) = []
 
--- where the first element stands that fails a test, of elements that start at a place
-abbrev pub firstFailing : (Record → Bool) → ℕ → List Record → Option ℕ
-firstFailing test at [] = none
-firstFailing test at (r ∷ rs) = unlessKept (test r) at (firstFailing test (at + length (layout r)) rs)
-
--- 13: 'the zone of an element has no descriptor'; the descriptors may come later
+-- where the first element stands that names a number which is not declared, of elements that start at a place
 abbrev pub allAmong : List ℕ → List ℕ → Bool
 allAmong [] ys = true
 allAmong (x ∷ xs) ys = among x ys && allAmong xs ys
 
+abbrev pub firstNaming : (Role → List ℕ) → List ℕ → ℕ → List Record → Option ℕ
+firstNaming names declared at [] = none
+firstNaming names declared at (r ∷ rs) =
+    unlessKept (allAmong (names (role r)) declared) at (firstNaming names declared (at + length (layout r)) rs)
+
+-- 13: 'the zone of an element has no descriptor'; the descriptors may come later
 abbrev pub zoneless : List Record → Option ℕ
-zoneless rs = firstFailing (λ r. allAmong (zoneNamed (role r)) (zones rs)) 16 rs
+zoneless rs = firstNaming zoneNamed (zones rs) 16 rs
 
 -- 14: 'a string index that is not 0 and has no string', over the description and all elements
-abbrev pub named : List Record → ℕ → Bool
-named rs i = eqb i 0 || among i (strings rs)
-
 abbrev pub nameless : Description → List Record → Option ℕ
-nameless d rs = unlessKept (named rs (d .string)) 0 (firstFailing (λ r. named rs (stringNamed (role r))) 16 rs)
+nameless d rs =
+    unlessKept (among (d .string) (0 ∷ strings rs)) 0 (firstNaming stringNamed (0 ∷ strings rs) 16 rs)

@@ -57,6 +57,10 @@ pass (suc n) before at (b ∷ bs) =
     (λ r. pass n (before ++ r ∷ []) (at + stated (b ∷ bs)) (drop (stated (b ∷ bs)) (b ∷ bs)))
     at
 
+-- the pass over a whole table's elements
+abbrev pub elementsOf : List ℕ → Result
+elementsOf b = pass (length (drop 16 b)) [] 16 (drop 16 b)
+
 abbrev pub orRefuse : ℕ → Option ℕ → Answer → Answer
 orRefuse k (some p) a = Refused k p
 orRefuse k none a = a

@@ -3,6 +3,7 @@
 mod calls;
 mod damaged;
 mod faults;
+mod fields;
 mod noise;
 mod pool;
 pub mod raw;

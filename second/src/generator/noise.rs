@@ -55,11 +55,12 @@ fn likely(random: &mut Random) -> Vec<u8> {
         body[4] = random.below(3) as u8;
     }
     if identifier == id::CONTROLLER && random.chance(80) {
-        body[9] = 1;
-        body[1..]
-            .get_mut(14)
-            .into_iter()
-            .for_each(|entries| *entries = 1);
+        // The ENTRIES bytes of one block, or two, of one pair each.
+        for at in [9, 15] {
+            if let Some(entries) = body.get_mut(at) {
+                *entries = 1;
+            }
+        }
     }
     raw::element(identifier, &body)
 }

@@ -154,7 +154,7 @@ pub fn controllers(random: &mut Random) -> Vec<u8> {
     let count = 2 * random.between(25, 47);
     let mut blocks: Vec<Vec<u8>> = (0..count).map(|_| vec![1; random.between(1, 3)]).collect();
     let total: usize = blocks.iter().map(Vec::len).sum();
-    if (4050 - 11 * count - 2 * total) % 4 != 0 {
+    if !(4050 - 11 * count - 2 * total).is_multiple_of(4) {
         blocks[0].push(1);
     }
     let used: usize = blocks.iter().map(|list| 11 + 6 * list.len()).sum();

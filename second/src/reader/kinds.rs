@@ -1,6 +1,7 @@
 //! Rules 7 to 12 for one element of each kind, over its bytes.
 
 use super::bit;
+use super::blocks::{register_blocks, speed_blocks};
 use super::seen::{Claims, Numbers};
 use super::sets::{
     ANALOGUE, CHIP_SELECT, FAN_LIST, I2C_BUS, NO_PIN, REFERENCE, SPI_BUS, STATUS_LED,
@@ -153,57 +154,6 @@ pub fn controller(element: &[u8], rest: &[u8], claims: &mut Claims) -> u8 {
     attachment(e[8], e[9], claims)
 }
 
-/// One to six blocks fill the element from byte 11 exactly (8), and none has ENTRIES 0 (9).
-///
-/// Always six steps, for the number of blocks is hard to foretell and a step that stands still
-/// costs less than a wrong guess. Each step reads an ENTRIES byte; standing at the end, it reads
-/// the low length byte of the element that follows in `rest`, hardly ever 0. A block cut short
-/// steps past the end and so never meets it. Where there is nothing to read, or a 0, the slow walk
-/// decides.
-#[inline(always)]
-fn speed_blocks(element: &[u8], rest: &[u8]) -> u8 {
-    // Where the ENTRIES byte of one more block would stand.
-    let end = element.len() + 1;
-    let mut at = 12;
-    for _ in 0..6 {
-        match rest.get(at) {
-            None | Some(0) => return speed_blocks_slowly(element),
-            Some(&entries) => {
-                let next = at + 2 + 4 * usize::from(entries);
-                at = select_unpredictable(at < end, next, at);
-            }
-        }
-    }
-    if at == end {
-        0
-    } else {
-        number::LAYOUT
-    }
-}
-
-/// The same block by block, for the last element of a table and for those with ENTRIES 0.
-#[cold]
-fn speed_blocks_slowly(element: &[u8]) -> u8 {
-    let mut at = 11;
-    let mut blocks = 0;
-    let mut empty = false;
-    while at != element.len() {
-        let Some(&entries) = element.get(at + 1) else {
-            return number::LAYOUT;
-        };
-        empty |= entries == 0;
-        at += 2 + 4 * usize::from(entries);
-        blocks += 1;
-    }
-    if blocks == 0 || blocks > 6 {
-        number::LAYOUT
-    } else if empty {
-        number::CODE
-    } else {
-        0
-    }
-}
-
 #[inline(always)]
 pub fn tachometer(element: &[u8], claims: &mut Claims) -> u8 {
     let Some((e, blocks)) = element.split_first_chunk::<12>() else {
@@ -213,17 +163,6 @@ pub fn tachometer(element: &[u8], claims: &mut Claims) -> u8 {
         return number::LAYOUT;
     }
     attachment(e[8], e[9], claims)
-}
-
-/// Two blocks of one ENTRIES byte and its pairs fill the part exactly.
-#[inline(always)]
-fn register_blocks(part: &[u8]) -> bool {
-    let Some(&a) = part.first() else { return false };
-    let second = 1 + 4 * usize::from(a);
-    let Some(&b) = part.get(second) else {
-        return false;
-    };
-    part.len() == second + 1 + 4 * usize::from(b)
 }
 
 #[inline(always)]

@@ -4,7 +4,7 @@
 //! declared and named, pins claimed. Rules 13 to 15 are then answered from the sets at once; only
 //! a refusal needs a second walk for its place (`places`).
 
-mod by_kind;
+mod blocks;
 mod kinds;
 mod places;
 mod seen;
@@ -13,11 +13,6 @@ mod sets;
 use crate::answer::{number, Verdict, LARGEST_TABLE, MOST_ELEMENTS};
 use seen::{Claims, Numbers};
 use sets::{PinSet, BIT};
-
-/// After so many changes of kind the kinds are taken one after another (`by_kind`), if there are
-/// at least so many bytes left to go; below that the change does not pay.
-const MOST_CHANGES: u32 = 4;
-const WORTH_SORTING: usize = 600;
 
 /// What the pass came to: the number of elements, or a refusal with its place.
 type Passed = Result<usize, (u8, usize)>;
@@ -113,8 +108,6 @@ fn pass(table: &[u8], numbers: &mut Numbers, claims: Claims) -> (Passed, Claims)
     let mut claims = claims;
     let mut place = 16;
     let mut count = 0;
-    let mut last = 0;
-    let mut changes = 0;
     while place < table.len() {
         let rest = &table[place..];
         let Some((identifier, length)) = header(rest) else {
@@ -122,11 +115,6 @@ fn pass(table: &[u8], numbers: &mut Numbers, claims: Claims) -> (Passed, Claims)
         };
         if count == MOST_ELEMENTS {
             return (Err((number::TOO_MANY, place)), claims);
-        }
-        changes += u32::from(identifier != last);
-        last = identifier;
-        if changes > MOST_CHANGES && rest.len() > WORTH_SORTING {
-            return by_kind::pass(table, place, count, numbers, claims);
         }
         numbers.note(identifier, rest);
         let refusal = kinds::take(identifier, &rest[..length], rest, numbers, &mut claims);

@@ -78,74 +78,42 @@ fn within(cases: &mut Vec<Case>) {
 
 /// Several clashes at once: the first claim that clashes with any earlier one.
 fn several(cases: &mut Vec<Case>) {
+    add_lights(cases, "a b b a", &[0x14, 0x15, 0x15, 0x14]);
+    add_lights(cases, "a b a b", &[0x14, 0x15, 0x14, 0x15]);
+    add_lights(cases, "a b c c a", &[0x14, 0x15, 0x16, 0x16, 0x14]);
     let light = |pin: u8| raw::led(1, [pin, 0xFF, 0xFF]);
-    let sequences: [(&str, Vec<Vec<u8>>); 9] = [
-        (
-            "a b b a",
-            vec![light(0x14), light(0x15), light(0x15), light(0x14)],
-        ),
-        (
-            "a b a b",
-            vec![light(0x14), light(0x15), light(0x14), light(0x15)],
-        ),
-        (
-            "a b c c a",
-            vec![
-                light(0x14),
-                light(0x15),
-                light(0x16),
-                light(0x16),
-                light(0x14),
-            ],
-        ),
-        (
-            "a, then b b within",
-            vec![light(0x14), raw::led(1, [0x15, 0x15, 0x14])],
-        ),
-        (
-            "two selects, then alone",
-            vec![
-                raw::digital(1, 3, 0x20),
-                raw::digital(1, 3, 0x20),
-                raw::analogue(1, 0x20),
-            ],
-        ),
-        (
-            "alone, then two selects",
-            vec![
-                raw::analogue(1, 0x20),
-                raw::digital(1, 3, 0x20),
-                raw::digital(1, 3, 0x20),
-            ],
-        ),
-        (
-            "light on the bus, later a pair",
-            vec![
-                light(0x03),
-                light(0x20),
-                light(0x20),
-                raw::digital(1, 0, 0x40),
-            ],
-        ),
-        (
-            "bus, then a light on it, then a pair",
-            vec![
-                raw::digital(1, 0, 0x40),
-                light(0x04),
-                light(0x20),
-                light(0x20),
-            ],
-        ),
-        (
-            "shared and own of one element both clash",
-            vec![light(0x00), light(0x20), raw::digital(1, 3, 0x20)],
-        ),
-    ];
-    for (name, mut elements) in sequences {
-        elements.insert(0, raw::zone(1, 0));
-        add(cases, name, raw::table(&elements));
-        let mut parts = Parts::of(&elements);
-        parts.description[9..12].copy_from_slice(&[0x15, 0x22, 0x22]);
-        add(cases, format!("{name}, hardware too"), parts.bytes());
-    }
+    let within = raw::led(1, [0x15, 0x15, 0x14]);
+    add_sequence(cases, "a, then b b within", &[light(0x14), within]);
+    let select = raw::digital(1, 3, 0x20);
+    let alone = raw::analogue(1, 0x20);
+    let sequence = [select.clone(), select.clone(), alone.clone()];
+    add_sequence(cases, "two selects, then alone", &sequence);
+    let sequence = [alone, select.clone(), select.clone()];
+    add_sequence(cases, "alone, then two selects", &sequence);
+    let bus = raw::digital(1, 0, 0x40);
+    let sequence = [light(0x03), light(0x20), light(0x20), bus.clone()];
+    add_sequence(cases, "light on the bus, later a pair", &sequence);
+    let sequence = [bus, light(0x04), light(0x20), light(0x20)];
+    add_sequence(cases, "bus, then a light on it, then a pair", &sequence);
+    let sequence = [light(0x00), light(0x20), select];
+    add_sequence(cases, "shared and own of one element both clash", &sequence);
+}
+
+/// One LED element for each pin.
+fn add_lights(cases: &mut Vec<Case>, name: &str, pins: &[u8]) {
+    let lights: Vec<Vec<u8>> = pins
+        .iter()
+        .map(|&pin| raw::led(1, [pin, 0xFF, 0xFF]))
+        .collect();
+    add_sequence(cases, name, &lights);
+}
+
+/// The elements with their zone, and again with a clash of the hardware revision pins before.
+fn add_sequence(cases: &mut Vec<Case>, name: &str, elements: &[Vec<u8>]) {
+    let mut all = vec![raw::zone(1, 0)];
+    all.extend_from_slice(elements);
+    add(cases, name, raw::table(&all));
+    let mut parts = Parts::of(&all);
+    parts.description[9..12].copy_from_slice(&[0x15, 0x22, 0x22]);
+    add(cases, format!("{name}, hardware too"), parts.bytes());
 }

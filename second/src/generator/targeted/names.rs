@@ -50,52 +50,42 @@ fn string_of(cases: &mut Vec<Case>, name: &str, element: &[u8]) {
 
 /// 13 before 14 before 15, wherever in the table each stands.
 fn order(cases: &mut Vec<Case>, name: &str, element: &[u8]) {
-    let zone = raw::zone(1, 0);
-    let mut no_zone = element.to_vec();
+    let good = element.to_vec();
+    let mut no_zone = good.clone();
     no_zone[7] = 77;
-    let mut no_string = element.to_vec();
+    let mut no_string = good.clone();
     no_string[3] = 77;
     let mut neither = no_zone.clone();
     neither[3] = 77;
-    let sequences: [(&str, Vec<Vec<u8>>); 6] = [
-        (
-            "no string, no zone",
-            vec![no_string.clone(), no_zone.clone()],
-        ),
-        (
-            "no zone, no string",
-            vec![no_zone.clone(), no_string.clone()],
-        ),
-        ("neither", vec![neither.clone()]),
-        (
-            "clash, no string",
-            vec![element.to_vec(), element.to_vec(), no_string],
-        ),
-        (
-            "clash, no zone",
-            vec![element.to_vec(), element.to_vec(), no_zone],
-        ),
-        (
-            "clash, neither",
-            vec![element.to_vec(), element.to_vec(), neither],
-        ),
+    let sequences: [(&str, &[&Vec<u8>]); 6] = [
+        ("no string, no zone", &[&no_string, &no_zone]),
+        ("no zone, no string", &[&no_zone, &no_string]),
+        ("neither", &[&neither]),
+        ("clash, no string", &[&good, &good, &no_string]),
+        ("clash, no zone", &[&good, &good, &no_zone]),
+        ("clash, neither", &[&good, &good, &neither]),
     ];
     for (title, sequence) in sequences {
-        let mut elements = vec![zone.clone()];
-        elements.extend(sequence);
-        add(cases, format!("{name}: {title}"), raw::table(&elements));
-        elements.push(raw::text(77, &[]));
-        let named = format!("{name}: {title}, string there");
-        add(cases, named, raw::table(&elements));
-        let mut parts = Parts::of(&elements);
-        parts.description[4] = 78;
-        parts.description[9] = 0x10;
-        add(
-            cases,
-            format!("{name}: {title}, description too"),
-            parts.bytes(),
-        );
+        let sequence: Vec<Vec<u8>> = sequence.iter().copied().cloned().collect();
+        add_order(cases, &format!("{name}: {title}"), sequence);
     }
+}
+
+/// The sequence after its zone; with the string that it misses; with a faulty description too.
+fn add_order(cases: &mut Vec<Case>, name: &str, sequence: Vec<Vec<u8>>) {
+    let mut elements = vec![raw::zone(1, 0)];
+    elements.extend(sequence);
+    add(cases, name, raw::table(&elements));
+    elements.push(raw::text(77, &[]));
+    add(
+        cases,
+        format!("{name}, string there"),
+        raw::table(&elements),
+    );
+    let mut parts = Parts::of(&elements);
+    parts.description[4] = 78;
+    parts.description[9] = 0x10;
+    add(cases, format!("{name}, description too"), parts.bytes());
 }
 
 fn zone_string(cases: &mut Vec<Case>) {
@@ -104,7 +94,7 @@ fn zone_string(cases: &mut Vec<Case>) {
         add(
             cases,
             format!("zone with string {index}"),
-            raw::table(&[zone.clone()]),
+            raw::table(std::slice::from_ref(&zone)),
         );
         let string = raw::text(index.max(1), &[]);
         let table = raw::table(&[zone, string]);

@@ -1,0 +1,3 @@
+pub mod SixBlocks
+pub mod Cutting
+pub mod TwoBlocks

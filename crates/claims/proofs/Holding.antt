@@ -1,0 +1,103 @@
+-- One element's claims after those before: what is held after both, and the place of the first clash.
+-- Assumes nothing.
+use Prim.Native.Nat.{ℕ}
+use mathlib.Core.Path.{_≡_, refl, sym, _∙_}
+use mathlib.Core.Bool.{Bool, true, false, _&&_, not}
+use mathlib.Core.List.{List, [], _∷_, _++_}
+use mathlib.Core.Option.{Option, none, some}
+use lib.Dec.{eqb}
+use lib.Bits.{bitAnd, bitOr}
+use Rattle.format.specs.Pins.{among, every}
+use Rattle.format.specs.Claims.{Manner, shared, select, alone, Claim, firstClash}
+use Rattle.pinsets.specs.Sets.{pick}
+use Rattle.claims.specs.Taken.{isAlone, addIf, alonePins, jointPins, pinsOf, proper, allAt, isNone, placeOr, ClaimsAre, HeldIs}
+use Rattle.claims.specs.declared.Claims.{Claims}
+use Rattle.claims.specs.declared.Held.{Held}
+use Rattle.claims.proofs.Tests.{both}
+use Rattle.claims.proofs.Bits.{or-zero}
+use Rattle.claims.proofs.Sets.{at-among, within, union, disjoint}
+use Rattle.claims.proofs.Clashes.{first-pin, first-place, rest, none-is}
+use Rattle.claims.proofs.Firsts.{onto, firstOf, first-append, none-after, place-at, place-none}
+
+-- two lists of claims
+add-append : (t : Bool) (p : ℕ) (xs ys : List ℕ) → addIf t p (xs ++ ys) ≡ addIf t p xs ++ ys
+add-append true p xs ys = refl
+add-append false p xs ys = refl
+
+alone-append : (xs ys : List Claim) → alonePins (xs ++ ys) ≡ alonePins xs ++ alonePins ys
+alone-append [] ys = refl
+alone-append (c ∷ xs) ys = rw (alone-append xs ys) (add-append (isAlone (c .manner)) (c .pin) (alonePins xs) (alonePins ys))
+
+joint-append : (xs ys : List Claim) → jointPins (xs ++ ys) ≡ jointPins xs ++ jointPins ys
+joint-append [] ys = refl
+joint-append (c ∷ xs) ys = rw (joint-append xs ys) (add-append (not (isAlone (c .manner))) (c .pin) (jointPins xs) (jointPins ys))
+
+proper-append : (xs ys : List Claim) → proper xs ≡ true → proper ys ≡ true → proper (xs ++ ys) ≡ true
+proper-append [] ys h k = k
+proper-append (c ∷ xs) ys h k = rw (first-pin c xs h, first-place c xs h) (proper-append xs ys (rest c xs h) k)
+
+-- proper claims are on pins
+in-every : (m : Manner) (p : ℕ) → among p (pinsOf m) ≡ true → among p every ≡ true
+in-every shared p h = at-among (pinsOf shared) (λ p. among p every) refl p h
+in-every select p h = at-among (pinsOf select) (λ p. among p every) refl p h
+in-every alone p h = h
+
+within-add : (t : Bool) (p : ℕ) (xs : List ℕ) → among p every ≡ true → within xs ≡ true → within (addIf t p xs) ≡ true
+within-add true p xs h k = both (among p every) (within xs) h k
+within-add false p xs h k = k
+
+alone-within : (cs : List Claim) → proper cs ≡ true → within (alonePins cs) ≡ true
+alone-within [] h = refl
+alone-within (c ∷ cs) h =
+    within-add (isAlone (c .manner)) (c .pin) (alonePins cs) (in-every (c .manner) (c .pin) (first-pin c cs h)) (alone-within cs (rest c cs h))
+
+joint-within : (cs : List Claim) → proper cs ≡ true → within (jointPins cs) ≡ true
+joint-within [] h = refl
+joint-within (c ∷ cs) h =
+    within-add (not (isAlone (c .manner))) (c .pin) (jointPins cs) (in-every (c .manner) (c .pin) (first-pin c cs h)) (joint-within cs (rest c cs h))
+
+-- the first clash of the two
+first-place-of : (at : ℕ) (a b : Option ℕ)
+    → placeOr b ≡ pick (isNone b) 65536 at
+    → pick (not (isNone b) && isNone a) at (placeOr a) ≡ placeOr (firstOf a b)
+first-place-of at none none e = refl
+first-place-of at none (some k) e = sym e
+first-place-of at (some j) none e = refl
+first-place-of at (some j) (some k) e = refl
+
+-- what clashes, as the code has it
+abbrev pub hits : Held → Claims → ℕ
+hits h c = bitOr (bitOr (bitAnd (c .joint) (h .alone)) (bitAnd (c .alone) (bitOr (h .alone) (h .joint)))) (c .twice)
+
+-- the first of all clashes
+abbrev pub hit : Held → Claims → Bool
+hit h c = not (eqb (hits h c) 0) && eqb (h .clash) 65536
+
+module _ (h : Held) (c : Claims) (at : ℕ) (before cs : List Claim) (H : HeldIs h before) (C : ClaimsAre c cs) (A : allAt at cs ≡ true) where
+  none-hit : eqb (hits h c) 0 ≡ isNone (firstClash (onto before []) cs)
+  none-hit =
+      rw (
+        or-zero (bitOr (bitAnd (c .joint) (h .alone)) (bitAnd (c .alone) (bitOr (h .alone) (h .joint)))) (c .twice),
+        or-zero (bitAnd (c .joint) (h .alone)) (bitAnd (c .alone) (bitOr (h .alone) (h .joint))),
+        disjoint (C .joint-pins) (H .alone-pins) (joint-within cs (C .are-proper)),
+        disjoint (C .alone-pins) (union (H .alone-pins) (H .joint-pins)) (alone-within cs (C .are-proper)),
+        C .among-themselves,
+        none-after cs before,
+        none-is cs before (C .are-proper) (H .are-proper),
+      )
+      refl
+
+  clash-place : pick (hit h c) at (h .clash) ≡ placeOr (firstClash [] (before ++ cs))
+  clash-place =
+      rw
+      (none-hit, H .first-clash, place-none before [] (H .are-proper), first-append before [] cs)
+      (first-place-of at (firstClash [] before) (firstClash (onto before []) cs) (place-at at cs (onto before []) A))
+
+  pub held-after : (k : ℕ) → k ≡ pick (hit h c) at (h .clash)
+      → HeldIs (record { alone = bitOr (h .alone) (c .alone); joint = bitOr (h .joint) (c .joint); clash = k }) (before ++ cs)
+  held-after k e = record {
+    alone-pins = rw (alone-append before cs) (union (H .alone-pins) (C .alone-pins));
+    joint-pins = rw (joint-append before cs) (union (H .joint-pins) (C .joint-pins));
+    first-clash = e ∙ clash-place;
+    are-proper = proper-append before cs (H .are-proper) (C .are-proper);
+  }

@@ -1,0 +1,8 @@
+pub mod Tests
+pub mod Bits
+pub mod Sets
+pub mod Clashes
+pub mod Firsts
+pub mod Holding
+pub mod Lone
+pub mod Elements

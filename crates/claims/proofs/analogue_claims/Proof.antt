@@ -1,0 +1,15 @@
+-- The shared reference, and the pin alone.
+-- Assumes nothing.
+use Rattle.claims.proofs.Elements.{on-reference}
+use borrow.Author.Needs.{needs}
+use Rattle.claims.proofs.analogue_claims.Statement.{statement}
+use Rattle.claims.proofs.analogue_claims.Tie as tie
+
+bit-of-requires : tie.Need-bit-of-requires
+bit-of-requires c κs = search needs
+
+returns : tie.Need-returns
+returns c = λ at h k. rw (c .bit-of .ensures) (on-reference at h (c .before .args .a .pin .0) k)
+
+pub analogue-claims-spec : {M : Type 1} → statement M
+analogue-claims-spec = tie.close (tie.spec bit-of-requires returns)

@@ -1,0 +1,92 @@
+-- What sets of pins say of a list of claims.
+-- Assumes nothing.
+use Prim.Native.Nat.{ℕ, _^_, _<_}
+use mathlib.Core.Path.{_≡_}
+use mathlib.Core.Bool.{Bool, true, false, _&&_, not}
+use mathlib.Core.List.{List, [], _∷_, _++_}
+use mathlib.Core.Option.{Option, none, some}
+use lib.Dec.{eqb, ltb}
+use Rattle.format.specs.Pins.{among, every, permitted, unused, allowedOrUnused}
+use Rattle.format.specs.Claims.{Manner, shared, select, alone, Claim, firstClash, ownUsed}
+use Rattle.format.specs.declared.pins.OptionalPin.{OptionalPin}
+use Rattle.format.specs.declared.pins.Use.the-variants.{ChipSelect, HardwareRevision}
+use Rattle.pinsets.specs.Sets.{pinIndex, hasBit}
+use Rattle.claims.specs.declared.Claims.{Claims}
+use Rattle.claims.specs.declared.Held.{Held}
+
+-- a word is the set of the pins of a list: pin i of the 25 in bit i
+pub record IsSet (w : ℕ) (pins : List ℕ) : Type 0 where
+  pub small : w < 2 ^ 25
+  pub bits : (p : ℕ) → among p every ≡ true → hasBit w (pinIndex p) ≡ among p pins
+
+-- the pins that are claimed alone, and those that are claimed jointly: shared pins and chip selects
+abbrev pub isAlone : Manner → Bool
+isAlone shared = false
+isAlone select = false
+isAlone alone = true
+
+abbrev pub addIf : Bool → ℕ → List ℕ → List ℕ
+addIf true p ps = p ∷ ps
+addIf false p ps = ps
+
+abbrev pub alonePins : List Claim → List ℕ
+alonePins [] = []
+alonePins (c ∷ cs) = addIf (isAlone (c .manner)) (c .pin) (alonePins cs)
+
+abbrev pub jointPins : List Claim → List ℕ
+jointPins [] = []
+jointPins (c ∷ cs) = addIf (not (isAlone (c .manner))) (c .pin) (jointPins cs)
+
+-- the pin of a place that may be unused
+abbrev pub onlyUsed : Bool → ℕ → List ℕ
+onlyUsed true p = []
+onlyUsed false p = p ∷ []
+
+abbrev pub usedPin : OptionalPin → List ℕ
+usedPin p = onlyUsed (unused p) (p .0)
+
+-- three such places: whether each has a pin or is unused, and the claims on them
+abbrev pub onPins : OptionalPin → OptionalPin → OptionalPin → Bool
+onPins p q r =
+    allowedOrUnused HardwareRevision p && (allowedOrUnused HardwareRevision q && allowedOrUnused HardwareRevision r)
+
+abbrev pub ownThree : ℕ → OptionalPin → OptionalPin → OptionalPin → List Claim
+ownThree at p q r = ownUsed at p ++ ownUsed at q ++ ownUsed at r
+
+-- claims as records that keep 10 make them: the shared pins and those that may be a chip select are apart, all pins exist
+abbrev pub pinsOf : Manner → List ℕ
+pinsOf shared = 0x00 ∷ 0x01 ∷ 0x02 ∷ 0x03 ∷ 0x04 ∷ 0x07 ∷ []
+pinsOf select = permitted ChipSelect
+pinsOf alone = every
+
+abbrev pub proper : List Claim → Bool
+proper [] = true
+proper (c ∷ cs) = among (c .pin) (pinsOf (c .manner)) && (ltb (c .place) 65536 && proper cs)
+
+-- all claims are made at one place
+abbrev pub allAt : ℕ → List Claim → Bool
+allAt at [] = true
+allAt at (c ∷ cs) = eqb (c .place) at && allAt at cs
+
+abbrev pub isNone : Option ℕ → Bool
+isNone none = true
+isNone (some p) = false
+
+-- one element's claims, and whether they clash among themselves
+pub record ClaimsAre (r : Claims) (cs : List Claim) : Type 0 where
+  pub alone-pins : IsSet (r .alone) (alonePins cs)
+  pub joint-pins : IsSet (r .joint) (jointPins cs)
+  pub among-themselves : eqb (r .twice) 0 ≡ isNone (firstClash [] cs)
+  pub are-proper : proper cs ≡ true
+
+-- the place of the first clash; 65,536 where there is none
+abbrev pub placeOr : Option ℕ → ℕ
+placeOr none = 65536
+placeOr (some p) = p
+
+-- all claims so far
+pub record HeldIs (h : Held) (cs : List Claim) : Type 0 where
+  pub alone-pins : IsSet (h .alone) (alonePins cs)
+  pub joint-pins : IsSet (h .joint) (jointPins cs)
+  pub first-clash : h .clash ≡ placeOr (firstClash [] cs)
+  pub are-proper : proper cs ≡ true

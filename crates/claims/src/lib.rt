@@ -1,0 +1,166 @@
+// 15: claims on pins, as sets of pins: pin i of the 25 in bit i.
+ghost use mathlib.Core.Path.{_≡_};
+ghost use mathlib.Core.Bool.{true};
+ghost use mathlib.Core.List.{List, [], _++_};
+ghost use Prim.Native.Nat.{ℕ, _<_};
+ghost use Rattle.format.specs.Pins.{allowedOrUnused};
+ghost use Rattle.format.specs.declared.pins.Use.the-variants.{HardwareRevision};
+ghost use Rattle.format.specs.Records.{analogue, fan, led, current, rgb};
+ghost use Rattle.format.specs.Rules.{selected, pinned, strapped};
+ghost use Rattle.format.specs.Claims.{Claim, onBus, claimsOf, firstClaims};
+ghost use Rattle.claims.specs.Taken.{ClaimsAre, HeldIs, IsSet, allAt, usedPin, onPins, ownThree};
+use format::pins::OptionalPin;
+use format::records::Address;
+use format::records::AnalogueSensor;
+use format::records::CurrentSensor;
+use format::records::Description;
+use format::records::PwmFan;
+use format::records::RgbLed;
+use format::records::StatusLed;
+use pinsets::bit_of;
+
+// The pins that one element claims alone, those that it claims jointly (shared pins and a chip select), and those that it
+// claims alone twice.
+pub struct Claims {
+    pub alone: u32,
+    pub joint: u32,
+    pub twice: u32,
+}
+
+// The pins claimed so far, and the place of the first clash; 65,536 where there is none.
+pub struct Held {
+    pub alone: u32,
+    pub joint: u32,
+    pub clash: usize,
+}
+
+// Nothing.
+pub fn no_claims() -> Claims
+    ensures { λ r. ⌜ ClaimsAre r [] ⌝ }
+{
+    Claims {
+        alone: 0,
+        joint: 0,
+        twice: 0,
+    }
+}
+
+// A used pin's bit; no bit of an unused place.
+fn used_bit(p: OptionalPin) -> u32
+    ensures { λ r. ⌜ (allowedOrUnused HardwareRevision p ≡ true → IsSet r (usedPin p)) ⌝ }
+{
+    bit_of(p.0) % 0x2000000
+}
+
+// 01h, 09h, 0Ah: P0.3 and P0.4; or P0.0 to P0.2 and the chip select.
+pub fn bus_claims(a: Address) -> Claims
+    ensures { λ r. ⌜ ((at : ℕ) → at < 65536 → selected a ≡ true → ClaimsAre r (onBus at a)) ⌝ }
+{
+    match a {
+        Address::Bus(_) => Claims {
+            alone: 0,
+            joint: 0x18,
+            twice: 0,
+        },
+        Address::Select(p) => Claims {
+            alone: 0,
+            joint: 0x07 | bit_of(p.0),
+            twice: 0,
+        },
+    }
+}
+
+// 02h: P0.7, and its pin.
+pub fn analogue_claims(a: AnalogueSensor) -> Claims
+    ensures { λ r. ⌜ ((at : ℕ) → at < 65536 → pinned (analogue a) ≡ true → ClaimsAre r (claimsOf at (analogue a))) ⌝ }
+{
+    Claims {
+        alone: bit_of(a.pin.0),
+        joint: 0x80,
+        twice: 0,
+    }
+}
+
+// 08h: P0.7, and its pin.
+pub fn current_claims(c: CurrentSensor) -> Claims
+    ensures { λ r. ⌜ ((at : ℕ) → at < 65536 → pinned (current c) ≡ true → ClaimsAre r (claimsOf at (current c))) ⌝ }
+{
+    Claims {
+        alone: bit_of(c.pin.0),
+        joint: 0x80,
+        twice: 0,
+    }
+}
+
+// 03h: PWM and tachometer.
+pub fn fan_claims(f: PwmFan) -> Claims
+    ensures { λ r. ⌜ ((at : ℕ) → at < 65536 → pinned (fan f) ≡ true → ClaimsAre r (claimsOf at (fan f))) ⌝ }
+{
+    let t = f.tachometer;
+    Claims {
+        alone: bit_of(f.pwm.0) | used_bit(t),
+        joint: 0,
+        twice: 0,
+    }
+}
+
+// Three pins, any of which may be unused, or be the same.
+fn three(p: OptionalPin, q: OptionalPin, r: OptionalPin) -> Claims
+    ensures { λ t. ⌜ ((at : ℕ) → at < 65536 → onPins p q r ≡ true → ClaimsAre t (ownThree at p q r)) ⌝ }
+{
+    let a = used_bit(p);
+    let b = used_bit(q);
+    let c = used_bit(r);
+    Claims {
+        alone: a | b | c,
+        joint: 0,
+        twice: (a & b) | (a & c) | (b & c),
+    }
+}
+
+// 04h: the lamps' pins.
+pub fn led_claims(l: StatusLed) -> Claims
+    ensures { λ r. ⌜ ((at : ℕ) → at < 65536 → pinned (led l) ≡ true → ClaimsAre r (claimsOf at (led l))) ⌝ }
+{
+    three(l.one.pin, l.two.pin, l.three.pin)
+}
+
+// 0Eh: red, green, blue.
+pub fn rgb_claims(c: RgbLed) -> Claims
+    ensures { λ r. ⌜ ((at : ℕ) → at < 65536 → pinned (rgb c) ≡ true → ClaimsAre r (claimsOf at (rgb c))) ⌝ }
+{
+    Claims {
+        alone: bit_of(c.red.0) | bit_of(c.green.0) | bit_of(c.blue.0),
+        joint: 0,
+        twice: 0,
+    }
+}
+
+// One element's claims after those before: what is claimed jointly clashes with what is held alone, and what is claimed
+// alone with all.
+pub fn claim(h: Held, c: Claims, at: usize) -> Held
+    ensures { λ r. ⌜ ((before cs : List Claim) → HeldIs h before → ClaimsAre c cs → allAt at cs ≡ true → HeldIs r (before ++ cs)) ⌝ }
+{
+    let hit = (c.joint & h.alone) | (c.alone & (h.alone | h.joint)) | c.twice;
+    Held {
+        alone: h.alone | c.alone,
+        joint: h.joint | c.joint,
+        clash: if (hit != 0) & (h.clash == 65536) {
+            at
+        } else {
+            h.clash
+        },
+    }
+}
+
+// The fault LED claims P1.0; then hardware revision 0, 1, 2.
+pub fn first_claims(d: Description) -> Held
+    ensures { λ r. ⌜ (strapped d ≡ true → HeldIs r (firstClaims d)) ⌝ }
+{
+    let led = Held {
+        alone: 0x100,
+        joint: 0,
+        clash: 65536,
+    };
+    claim(led, three(d.revision0, d.revision1, d.revision2), 0)
+}

@@ -1,0 +1,31 @@
+-- `fields::analogue` meets its contract, by what each call ensures of its result.
+-- Assumes nothing.
+use borrow.Author.Needs.{needs}
+use Rattle.fields.proofs.analogue.Statement.{statement}
+use Rattle.fields.proofs.analogue.Tie as tie
+
+returns : tie.Need-returns
+returns c =
+    let first = c .before .before .before .before in
+    rw (
+      first .before .before .before .placement .ensures,
+      first .word .ensures,
+      c .before .before .before .word2 .ensures,
+      c .before .before .word3 .ensures,
+      c .before .word4 .ensures,
+      c .word5 .ensures,
+    )
+
+pub analogue-spec : {M : Type 1} → statement M
+analogue-spec =
+    tie.close
+    (tie.spec
+    (search needs)
+    (search needs)
+    (search needs)
+    (search needs)
+    (search needs)
+    (search needs)
+    (search needs)
+    (search needs)
+    returns)

@@ -1,0 +1,13 @@
+-- `fields::lamp` meets its contract: the code's `i + 1` is the definition's `suc i`.
+-- Assumes nothing.
+use native.Mathlib.Numerals.{add-one}
+use borrow.Author.Needs.{needs}
+use Rattle.fields.proofs.lamp.Statement.{statement}
+use Rattle.fields.proofs.lamp.Tie as tie
+
+returns : tie.Need-returns
+returns c = rw add-one
+
+pub lamp-spec : {M : Type 1} → statement M
+lamp-spec =
+    tie.close (tie.spec (search needs) (search needs) (search needs) (search needs) (search needs) returns)

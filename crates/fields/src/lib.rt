@@ -1,0 +1,202 @@
+// From bytes to records, one function a kind. Each takes the slice from offset 3 of the element to its end.
+ghost use mathlib.Core.Path.{_≡_};
+ghost use Prim.Native.Nat.{_+_, _<_, _≤_};
+ghost use lib.ListN.{length};
+ghost use lib.Dec.{eqb};
+ghost use Rattle.format.specs.Slots.{byte};
+ghost use Rattle.format.specs.Decode.{wordAt, readPlacement, pickAddress, readDigital, readAnalogue, readFan, readLamp, readLed, readCurrent, readDevice, readRgb, readDescription};
+use format::pins::OptionalPin;
+use format::pins::Pin;
+use format::records::Address;
+use format::records::AnalogueSensor;
+use format::records::BusDevice;
+use format::records::CurrentSensor;
+use format::records::Description;
+use format::records::DigitalSensor;
+use format::records::Lamp;
+use format::records::Placement;
+use format::records::PwmFan;
+use format::records::RgbLed;
+use format::records::StatusLed;
+use format::units::Centimetres;
+use format::units::Counts;
+use format::units::Deciamps;
+use format::units::Degrees;
+use format::units::FourMilliamps;
+use format::units::Rpm;
+
+fn wide16(x: u8) -> u16
+    ensures { λ r. ⌜ (r ≡ x) × (r < 256) ⌝ }
+{
+    x as u16
+}
+
+fn wide32(x: u8) -> u32
+    ensures { λ r. ⌜ (r ≡ x) × (r < 256) ⌝ }
+{
+    x as u32
+}
+
+// The number in two bytes, lowest byte first.
+pub fn word(b: &[u8], i: usize) -> u16
+    requires { ⌜ i + 1 < length (now b) ⌝ }
+    ensures { λ r. ⌜ r ≡ wordAt (byte (now (b .entry))) i ⌝ }
+{
+    wide16(b[i]) + 256 * wide16(b[i + 1])
+}
+
+pub fn placement(b: &[u8]) -> Placement
+    requires { ⌜ 5 ≤ length (now b) ⌝ }
+    ensures { λ r. ⌜ r ≡ readPlacement (byte (now (b .entry))) ⌝ }
+{
+    Placement {
+        string: b[0],
+        x: Centimetres(b[1]),
+        y: Centimetres(b[2]),
+        z: Centimetres(b[3]),
+        zone: b[4],
+    }
+}
+
+// By the bus type: SPI has a chip select, every other code a bus address.
+fn address(bus: u8, b: u8) -> Address
+    ensures { λ r. ⌜ r ≡ pickAddress (eqb bus 3) b ⌝ }
+{
+    if bus == 3 {
+        Address::Select(Pin(b))
+    } else {
+        Address::Bus(b / 2)
+    }
+}
+
+// 01h
+pub fn digital(b: &[u8]) -> DigitalSensor
+    requires { ⌜ 18 ≤ length (now b) ⌝ }
+    ensures { λ r. ⌜ r ≡ readDigital (byte (now (b .entry))) ⌝ }
+{
+    let bus = b[5] % 16;
+    DigitalSensor {
+        placement: placement(b),
+        bus,
+        address: address(bus, b[6]),
+        lsb: word(b, 8),
+        msb: word(b, 10),
+        minvalue: word(b, 12),
+        mintemp: Degrees(b[14]),
+        maxvalue: word(b, 15),
+        maxtemp: Degrees(b[17]),
+    }
+}
+
+// 02h
+pub fn analogue(b: &[u8]) -> AnalogueSensor
+    requires { ⌜ 17 ≤ length (now b) ⌝ }
+    ensures { λ r. ⌜ r ≡ readAnalogue (byte (now (b .entry))) ⌝ }
+{
+    AnalogueSensor {
+        placement: placement(b),
+        thermal: b[5] % 16,
+        pin: Pin(b[6]),
+        at0: Counts(word(b, 7)),
+        at25: Counts(word(b, 9)),
+        at50: Counts(word(b, 11)),
+        at75: Counts(word(b, 13)),
+        at100: Counts(word(b, 15)),
+    }
+}
+
+// 03h
+pub fn fan(b: &[u8]) -> PwmFan
+    requires { ⌜ 13 ≤ length (now b) ⌝ }
+    ensures { λ r. ⌜ r ≡ readFan (byte (now (b .entry))) ⌝ }
+{
+    PwmFan {
+        placement: placement(b),
+        pwm: Pin(b[5]),
+        tachometer: OptionalPin(b[6]),
+        ppr: b[7],
+        minrpm: Rpm(word(b, 8)),
+        maxrpm: Rpm(word(b, 10)),
+        duty: b[12],
+    }
+}
+
+fn lamp(b: &[u8], i: usize) -> Lamp
+    requires { ⌜ i + 1 < length (now b) ⌝ }
+    ensures { λ r. ⌜ r ≡ readLamp (byte (now (b .entry))) i ⌝ }
+{
+    Lamp {
+        pin: OptionalPin(b[i]),
+        colour: b[i + 1] / 16,
+        purpose: b[i + 1] % 16,
+    }
+}
+
+// 04h
+pub fn led(b: &[u8]) -> StatusLed
+    requires { ⌜ 11 ≤ length (now b) ⌝ }
+    ensures { λ r. ⌜ r ≡ readLed (byte (now (b .entry))) ⌝ }
+{
+    StatusLed {
+        placement: placement(b),
+        one: lamp(b, 5),
+        two: lamp(b, 7),
+        three: lamp(b, 9),
+    }
+}
+
+// 08h
+pub fn current(b: &[u8]) -> CurrentSensor
+    requires { ⌜ 11 ≤ length (now b) ⌝ }
+    ensures { λ r. ⌜ r ≡ readCurrent (byte (now (b .entry))) ⌝ }
+{
+    CurrentSensor {
+        placement: placement(b),
+        pin: Pin(b[5]),
+        imin: Deciamps(word(b, 7)),
+        imax: Deciamps(word(b, 9)),
+    }
+}
+
+// 09h and 0Ah, before their blocks
+pub fn device(b: &[u8]) -> BusDevice
+    requires { ⌜ 8 ≤ length (now b) ⌝ }
+    ensures { λ r. ⌜ r ≡ readDevice (byte (now (b .entry))) ⌝ }
+{
+    let bus = b[5] % 16;
+    BusDevice {
+        placement: placement(b),
+        bus,
+        address: address(bus, b[6]),
+    }
+}
+
+// 0Eh
+pub fn rgb(b: &[u8]) -> RgbLed
+    requires { ⌜ 8 ≤ length (now b) ⌝ }
+    ensures { λ r. ⌜ r ≡ readRgb (byte (now (b .entry))) ⌝ }
+{
+    RgbLed {
+        placement: placement(b),
+        red: Pin(b[5]),
+        green: Pin(b[6]),
+        blue: Pin(b[7]),
+    }
+}
+
+// The description: the slice is the whole table.
+pub fn description(t: &[u8]) -> Description
+    requires { ⌜ 12 ≤ length (now t) ⌝ }
+    ensures { λ r. ⌜ r ≡ readDescription (byte (now (t .entry))) ⌝ }
+{
+    Description {
+        device: t[3],
+        string: t[4],
+        serial: wide32(t[5]) + 256 * wide32(t[6]) + 65536 * wide32(t[7]),
+        spwr: 128 <= t[8],
+        power: FourMilliamps(t[8] % 128),
+        revision0: OptionalPin(t[9]),
+        revision1: OptionalPin(t[10]),
+        revision2: OptionalPin(t[11]),
+    }
+}

@@ -1,0 +1,139 @@
+// What the bytes of an element that stands in a zone say of it alone: the first of 8, 9 and 10 that it breaks, and the pins
+// that it claims. The slices start after the element's header.
+ghost use mathlib.Core.Path.{_≡_};
+ghost use mathlib.Core.List.{[]};
+ghost use Rattle.claims.specs.Taken.{ClaimsAre};
+ghost use Rattle.found.specs.Judged.{Judged, JudgedPlaced};
+use claims::Claims;
+
+pub struct Found {
+    pub fault: u8,
+    pub claims: Claims,
+}
+
+fn refused(fault: u8) -> Found
+    ensures { λ r. ⌜ r .fault ≡ fault ⌝ }
+{
+    Found {
+        fault,
+        claims: claims::no_claims(),
+    }
+}
+
+fn both(fault: u8, claims: Claims) -> Found
+    ensures { λ r. ⌜ (r .fault ≡ fault) × (r .claims ≡ claims) ⌝ }
+{
+    Found { fault, claims }
+}
+
+// 01h
+fn digital_found(b: &[u8]) -> Found
+    ensures { λ r. ⌜ Judged 1 (now (b .entry)) r ⌝ }
+{
+    if b.len() != 18 {
+        return refused(8);
+    }
+    let d = fields::digital(b);
+    let a = d.address;
+    both(rules::digital_breaks(d), claims::bus_claims(a))
+}
+
+// 02h
+fn analogue_found(b: &[u8]) -> Found
+    ensures { λ r. ⌜ Judged 2 (now (b .entry)) r ⌝ }
+{
+    if b.len() != 17 {
+        return refused(8);
+    }
+    let a = fields::analogue(b);
+    both(rules::analogue_breaks(a), claims::analogue_claims(a))
+}
+
+// 03h
+fn fan_found(b: &[u8]) -> Found
+    ensures { λ r. ⌜ Judged 3 (now (b .entry)) r ⌝ }
+{
+    if b.len() != 13 {
+        return refused(8);
+    }
+    let f = fields::fan(b);
+    both(rules::fan_breaks(f), claims::fan_claims(f))
+}
+
+// 04h
+fn led_found(b: &[u8]) -> Found
+    ensures { λ r. ⌜ Judged 4 (now (b .entry)) r ⌝ }
+{
+    if b.len() != 11 {
+        return refused(8);
+    }
+    let l = fields::led(b);
+    both(rules::led_breaks(l), claims::led_claims(l))
+}
+
+// 08h
+fn current_found(b: &[u8]) -> Found
+    ensures { λ r. ⌜ Judged 8 (now (b .entry)) r ⌝ }
+{
+    if b.len() != 11 {
+        return refused(8);
+    }
+    let c = fields::current(b);
+    both(rules::current_breaks(c), claims::current_claims(c))
+}
+
+// 09h
+fn controller_found(b: &[u8]) -> Found
+    ensures { λ r. ⌜ Judged 9 (now (b .entry)) r ⌝ }
+{
+    if b.len() < 10 {
+        return refused(8);
+    }
+    let c = blocks::cut_blocks(b);
+    if c.at != b.len() + 1 {
+        return refused(8);
+    }
+    let d = fields::device(b);
+    let a = d.address;
+    both(rules::device_breaks(d, c.full), claims::bus_claims(a))
+}
+
+// 0Ah
+fn tachometer_found(b: &[u8]) -> Found
+    ensures { λ r. ⌜ Judged 10 (now (b .entry)) r ⌝ }
+{
+    if !blocks::two_blocks(b) {
+        return refused(8);
+    }
+    let d = fields::device(b);
+    let a = d.address;
+    both(rules::device_breaks(d, true), claims::bus_claims(a))
+}
+
+// 0Eh
+fn rgb_found(b: &[u8]) -> Found
+    ensures { λ r. ⌜ Judged 14 (now (b .entry)) r ⌝ }
+{
+    if b.len() != 8 {
+        return refused(8);
+    }
+    let c = fields::rgb(b);
+    both(rules::rgb_breaks(c), claims::rgb_claims(c))
+}
+
+// One of the eight kinds; 7 of any other identifier.
+pub fn placed_found(id: u8, b: &[u8]) -> Found
+    ensures { λ r. ⌜ JudgedPlaced id (now (b .entry)) r ⌝ }
+{
+    match id {
+        1 => digital_found(b),
+        2 => analogue_found(b),
+        3 => fan_found(b),
+        4 => led_found(b),
+        8 => current_found(b),
+        9 => controller_found(b),
+        10 => tachometer_found(b),
+        14 => rgb_found(b),
+        _ => refused(7),
+    }
+}

@@ -1,0 +1,5 @@
+pub mod Growing
+pub mod Taking
+pub mod Answers
+pub mod Moving
+pub mod Walking

@@ -1,0 +1,98 @@
+-- The code's step at a place of the table is the reader's.
+-- Assumes nothing.
+use Prim.Native.Nat.{ℕ, _+_, _-_, _*_, _<_, _≤_}
+use native.Mathlib.Omega.{arith}
+use mathlib.Core.Path.{_≡_, refl, sym, _∙_, ap}
+use mathlib.Core.Bool.{Bool, true, false, _&&_}
+use mathlib.Core.List.{List, [], _∷_, _++_}
+use lib.ListN.{length, getD, take, drop, length-drop}
+use lib.Seq.{drop-drop, getD-drop}
+use lib.Dec.{leb}
+use borrow.Author.Tests.{lt-ltb, le-ltb, le-leb, lt-leb}
+use Rattle.format.specs.Slots.{byte}
+use Rattle.format.specs.Records.{Record}
+use Rattle.format.specs.Layout.{placeAfter}
+use Rattle.format.specs.Verdict.{stated, framed, known}
+use Rattle.format.specs.Decode.{content, decode}
+use Rattle.format.specs.Reader.{judge, orStop, step, Outcome, took, stop}
+use Rattle.format.specs.declared.records.Description.{Description}
+use Rattle.pass.specs.Tracks.{Tracks, Went, TakeIs, Moves, MoveIs}
+use Rattle.pass.specs.declared.State.{State}
+use Rattle.pass.specs.declared.Step.{Step}
+use Rattle.pass.specs.declared.Moved.{Moved}
+
+-- the header
+pub stated-at : (t : List ℕ) (at : ℕ) {a b : ℕ} → a ≡ byte t (at + 1) → b ≡ byte t (at + 2) → a + 256 * b ≡ stated (drop at t)
+stated-at t at p q = rw (getD-drop at t 1 0, getD-drop at t 2 0, p, q) refl
+
+and-false : (a b : Bool) → b ≡ false → a && b ≡ false
+and-false true b h = h
+and-false false b h = refl
+
+pub unframed-short : (t : List ℕ) (at : ℕ) → length t - at < 3 → framed (drop at t) ≡ false
+unframed-short t at h = rw (lt-leb 3 (length (drop at t)) (omega (arith, length-drop at t))) refl
+
+pub unframed-small : (t : List ℕ) (at : ℕ) {n : ℕ} → n ≡ stated (drop at t) → n < 3 → framed (drop at t) ≡ false
+unframed-small t at p h =
+    and-false (leb 3 (length (drop at t))) _ (rw (lt-leb 3 (stated (drop at t)) (omega (arith, p))) refl)
+
+pub unframed-long : (t : List ℕ) (at : ℕ) {n : ℕ} → n ≡ stated (drop at t) → length t - at < n → framed (drop at t) ≡ false
+unframed-long t at p h =
+    and-false (leb 3 (length (drop at t))) _
+    (and-false (leb 3 (stated (drop at t))) _ (lt-leb (stated (drop at t)) (length (drop at t)) (omega (arith, p, length-drop at t))))
+
+pub framed-good : (t : List ℕ) (at : ℕ) {n : ℕ} → n ≡ stated (drop at t) → 3 ≤ n → n ≤ length t - at → framed (drop at t) ≡ true
+framed-good t at p g h =
+    rw (le-leb 3 (length (drop at t)) (omega (arith, length-drop at t)), le-leb 3 (stated (drop at t)) (omega (arith, p)), le-leb (stated (drop at t)) (length (drop at t)) (omega (arith, p, length-drop at t))) refl
+
+pub content-at :
+    (t : List ℕ) (at : ℕ) {n : ℕ} → n ≡ stated (drop at t) → 3 ≤ n → take (at + n - (at + 3)) (drop (at + 3) t) ≡ content (drop at t)
+content-at t at {n} p g =
+    let e : at + n - (at + 3) ≡ stated (drop at t) - 3 = omega (arith, p) in
+    rw (e, drop-drop 3 at t) refl
+
+byte-first : (t : List ℕ) (at : ℕ) → byte (drop at t) 0 ≡ byte t at
+byte-first t at = getD-drop at t 0 0 ∙ ap (λ (n : ℕ). getD t n 0) (omega arith)
+
+module _ (t : List ℕ) (at : ℕ) (s : State) (zs ss zu su : List Bool) (r : Moved) (zs′ ss′ zu′ su′ : List Bool) where
+  pub move-6 : r .stop ≡ 6 → framed (drop at t) ≡ false → MoveIs t at s zs ss zu su r zs′ ss′ zu′ su′
+  unfolding step
+  move-6 p f = record { moves = λ d before w k. rw f (p, omega arith) }
+
+  pub move-11 : r .stop ≡ 11 → framed (drop at t) ≡ true → 96 ≤ s .count → MoveIs t at s zs ss zu su r zs′ ss′ zu′ su′
+  unfolding step
+  move-11 p f g = record { moves = λ d before w k. rw (f, le-ltb (length before) 96 (omega (arith, k .count))) (p, omega arith) }
+
+  moved :
+      (d : Description) (before : List Record) (q : Step) (o : Outcome)
+      → Went d before q zs′ ss′ zu′ su′ o
+      → r .stop ≡ q .stop
+      → r .state ≡ q .state
+      → r .len ≡ stated (drop at t)
+      → 3 ≤ r .len
+      → at + r .len ≤ length t
+      → Moves t at d before r zs′ ss′ zu′ su′ o
+  moved d before q (took x) w p st l g h = (p ∙ w .0, l, g, h, rw st (w .1))
+  moved d before q (stop k) w p st l g h = (p ∙ w .0, w .1)
+
+  pub move-on :
+      (q : Step) {id : ℕ} {c : List ℕ}
+      → id ≡ byte t at
+      → c ≡ content (drop at t)
+      → TakeIs id c at s zs ss zu su q zs′ ss′ zu′ su′
+      → r .stop ≡ q .stop
+      → r .state ≡ q .state
+      → r .len ≡ stated (drop at t)
+      → 3 ≤ r .len
+      → r .len ≤ length t - at
+      → s .count < 96
+      → MoveIs t at s zs ss zu su r zs′ ss′ zu′ su′
+  unfolding step
+  move-on q {id} {c} i same w p st l g h n =
+      let d : id ≡ byte (drop at t) 0 = i ∙ sym (byte-first t at) in
+      record {
+        moves =
+            λ e before place k.
+            rw (framed-good t at l g h, lt-ltb (length before) 96 (omega (arith, k .count)), ← d, ← same)
+            (moved e before q (orStop (known id) 7 (judge before (decode id c))) (w .takes e before place k) p st l g (omega arith));
+      }

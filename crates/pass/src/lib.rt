@@ -1,0 +1,238 @@
+// The pass over the elements from offset 16: 6, the 97th (11), 7, 8, 9, 10, the 13th zone (11), 12. Which numbers have been seen
+// and which are named is kept for all 256 numbers, in flags that are lent.
+ghost use mathlib.Core.Path.{_≡_};
+ghost use mathlib.Core.List.{[]};
+ghost use Prim.Native.Nat.{_+_, _<_, _≤_};
+ghost use lib.ListN.{length, drop};
+ghost use Rattle.format.specs.Slots.{byte, Bytes};
+ghost use Rattle.format.specs.Decode.{readDescription};
+ghost use Rattle.format.specs.Reader.{elementsOf};
+ghost use Rattle.pass.specs.Tracks.{Tracks, ZoneStep, TextStep, PlacedStep, TakeIs, MoveIs, WalkIs};
+use claims::Held;
+use flags::wide;
+use found::Found;
+use found::placed_found;
+
+// How many elements and zones there are so far, and who claims which pins.
+pub struct State {
+    pub count: usize,
+    pub zones: usize,
+    pub held: Held,
+}
+
+// A step: the rule that stops it, or 0, and what is so far.
+pub struct Step {
+    pub stop: u8,
+    pub state: State,
+}
+
+// A step, and the length of what was stepped over.
+pub struct Moved {
+    pub stop: u8,
+    pub len: usize,
+    pub state: State,
+}
+
+// The whole pass.
+pub struct Over {
+    pub stop: u8,
+    pub place: usize,
+    pub state: State,
+}
+
+fn stopped(stop: u8, state: State) -> Step
+    ensures { λ r. ⌜ (r .stop ≡ stop) × (r .state ≡ state) ⌝ }
+{
+    Step { stop, state }
+}
+
+// 0Bh
+fn zone_step(b: &[u8], s: State, zs: &mut [bool; 256], su: &mut [bool; 256]) -> Step
+    requires { ⌜ (s .count < 96) × (s .zones ≤ 12) ⌝ }
+    ensures { λ r. ⌜ ZoneStep (now (b .entry)) s (now (zs .entry)) (now (su .entry)) r (now (zs .exit)) (now (su .exit)) ⌝ }
+{
+    if b.len() != 27 {
+        return stopped(8, s);
+    }
+    if 12 <= s.zones {
+        return stopped(11, s);
+    }
+    let z = wide(b[0]);
+    if zs[z] {
+        return stopped(12, s);
+    }
+    zs[z] = true;
+    let t = wide(b[1]);
+    su[t] = true;
+    let held = s.held;
+    Step {
+        stop: 0,
+        state: State {
+            count: s.count + 1,
+            zones: s.zones + 1,
+            held,
+        },
+    }
+}
+
+// 0Ch
+fn text_step(b: &[u8], s: State, ss: &mut [bool; 256]) -> Step
+    requires { ⌜ s .count < 96 ⌝ }
+    ensures { λ r. ⌜ TextStep (now (b .entry)) s (now (ss .entry)) r (now (ss .exit)) ⌝ }
+{
+    if b.len() < 3 {
+        return stopped(8, s);
+    }
+    let t = wide(b[0]);
+    if t == 0 {
+        return stopped(9, s);
+    }
+    if ss[t] {
+        return stopped(12, s);
+    }
+    ss[t] = true;
+    let held = s.held;
+    Step {
+        stop: 0,
+        state: State {
+            count: s.count + 1,
+            zones: s.zones,
+            held,
+        },
+    }
+}
+
+// An element that stands in a zone: its fault, or what it leaves.
+fn placed_step(
+    f: Found,
+    b: &[u8],
+    at: usize,
+    s: State,
+    zu: &mut [bool; 256],
+    su: &mut [bool; 256],
+) -> Step
+    requires { ⌜ (s .count < 96) × (f .fault ≡ 0 → 5 ≤ length (now b)) ⌝ }
+    ensures { λ r. ⌜ PlacedStep f (now (b .entry)) at s (now (zu .entry)) (now (su .entry)) r (now (zu .exit)) (now (su .exit)) ⌝ }
+{
+    if f.fault != 0 {
+        return stopped(f.fault, s);
+    }
+    let z = wide(b[4]);
+    zu[z] = true;
+    let t = wide(b[0]);
+    su[t] = true;
+    let held = s.held;
+    let claims = f.claims;
+    Step {
+        stop: 0,
+        state: State {
+            count: s.count + 1,
+            zones: s.zones,
+            held: claims::claim(held, claims, at),
+        },
+    }
+}
+
+fn take(
+    id: u8,
+    b: &[u8],
+    at: usize,
+    s: State,
+    zs: &mut [bool; 256],
+    ss: &mut [bool; 256],
+    zu: &mut [bool; 256],
+    su: &mut [bool; 256],
+) -> Step
+    requires { ⌜ (s .count < 96) × (s .zones ≤ 12) × (at < 65536) ⌝ }
+    ensures { λ r. ⌜ TakeIs id (now (b .entry)) at s (now (zs .entry)) (now (ss .entry)) (now (zu .entry)) (now (su .entry)) r (now (zs .exit)) (now (ss .exit)) (now (zu .exit)) (now (su .exit)) ⌝ }
+{
+    if id == 11 {
+        return zone_step(b, s, zs, su);
+    }
+    if id == 12 {
+        return text_step(b, s, ss);
+    }
+    placed_step(placed_found(id, b), b, at, s, zu, su)
+}
+
+fn halted(stop: u8, state: State) -> Moved
+    ensures { λ r. ⌜ (r .stop ≡ stop) × (r .state ≡ state) ⌝ }
+{
+    Moved {
+        stop,
+        len: 0,
+        state,
+    }
+}
+
+// What stands at a place of the table.
+fn one_step(
+    t: &[u8],
+    at: usize,
+    s: State,
+    zs: &mut [bool; 256],
+    ss: &mut [bool; 256],
+    zu: &mut [bool; 256],
+    su: &mut [bool; 256],
+) -> Moved
+    requires { ⌜ (at < length (now t)) × (length (now t) ≤ 4096) × (s .count ≤ 96) × (s .zones ≤ 12) ⌝ }
+    ensures { λ r. ⌜ MoveIs (now (t .entry)) at s (now (zs .entry)) (now (ss .entry)) (now (zu .entry)) (now (su .entry)) r (now (zs .exit)) (now (ss .exit)) (now (zu .exit)) (now (su .exit)) ⌝ }
+{
+    let left = t.len() - at;
+    if left < 3 {
+        return halted(6, s);
+    }
+    let len = wide(t[at + 1]) + 256 * wide(t[at + 2]);
+    if len < 3 {
+        return halted(6, s);
+    }
+    if left < len {
+        return halted(6, s);
+    }
+    if 96 <= s.count {
+        return halted(11, s);
+    }
+    let from = at + 3;
+    let next = at + len;
+    let r = take(t[at], &t[from..next], at, s, zs, ss, zu, su);
+    let state = r.state;
+    Moved {
+        stop: r.stop,
+        len,
+        state,
+    }
+}
+
+// All elements.
+pub fn walk(
+    t: &[u8],
+    start: State,
+    zs: &mut [bool; 256],
+    ss: &mut [bool; 256],
+    zu: &mut [bool; 256],
+    su: &mut [bool; 256],
+) -> Over
+    requires { ⌜ (16 ≤ length (now t)) × (length (now t) ≤ 4096) × Bytes (now t) × Tracks (readDescription (byte (now t))) start (now zs) (now ss) (now zu) (now su) [] ⌝ }
+    ensures { λ r. ⌜ WalkIs (readDescription (byte (now (t .entry)))) r (now (zs .exit)) (now (ss .exit)) (now (zu .exit)) (now (su .exit)) (elementsOf (now (t .entry))) ⌝ }
+{
+    let mut s = start;
+    let mut at: usize = 16;
+    while at < t.len() {
+        let r = one_step(t, at, s, zs, ss, zu, su);
+        let next = r.state;
+        if r.stop != 0 {
+            return Over {
+                stop: r.stop,
+                place: at,
+                state: next,
+            };
+        }
+        s = next;
+        at += r.len;
+    }
+    Over {
+        stop: 0,
+        place: 0,
+        state: s,
+    }
+}

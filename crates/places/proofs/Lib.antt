@@ -1,0 +1,3 @@
+pub mod Roles
+pub mod Search
+pub mod Locate

@@ -1,0 +1,55 @@
+-- `zoneless` meets its contract: what is left to search ends where the whole ends.
+-- Assumes nothing.
+use Prim.Native.Nat.{_+_, _-_, _≤_}
+use native.Mathlib.Omega.{arith}
+use mathlib.Core.List.{_∷_}
+use lib.ListN.{length}
+use Rattle.format.specs.Numbers.{zoneNamed, zones}
+use Rattle.places.proofs.Search.{Search, begin, some-role, room, go-on, found, finish}
+use Rattle.places.proofs.zoneless.Statement.{statement}
+use Rattle.places.proofs.zoneless.Tie as tie
+
+abbrev Inv-loop : tie.InvT-loop
+Inv-loop t marks at₀ at = Search zoneNamed (λ rs. zones rs) marks t at
+
+abbrev μ-loop : tie.MeasureT-loop
+μ-loop t marks at₀ at = length t - at
+
+loop-holds : tie.Need-loop-holds Inv-loop μ-loop
+loop-holds c = begin zoneNamed (λ rs. zones rs) _ _ (c .before .pre .0) (c .before .pre .1)
+
+zone-marked-requires : tie.Need-zone-marked-requires Inv-loop μ-loop
+zone-marked-requires c κs = some-role _ _ _ _ _ (c .before .loop .inv) (c .loop-test .taken)
+
+returns : tie.Need-returns Inv-loop μ-loop
+returns c = found _ _ _ _ _ (c .before .before .before .loop .inv) (c .before .before .loop-test .taken) (c .before .zone-marked .result) (c .before .zone-marked .ensures) (c .if1 .taken)
+
+length-at-requires : tie.Need-length-at-requires Inv-loop μ-loop
+length-at-requires c κs = room _ _ _ _ _ (c .before .before .before .loop .inv) (c .before .before .loop-test .taken)
+
+add-at : tie.Need-add-at Inv-loop μ-loop
+add-at c = omega (arith, go-on _ _ _ _ _ (c .before .before .before .before .loop .inv) (c .before .before .before .loop-test .taken) (c .before .before .zone-marked .result) (c .before .before .zone-marked .ensures) (c .before .if1 .left) (c .length-at .ensures) .1)
+
+loop-less : tie.Need-loop-less Inv-loop μ-loop
+loop-less c = omega (arith, go-on _ _ _ _ _ (c .before .before .before .before .loop .inv) (c .before .before .before .loop-test .taken) (c .before .before .zone-marked .result) (c .before .before .zone-marked .ensures) (c .before .if1 .left) (c .length-at .ensures) .1, go-on _ _ _ _ _ (c .before .before .before .before .loop .inv) (c .before .before .before .loop-test .taken) (c .before .before .zone-marked .result) (c .before .before .zone-marked .ensures) (c .before .if1 .left) (c .length-at .ensures) .2)
+
+loop-again : tie.Need-loop-again Inv-loop μ-loop
+loop-again c = go-on _ _ _ _ _ (c .before .before .before .before .loop .inv) (c .before .before .before .loop-test .taken) (c .before .before .zone-marked .result) (c .before .before .zone-marked .ensures) (c .before .if1 .left) (c .length-at .ensures) .0
+
+returns-2 : tie.Need-returns-2 Inv-loop μ-loop
+returns-2 c = finish _ _ _ _ _ (c .before .loop .inv) (c .loop-test .left)
+
+pub zoneless-spec : {M : Type 1} → statement M
+zoneless-spec =
+    tie.close
+    (tie.spec
+    Inv-loop
+    μ-loop
+    loop-holds
+    zone-marked-requires
+    returns
+    length-at-requires
+    add-at
+    loop-less
+    loop-again
+    returns-2)

@@ -1,0 +1,99 @@
+// Walks over the elements of a table that the pass came through: where the first one is that names a number which is not
+// declared, and where element k is.
+ghost use mathlib.Core.Path.{_≡_};
+ghost use mathlib.Core.List.{List, _∷_};
+ghost use Prim.Native.Nat.{ℕ, _+_, _<_, _≤_};
+ghost use lib.ListN.{length, drop, take};
+ghost use Rattle.format.specs.Records.{Record};
+ghost use Rattle.format.specs.Layout.{placeAfter};
+ghost use Rattle.format.specs.Numbers.{Role, zoneNamed, stringNamed, allAmong, zones, strings, firstNaming};
+ghost use Rattle.format.specs.Verdict.{stated};
+ghost use Rattle.format.specs.Reader.{elementsOf, through};
+ghost use Rattle.flags.specs.Marks.{Marks};
+ghost use Rattle.places.specs.Walks.{RoleBytes, Walkable, orZero, Located};
+use flags::wide;
+
+// The length of the element at a place.
+fn length_at(t: &[u8], at: usize) -> usize
+    requires { ⌜ at + 2 < length (now t) ⌝ }
+    ensures { λ r. ⌜ r ≡ stated (drop at (now (t .entry))) ⌝ }
+{
+    wide(t[at + 1]) + 256 * wide(t[at + 2])
+}
+
+// Whether the zone that the element at a place names is marked.
+fn zone_marked(t: &[u8], at: usize, marks: &[bool; 256]) -> bool
+    requires { ⌜ ((x : Role) × RoleBytes (now t) at x) ⌝ }
+    ensures { λ r. ⌜ ((x : Role) (ns : List ℕ) → RoleBytes (now (t .entry)) at x → Marks (now (marks .entry)) ns → r ≡ allAmong (zoneNamed x) ns) ⌝ }
+{
+    let id = t[at];
+    if id == 11 {
+        return true;
+    }
+    if id == 12 {
+        return true;
+    }
+    let z = wide(t[at + 7]);
+    marks[z]
+}
+
+// Whether the string that the element at a place names is marked; a string names none.
+fn string_marked(t: &[u8], at: usize, marks: &[bool; 256]) -> bool
+    requires { ⌜ ((x : Role) × RoleBytes (now t) at x) ⌝ }
+    ensures { λ r. ⌜ ((x : Role) (ns : List ℕ) → RoleBytes (now (t .entry)) at x → Marks (now (marks .entry)) ns → r ≡ allAmong (stringNamed x) ns) ⌝ }
+{
+    let id = t[at];
+    if id == 12 {
+        return true;
+    }
+    if id == 11 {
+        let s = wide(t[at + 4]);
+        return marks[s];
+    }
+    let s = wide(t[at + 3]);
+    marks[s]
+}
+
+// 13: the place of the first element whose zone is not marked; 0 where there is none.
+pub fn zoneless(t: &[u8], marks: &[bool; 256]) -> usize
+    requires { ⌜ ((w : Walkable (now t)) × Marks (now marks) (zones (w .rs))) ⌝ }
+    ensures { λ r. ⌜ ((rs : List Record) → elementsOf (now (t .entry)) ≡ through rs → r ≡ orZero (firstNaming zoneNamed (zones rs) 16 rs)) ⌝ }
+{
+    let mut at: usize = 16;
+    while at < t.len() {
+        if !zone_marked(t, at, marks) {
+            return at;
+        }
+        at += length_at(t, at);
+    }
+    0
+}
+
+// 14: the place of the first element whose string is not marked; 0 where there is none.
+pub fn nameless(t: &[u8], marks: &[bool; 256]) -> usize
+    requires { ⌜ ((w : Walkable (now t)) × Marks (now marks) (0 ∷ strings (w .rs))) ⌝ }
+    ensures { λ r. ⌜ ((rs : List Record) → elementsOf (now (t .entry)) ≡ through rs → r ≡ orZero (firstNaming stringNamed (0 ∷ strings rs) 16 rs)) ⌝ }
+{
+    let mut at: usize = 16;
+    while at < t.len() {
+        if !string_marked(t, at, marks) {
+            return at;
+        }
+        at += length_at(t, at);
+    }
+    0
+}
+
+// The place of element k.
+pub fn place_of(t: &[u8], k: usize) -> usize
+    requires { ⌜ ((w : Walkable (now t)) × (k < length (w .rs))) ⌝ }
+    ensures { λ r. ⌜ ((rs : List Record) → elementsOf (now (t .entry)) ≡ through rs → Located (now (t .entry)) rs k r) ⌝ }
+{
+    let mut at: usize = 16;
+    let mut i: usize = 0;
+    while i < k {
+        at += length_at(t, at);
+        i += 1;
+    }
+    at
+}

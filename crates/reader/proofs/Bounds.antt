@@ -1,0 +1,123 @@
+-- No answer's value is over 4,096: the number of elements and every place.
+-- Assumes nothing.
+use Prim.Native.Nat.{ℕ, _+_, _≤_, _<_}
+use native.Mathlib.Omega.{arith}
+use mathlib.Core.Path.{_≡_, refl, sym, _∙_, ap}
+use mathlib.Core.Bool.{Bool, true, false, _&&_, not, false≢true}
+use mathlib.Core.List.{List, [], _∷_, _++_}
+use mathlib.Core.Option.{Option, none, some}
+use lib.ListN.{length, drop, length-append, length-drop}
+use lib.Dec.{eqb, leb}
+use borrow.Author.Tests.{eqb-true, leb-true, le-leb}
+use Rattle.format.specs.Slots.{Starts, Fits, Bytes}
+use Rattle.format.specs.Records.{Record}
+use Rattle.format.specs.Layout.{layout, layouts, table, placeAfter}
+use Rattle.format.specs.Pins.{among, unused}
+use Rattle.format.specs.Rules.{unlessKept}
+use Rattle.format.specs.Numbers.{Role, role, allAmong, firstNaming, strings, stringNamed}
+use Rattle.format.specs.Claims.{Claim, claim, alone, clashes, firstClash, unlessUnused, ownUsed, claimsOf, claimsFrom, firstClaims, claims}
+use Rattle.format.specs.Table.{PassKept}
+use Rattle.format.specs.Verdict.{Verdict, Passed, Accepts, accepted, short, unrevised, missized, misdescribed, stopped, unzoned, unnamed, clashing}
+use Rattle.format.specs.Answers.{valueOf}
+use Rattle.format.specs.declared.pins.OptionalPin.{OptionalPin}
+use Rattle.format.specs.declared.records.Description.{Description}
+use Rattle.format.specs.declared.answers.Answer.{Answer}
+use Rattle.format.proofs.Slots.{starts-length}
+use Rattle.format.proofs.Opening.{opened-only, opened-facts, table-length}
+use Rattle.format.proofs.Theorem.{accepts-passed}
+use Rattle.claims.specs.Taken.{allAt}
+use Rattle.pass.proofs.Growing.{claims-at}
+
+-- a place that is found first is one that was there
+unless-below : (t : Bool) (k m : ℕ) (o : Option ℕ) {p : ℕ} → k ≤ m → ((q : ℕ) → o ≡ some q → q ≤ m) → unlessKept t k o ≡ some p → p ≤ m
+unless-below true k m o {p} h f e = f p e
+unless-below false k m o {p} h f e = let z : k ≡ p = cc in omega arith
+
+naming-below :
+    (names : Role → List ℕ) (declared : List ℕ) (at : ℕ) (rs : List Record) (p : ℕ)
+    → firstNaming names declared at rs ≡ some p
+    → p ≤ at + length (layouts rs)
+naming-below names declared at [] p e = let z : _≡_ {A = ℕ} 0 1 = cc in absurd (omega arith)
+naming-below names declared at (r ∷ rs) p e =
+    unless-below (allAmong (names (role r)) declared) at (at + length (layouts (r ∷ rs))) _ (omega arith)
+    (λ q w. omega (arith, naming-below names declared (at + length (layout r)) rs q w, length-append (layout r) (layouts rs)))
+    e
+
+-- all claims are made up to a place
+abbrev below : ℕ → List Claim → Bool
+below m [] = true
+below m (c ∷ cs) = leb (c .place) m && below m cs
+
+and-both : (a b : Bool) → a && b ≡ true → (a ≡ true) × (b ≡ true)
+and-both true b h = (refl, h)
+and-both false b h = absurd (false≢true h)
+
+clash-below : (m : ℕ) (cs e : List Claim) (p : ℕ) → below m cs ≡ true → firstClash e cs ≡ some p → p ≤ m
+clash-below m [] e p b h = let z : _≡_ {A = ℕ} 0 1 = cc in absurd (omega arith)
+clash-below m (c ∷ cs) e p b h =
+    let k = and-both (leb (c .place) m) (below m cs) b in
+    unless-below (not (clashes c e)) (c .place) m _ (leb-true (c .place) m (k .0)) (λ q w. clash-below m cs (c ∷ e) q (k .1) w) h
+
+below-append : (m : ℕ) (xs ys : List Claim) → below m xs ≡ true → below m ys ≡ true → below m (xs ++ ys) ≡ true
+below-append m [] ys h k = k
+below-append m (x ∷ xs) ys h k =
+    let a = and-both (leb (x .place) m) (below m xs) h in
+    rw (a .0) (below-append m xs ys (a .1) k)
+
+at-below : (m at : ℕ) (cs : List Claim) → at ≤ m → allAt at cs ≡ true → below m cs ≡ true
+at-below m at [] h k = refl
+at-below m at (c ∷ cs) h k =
+    let a = and-both (eqb (c .place) at) (allAt at cs) k in
+    rw (le-leb (c .place) m (omega (arith, eqb-true (c .place) at (a .0)))) (at-below m at cs h (a .1))
+
+from-below : (m at : ℕ) (rs : List Record) → at + length (layouts rs) ≤ m → below m (claimsFrom at rs) ≡ true
+from-below m at [] h = refl
+from-below m at (r ∷ rs) h =
+    below-append m (claimsOf at r) (claimsFrom (at + length (layout r)) rs)
+    (at-below m at (claimsOf at r) (omega arith) (claims-at at r))
+    (from-below m (at + length (layout r)) rs (omega (arith, length-append (layout r) (layouts rs))))
+
+used-below : (m : ℕ) (p : OptionalPin) → below m (ownUsed 0 p) ≡ true
+used-below m p = go (unused p)
+  where
+    go : (t : Bool) → below m (unlessUnused t (claim alone 0 (p .0))) ≡ true
+    go true = refl
+    go false = rw (le-leb 0 m (omega arith)) refl
+
+claims-below : (d : Description) (rs : List Record) → below (placeAfter rs) (claims d rs) ≡ true
+claims-below d rs =
+    let m = placeAfter rs in
+    below-append m (firstClaims d) (claimsFrom 16 rs)
+    (below-append m (claim alone 0 0x10 ∷ ownUsed 0 (d .revision0) ++ ownUsed 0 (d .revision1)) (ownUsed 0 (d .revision2))
+    (below-append m (claim alone 0 0x10 ∷ ownUsed 0 (d .revision0)) (ownUsed 0 (d .revision1))
+    (below-append m (claim alone 0 0x10 ∷ []) (ownUsed 0 (d .revision0)) (rw (le-leb 0 m (omega arith)) refl) (used-below m (d .revision0)))
+    (used-below m (d .revision1)))
+    (used-below m (d .revision2)))
+    (from-below m 16 rs (omega arith))
+
+-- 96 elements at most
+kept-few : (before rs : List Record) → length before ≤ 96 → PassKept before rs → length before + length rs ≤ 96
+kept-few before [] h k = omega arith
+kept-few before (r ∷ rs) h k =
+    let n = length-append before (r ∷ []) in
+    let l = kept-few (before ++ r ∷ []) rs (omega (arith, k .0)) (k .2) in
+    omega arith
+
+passed-top : (b : List ℕ) (d : Description) (rs : List Record) → Passed b d rs → placeAfter rs ≤ 4096
+passed-top b d rs p = omega (arith, p .limit, table-length b d rs (p .fits))
+
+pub value-bound : (b : List ℕ) (a : Answer) → Verdict b a → valueOf a ≤ 4096
+value-bound b a (accepted d rs c) = omega (arith, kept-few [] rs (omega arith) (c .keeps .passed))
+value-bound b a (short h) = omega arith
+value-bound b a (unrevised h n) = omega arith
+value-bound b a (missized h e n) = omega arith
+value-bound b a (misdescribed d rest o e) = omega arith
+value-bound b a (stopped d rest rs here o clean s kept br) =
+    omega (arith, starts-length rest (layouts rs) here s, ap length (opened-only b d rest o .1), length-drop 16 b, o .limit, opened-facts b d rest o .0)
+value-bound b a (unzoned d rs p z) = omega (arith, naming-below _ _ 16 rs _ z, passed-top b d rs p)
+value-bound b a (unnamed d rs p z n) =
+    unless-below (among (d .string) (0 ∷ strings rs)) 0 4096 (firstNaming stringNamed (0 ∷ strings rs) 16 rs) (omega arith)
+    (λ q w. omega (arith, naming-below stringNamed (0 ∷ strings rs) 16 rs q w, passed-top b d rs p))
+    n
+value-bound b a (clashing d rs p z n c) =
+    omega (arith, clash-below (placeAfter rs) (claims d rs) [] _ (claims-below d rs) c, passed-top b d rs p)

@@ -1,0 +1,4 @@
+pub mod Owed
+pub mod Concluding
+pub mod Reading
+pub mod Bounds

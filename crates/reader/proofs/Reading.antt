@@ -1,0 +1,162 @@
+-- From the pass to the whole answer: what is gathered, the description before it, and the first three rules.
+-- Assumes nothing.
+use Prim.Native.Nat.{ℕ, _+_, _*_, _≤_, _<_}
+use native.Mathlib.Omega.{arith}
+use mathlib.Core.Path.{_≡_, refl, sym, _∙_, ap, subst}
+use mathlib.Core.Bool.{Bool, true, false, _&&_}
+use mathlib.Core.List.{List, [], _∷_, _++_, append-nil}
+use mathlib.Core.Option.{Option, none, some}
+use lib.ListN.{length, set, drop, replicate, length-drop}
+use lib.Dec.{eqb, leb}
+use borrow.Author.Tests.{eq-eqb, ne-eqb, le-leb, lt-leb}
+use Rattle.format.specs.Slots.{byte, Bytes}
+use Rattle.format.specs.Records.{Record}
+use Rattle.format.specs.Numbers.{strings}
+use Rattle.format.specs.Rules.{numbered, unlessKept, descriptionRules, typed, powered, strapped}
+use Rattle.format.specs.Claims.{firstClaims}
+use Rattle.format.specs.Table.{descriptionBreaks}
+use Rattle.format.specs.Verdict.{stated}
+use Rattle.format.specs.Decode.{readDescription}
+use Rattle.format.specs.Reader.{Result, halted, through, pass, elementsOf, conclude, overAll, unlessMisdescribed, afterDescription, verdictOf}
+use Rattle.format.specs.declared.records.Description.{Description}
+use Rattle.format.specs.declared.answers.Answer.{Answer}
+use Rattle.format.specs.declared.answers.Answer.the-variants.{Accepted, Refused}
+use Rattle.flags.specs.Marks.{Marks}
+use Rattle.flags.proofs.Marked.{marks-clear, marks-put, marks-front}
+use Rattle.claims.specs.Taken.{HeldIs}
+use Rattle.claims.specs.declared.Held.{Held}
+use Rattle.pass.specs.Tracks.{Tracks, WalkIs}
+use Rattle.pass.specs.declared.State.{State}
+use Rattle.pass.specs.declared.Over.{Over}
+use Rattle.reader.specs.Whole.{Gathered}
+
+-- before the first element, with all flags clear but the description's string index
+pub at-start :
+    (d : Description) (s : State) (n : ℕ)
+    → n < 256
+    → n ≡ d .string
+    → s .count ≡ 0
+    → s .zones ≡ 0
+    → HeldIs (s .held) (firstClaims d)
+    → Tracks d s (replicate 256 false) (replicate 256 false) (replicate 256 false) (set (replicate 256 false) n true) []
+at-start d s n low e c z h =
+    record {
+      count = c;
+      zoned = z;
+      few = omega (arith, z);
+      zone = marks-clear;
+      string = marks-clear;
+      zone-use = marks-clear;
+      string-use =
+          subst (λ (m : ℕ). Marks (set (replicate 256 false) n true) (m ∷ [])) e (marks-put (replicate 256 false) [] n low marks-clear);
+      held = rw append-nil h;
+    }
+
+-- where the pass stopped
+pub stopped-there :
+    (d : Description) (r : Over) (zs ss zu su : List Bool) (o : Result)
+    → WalkIs d r zs ss zu su o
+    → (r .stop ≡ 0 → ⊥)
+    → Refused (r .stop) (r .place) ≡ conclude d o
+stopped-there d r zs ss zu su (halted k p) h n = let x = h .over .0 in let y = h .over .2 in cc
+stopped-there d r zs ss zu su (through rs) h n = absurd (n (h .over .0))
+
+-- where it came through
+pub came-through :
+    (t : List ℕ) (r : Over) (zs ss zu su : List Bool) (o : Result)
+    → elementsOf t ≡ o
+    → WalkIs (readDescription (byte t)) r zs ss zu su o
+    → r .stop ≡ 0
+    → Bytes t
+    → 16 ≤ length t
+    → length t ≤ 4096
+    → Gathered t (r .state) zs (set ss 0 true) zu su
+came-through t r zs ss zu su (halted k p) e h n b l m = absurd (omega (arith, h .over .0, h .over .1, n))
+came-through t r zs ss zu su (through rs) e h n b l m =
+    let k = h .over .1 in
+    record {
+      table = record { bytes = b; long = l; top = m; rs = rs; whole = e };
+      count = k .count;
+      zone = k .zone;
+      string = marks-front ss (strings rs) 0 (omega arith) (k .string);
+      zone-use = k .zone-use;
+      string-use = k .string-use;
+      held = k .held;
+    }
+
+-- the description
+chain-strapped :
+    (a b c : Bool) → numbered (unlessKept a 4 (unlessKept b 5 (unlessKept c 10 none))) ≡ 0 → c ≡ true
+chain-strapped true true true h = refl
+chain-strapped true true false h = absurd (omega (arith, h))
+chain-strapped true false c h = absurd (omega (arith, h))
+chain-strapped false b c h = absurd (omega (arith, h))
+
+pub good-strapped : (d : Description) → numbered (descriptionBreaks d) ≡ 0 → strapped d ≡ true
+unfolding descriptionRules
+good-strapped d h = chain-strapped (typed d) (powered d) (strapped d) h
+
+chain-none :
+    (a b c : Bool)
+    → numbered (unlessKept a 4 (unlessKept b 5 (unlessKept c 10 none))) ≡ 0
+    → unlessKept a 4 (unlessKept b 5 (unlessKept c 10 none)) ≡ none
+chain-none true true true h = refl
+chain-none true true false h = absurd (omega (arith, h))
+chain-none true false c h = absurd (omega (arith, h))
+chain-none false b c h = absurd (omega (arith, h))
+
+good-none : (d : Description) → numbered (descriptionBreaks d) ≡ 0 → descriptionBreaks d ≡ none
+unfolding descriptionRules
+good-none d h = chain-none (typed d) (powered d) (strapped d) h
+
+bad-some : (o : Option ℕ) → (numbered o ≡ 0 → ⊥) → o ≡ some (numbered o)
+bad-some none n = absurd (n refl)
+bad-some (some k) n = refl
+
+pub misdescribed-there :
+    (d : Description) (bs : List ℕ) (k : ℕ) → k ≡ numbered (descriptionBreaks d) → (k ≡ 0 → ⊥) → Refused k 0 ≡ afterDescription d bs
+misdescribed-there d bs k e n =
+    rw e (sym (ap (λ (o : Option ℕ). unlessMisdescribed o (conclude d (pass (length bs) [] 16 bs))) (bad-some (descriptionBreaks d) (λ z. n (e ∙ z)))))
+
+pub well-described :
+    (d : Description) (bs : List ℕ) (k : ℕ) (a : Answer)
+    → k ≡ numbered (descriptionBreaks d)
+    → k ≡ 0
+    → a ≡ conclude d (pass (length bs) [] 16 bs)
+    → a ≡ afterDescription d bs
+well-described d bs k a e z p =
+    p ∙ sym (ap (λ (o : Option ℕ). unlessMisdescribed o (conclude d (pass (length bs) [] 16 bs))) (good-none d (sym e ∙ z)))
+
+-- no bytes after the description
+pub nothing-after : (t : List ℕ) → length t ≡ 16 → elementsOf t ≡ through []
+unfolding pass
+nothing-after t h = rw (length-drop 16 t, h) refl
+
+-- the first three rules
+module _ (t : List ℕ) where
+  pub answer-1 : length t < 16 → Refused 1 0 ≡ verdictOf t
+  unfolding verdictOf
+  answer-1 h = sym (simp (lt-leb 16 (length t) h))
+
+  pub answer-2 : 16 ≤ length t → (byte t 0 ≡ 1 → ⊥) → Refused 2 0 ≡ verdictOf t
+  unfolding verdictOf
+  answer-2 h n = sym (simp (le-leb 16 (length t) h, ne-eqb (byte t 0) 1 n))
+
+  pub answer-3 : 16 ≤ length t → byte t 0 ≡ 1 → (stated t ≡ length t → ⊥) → Refused 3 0 ≡ verdictOf t
+  unfolding verdictOf
+  answer-3 h e n = sym (simp (le-leb 16 (length t) h, eq-eqb (byte t 0) 1 e, ne-eqb (stated t) (length t) n))
+
+  pub answer-3-over : 16 ≤ length t → byte t 0 ≡ 1 → stated t ≡ length t → 4096 < length t → Refused 3 0 ≡ verdictOf t
+  unfolding verdictOf
+  answer-3-over h e p n =
+      sym (simp (le-leb 16 (length t) h, eq-eqb (byte t 0) 1 e, eq-eqb (stated t) (length t) p, lt-leb (stated t) 4096 (omega (arith, p))))
+
+  pub answer-on :
+      16 ≤ length t
+      → byte t 0 ≡ 1
+      → stated t ≡ length t
+      → length t ≤ 4096
+      → afterDescription (readDescription (byte t)) (drop 16 t) ≡ verdictOf t
+  unfolding verdictOf
+  answer-on h e p n =
+      sym (simp (le-leb 16 (length t) h, eq-eqb (byte t 0) 1 e, eq-eqb (stated t) (length t) p, le-leb (stated t) 4096 (omega (arith, p))))

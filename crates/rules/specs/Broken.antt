@@ -1,0 +1,26 @@
+-- The number of the first rule that is broken, as the code finds it.
+-- Assumes nothing.
+use Prim.Native.Nat.{ℕ}
+use mathlib.Core.Path.{_≡_}
+use mathlib.Core.Bool.{Bool, true, false}
+use mathlib.Core.List.{List}
+use Rattle.format.specs.Records.{Block, controller, tachometer}
+use Rattle.format.specs.Rules.{numbered, firstBroken, ownRules, shaped, filled}
+use Rattle.format.specs.declared.records.BusDevice.{BusDevice}
+use Rattle.format.specs.declared.records.RegisterPair.{RegisterPair}
+
+-- where a rule is kept, what comes later; where it is not, its number
+abbrev pub orElse : Bool → ℕ → ℕ → ℕ
+orElse true k later = later
+orElse false k later = k
+
+-- a device on a bus: what a controller breaks whose blocks are so many as they may be, filled or not, and what a tachometer
+-- breaks
+pub record DeviceBreaks (d : BusDevice) (full : Bool) (r : ℕ) : Type 0 where
+  pub of-controller :
+      (bs : List Block)
+      → shaped (controller d bs) ≡ true
+      → filled bs ≡ full
+      → r ≡ numbered (firstBroken (ownRules (controller d bs)))
+  pub of-tachometer :
+      (a b : List RegisterPair) → full ≡ true → r ≡ numbered (firstBroken (ownRules (tachometer d a b)))

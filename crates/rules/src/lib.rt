@@ -1,0 +1,191 @@
+// What a record breaks by itself: 4, 5, 10 of the description, 9 and 10 of each kind of element. One place for the reader
+// and the writer. A rule's number, or 0.
+ghost use mathlib.Core.Path.{_≡_};
+ghost use Rattle.format.specs.Records.{digital, analogue, fan, led, current, rgb};
+ghost use Rattle.format.specs.Rules.{numbered, firstBroken, ownRules, typed, powered, strapped, addressed, selected, scaled, coded, rises, coloured};
+ghost use Rattle.format.specs.Pins.{unused};
+ghost use Rattle.format.specs.Table.{descriptionBreaks};
+ghost use Rattle.rules.specs.Broken.{orElse, DeviceBreaks};
+use format::pins::OptionalPin;
+use format::pins::Pin;
+use format::pins::Use;
+use format::records::Address;
+use format::records::AnalogueSensor;
+use format::records::BusDevice;
+use format::records::CurrentSensor;
+use format::records::Description;
+use format::records::DigitalSensor;
+use format::records::Lamp;
+use format::records::PwmFan;
+use format::records::RgbLed;
+use format::records::StatusLed;
+use format::units::Counts;
+use pinsets::allowed;
+use pinsets::allowed_or_unused;
+
+// Where a rule is kept, what comes later; where it is not, its number.
+fn or_else(kept: bool, number: u8, later: u8) -> u8
+    ensures { λ r. ⌜ r ≡ orElse kept number later ⌝ }
+{
+    if kept { later } else { number }
+}
+
+fn typed(d: Description) -> bool
+    ensures { λ r. ⌜ r ≡ typed d ⌝ }
+{
+    (d.device == 1) | (d.device == 2) | (d.device == 3)
+}
+
+fn powered(d: Description) -> bool
+    ensures { λ r. ⌜ r ≡ powered d ⌝ }
+{
+    d.spwr | (d.power.0 <= 125)
+}
+
+fn strapped(d: Description) -> bool
+    ensures { λ r. ⌜ r ≡ strapped d ⌝ }
+{
+    let a = d.revision0;
+    let b = d.revision1;
+    let c = d.revision2;
+    allowed_or_unused(Use::HardwareRevision, a)
+        & (allowed_or_unused(Use::HardwareRevision, b)
+            & allowed_or_unused(Use::HardwareRevision, c))
+}
+
+pub fn description_breaks(d: Description) -> u8
+    ensures { λ r. ⌜ r ≡ numbered (descriptionBreaks d) ⌝ }
+{
+    or_else(
+        typed(d),
+        4,
+        or_else(powered(d), 5, or_else(strapped(d), 10, 0)),
+    )
+}
+
+// 9: the bus type has a code, and the address is of its kind.
+fn addressed(bus: u8, a: Address) -> bool
+    ensures { λ r. ⌜ r ≡ addressed bus a ⌝ }
+{
+    match a {
+        Address::Bus(_) => bus < 3,
+        Address::Select(_) => bus == 3,
+    }
+}
+
+// 10: a chip select's pin.
+fn selected(a: Address) -> bool
+    ensures { λ r. ⌜ r ≡ selected a ⌝ }
+{
+    match a {
+        Address::Bus(_) => true,
+        Address::Select(p) => allowed(Use::ChipSelect, p),
+    }
+}
+
+// 01h
+pub fn digital_breaks(d: DigitalSensor) -> u8
+    ensures { λ r. ⌜ r ≡ numbered (firstBroken (ownRules (digital d))) ⌝ }
+{
+    let a = d.address;
+    or_else(addressed(d.bus, a), 9, or_else(selected(a), 10, 0))
+}
+
+fn scaled(c: Counts) -> bool
+    ensures { λ r. ⌜ r ≡ scaled c ⌝ }
+{
+    c.0 <= 1023
+}
+
+fn calibrated(a: AnalogueSensor) -> bool
+    ensures { λ r. ⌜ r ≡ coded (analogue a) ⌝ }
+{
+    (a.thermal == 1)
+        & (scaled(a.at0) & (scaled(a.at25) & (scaled(a.at50) & (scaled(a.at75) & scaled(a.at100)))))
+}
+
+// 02h
+pub fn analogue_breaks(a: AnalogueSensor) -> u8
+    ensures { λ r. ⌜ r ≡ numbered (firstBroken (ownRules (analogue a))) ⌝ }
+{
+    let p = a.pin;
+    or_else(
+        calibrated(a),
+        9,
+        or_else(allowed(Use::AnaloguePin, p), 10, 0),
+    )
+}
+
+fn unused(p: OptionalPin) -> bool
+    ensures { λ r. ⌜ r ≡ unused p ⌝ }
+{
+    p.0 == 255
+}
+
+fn rises(p: Pin, q: OptionalPin) -> bool
+    ensures { λ r. ⌜ r ≡ rises p q ⌝ }
+{
+    unused(q) | (p.0 < q.0)
+}
+
+// 03h
+pub fn fan_breaks(f: PwmFan) -> u8
+    ensures { λ r. ⌜ r ≡ numbered (firstBroken (ownRules (fan f))) ⌝ }
+{
+    let p = f.pwm;
+    let q = f.tachometer;
+    let coded = !unused(q) | (f.ppr == 0);
+    let pinned = allowed(Use::FanPin, p) & (allowed_or_unused(Use::FanPin, q) & rises(p, q));
+    or_else(coded, 9, or_else(pinned, 10, 0))
+}
+
+fn coloured(l: Lamp) -> bool
+    ensures { λ r. ⌜ r ≡ coloured l ⌝ }
+{
+    let p = l.pin;
+    unused(p) | ((1 <= l.colour) & (l.colour <= 5) & (l.purpose <= 4))
+}
+
+// 04h
+pub fn led_breaks(l: StatusLed) -> u8
+    ensures { λ r. ⌜ r ≡ numbered (firstBroken (ownRules (led l))) ⌝ }
+{
+    let a = l.one;
+    let b = l.two;
+    let c = l.three;
+    let p = a.pin;
+    let q = b.pin;
+    let r = c.pin;
+    let coded = coloured(a) & (coloured(b) & coloured(c));
+    let pinned = allowed_or_unused(Use::StatusLed, p)
+        & (allowed_or_unused(Use::StatusLed, q) & allowed_or_unused(Use::StatusLed, r));
+    or_else(coded, 9, or_else(pinned, 10, 0))
+}
+
+// 08h
+pub fn current_breaks(c: CurrentSensor) -> u8
+    ensures { λ r. ⌜ r ≡ numbered (firstBroken (ownRules (current c))) ⌝ }
+{
+    let p = c.pin;
+    or_else(allowed(Use::AnaloguePin, p), 10, 0)
+}
+
+// 09h, where `filled` says that each speed block has a pair; 0Ah, with true
+pub fn device_breaks(d: BusDevice, filled: bool) -> u8
+    ensures { λ r. ⌜ DeviceBreaks d filled r ⌝ }
+{
+    let a = d.address;
+    or_else(addressed(d.bus, a) & filled, 9, or_else(selected(a), 10, 0))
+}
+
+// 0Eh
+pub fn rgb_breaks(c: RgbLed) -> u8
+    ensures { λ r. ⌜ r ≡ numbered (firstBroken (ownRules (rgb c))) ⌝ }
+{
+    let r = c.red;
+    let g = c.green;
+    let b = c.blue;
+    let pinned = allowed(Use::FanPin, r)
+        & (allowed(Use::FanPin, g) & (allowed(Use::FanPin, b) & ((r.0 < g.0) & (g.0 < b.0))));
+    or_else(pinned, 10, 0)
+}

@@ -1,0 +1,109 @@
+//! Who claims which pin, and who clashes (rule 15).
+
+use super::Found;
+use crate::answer::{number, Refusal};
+use crate::pins::{Pin, FAULT_LED, I2C_BUS, REFERENCE, SPI_BUS};
+use crate::record::{Address, Description, Element};
+
+/// How a pin is claimed.
+#[derive(Clone, Copy, Debug, PartialEq, Eq)]
+pub enum Use {
+    Shared,
+    Select,
+    Alone,
+}
+
+/// One claim, with the place that answers for it.
+#[derive(Clone, Copy, Debug)]
+pub struct Claim {
+    pub pin: Pin,
+    pub usage: Use,
+    pub place: usize,
+}
+
+/// All claims in order: the fault LED, hardware revision 0 to 2, then each element in turn.
+pub fn claims(description: &Description, found: &[Found]) -> Vec<Claim> {
+    let mut claims = vec![Claim {
+        pin: FAULT_LED,
+        usage: Use::Alone,
+        place: 0,
+    }];
+    for &pin in &description.hardware {
+        if pin.is_used() {
+            claims.push(Claim {
+                pin,
+                usage: Use::Alone,
+                place: 0,
+            });
+        }
+    }
+    for one in found {
+        for pin in shared_pins(&one.element) {
+            claims.push(Claim {
+                pin,
+                usage: Use::Shared,
+                place: one.place,
+            });
+        }
+        for pin in own_pins(&one.element) {
+            claims.push(Claim {
+                pin,
+                usage: own_use(&one.element),
+                place: one.place,
+            });
+        }
+    }
+    claims
+}
+
+/// P0.3 and P0.4 for bus types 0 to 2, P0.0 to P0.2 for SPI, P0.7 for 02h and 08h.
+fn shared_pins(element: &Element) -> Vec<Pin> {
+    match (element, element.attachment()) {
+        (_, Some(attachment)) => match attachment.address {
+            Address::Bus(_) => I2C_BUS.to_vec(),
+            Address::Select(_) => SPI_BUS.to_vec(),
+        },
+        (Element::AnalogueSensor(_) | Element::Current(_), None) => REFERENCE.to_vec(),
+        _ => Vec::new(),
+    }
+}
+
+/// The element's own used pins in field order, a chip select being one.
+pub fn own_pins(element: &Element) -> Vec<Pin> {
+    let fields: Vec<Pin> = match element {
+        Element::AnalogueSensor(e) => vec![e.pin],
+        Element::Current(e) => vec![e.pin],
+        Element::Fan(e) => vec![e.pwm, e.tachometer],
+        Element::StatusLed(e) => e.lights.iter().map(|light| light.pin).collect(),
+        Element::RgbLed(e) => vec![e.red, e.green, e.blue],
+        _ => match element.attachment().map(|attachment| attachment.address) {
+            Some(Address::Select(pin)) => vec![pin],
+            _ => Vec::new(),
+        },
+    };
+    fields.into_iter().filter(|pin| pin.is_used()).collect()
+}
+
+fn own_use(element: &Element) -> Use {
+    if element.attachment().is_some() {
+        Use::Select
+    } else {
+        Use::Alone
+    }
+}
+
+/// Two shared claims do not clash, nor do two chip selects (000, 5.5).
+fn clash(earlier: &Claim, later: &Claim) -> bool {
+    let peaceful = earlier.usage == later.usage && earlier.usage != Use::Alone;
+    earlier.pin == later.pin && !peaceful
+}
+
+/// 15: the first claim, in claim order, that clashes with any earlier one.
+pub fn check_claims(claims: &[Claim]) -> Result<(), Refusal> {
+    for (at, later) in claims.iter().enumerate() {
+        if claims[..at].iter().any(|earlier| clash(earlier, later)) {
+            return Err(Refusal::at(number::CLASH, later.place));
+        }
+    }
+    Ok(())
+}
