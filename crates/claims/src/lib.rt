@@ -1,13 +1,13 @@
 // 15: claims on pins, as sets of pins: pin i of the 25 in bit i.
 ghost use mathlib.Core.Path.{_≡_};
 ghost use mathlib.Core.Bool.{true};
-ghost use mathlib.Core.List.{List, [], _++_};
+ghost use mathlib.Core.List.{List, [], _∷_, _++_};
 ghost use Prim.Native.Nat.{ℕ, _<_};
 ghost use Rattle.format.specs.Pins.{allowedOrUnused};
 ghost use Rattle.format.specs.declared.pins.Use.the-variants.{HardwareRevision};
 ghost use Rattle.format.specs.Records.{analogue, fan, led, current, rgb};
 ghost use Rattle.format.specs.Rules.{selected, pinned, strapped};
-ghost use Rattle.format.specs.Claims.{Claim, onBus, claimsOf, firstClaims};
+ghost use Rattle.format.specs.Claims.{Claim, claim, alone, onBus, claimsOf, firstClaims};
 ghost use Rattle.claims.specs.Taken.{ClaimsAre, HeldIs, IsSet, allAt, usedPin, onPins, ownThree};
 use format::pins::OptionalPin;
 use format::records::Address;
@@ -153,14 +153,21 @@ pub fn claim(h: Held, c: Claims, at: usize) -> Held
     }
 }
 
-// The fault LED claims P1.0; then hardware revision 0, 1, 2.
-pub fn first_claims(d: Description) -> Held
-    ensures { λ r. ⌜ (strapped d ≡ true → HeldIs r (firstClaims d)) ⌝ }
+// The fault LED claims P1.0.
+pub fn fault_led() -> Held
+    ensures { λ r. ⌜ HeldIs r (claim alone 0 0x10 ∷ []) ⌝ }
 {
-    let led = Held {
+    Held {
         alone: 0x100,
         joint: 0,
         clash: 65536,
-    };
+    }
+}
+
+// Then come hardware revision 0, 1, 2.
+pub fn first_claims(d: Description) -> Held
+    ensures { λ r. ⌜ (strapped d ≡ true → HeldIs r (firstClaims d)) ⌝ }
+{
+    let led = fault_led();
     claim(led, three(d.revision0, d.revision1, d.revision2), 0)
 }

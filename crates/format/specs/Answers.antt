@@ -1,4 +1,4 @@
--- 'a definition gives this paper's number and values for each of its cases': of each enum that a call of the reader answers.
+-- 'a definition gives this paper's number and values for each of its cases': of each enum that a call answers.
 -- Assumes nothing.
 use Prim.Native.Nat.{ℕ}
 use Rattle.format.specs.declared.answers.Answer.{Answer}
@@ -7,6 +7,8 @@ use Rattle.format.specs.declared.answers.Described.{Described}
 use Rattle.format.specs.declared.answers.Described.the-variants.{Description, Refused as NotDescribed}
 use Rattle.format.specs.declared.answers.Asked.{Asked}
 use Rattle.format.specs.declared.answers.Asked.the-variants.{Element, Refused as NotGiven}
+use Rattle.format.specs.declared.answers.Written.{Written}
+use Rattle.format.specs.declared.answers.Written.the-variants.{Length, Refused as NotWritten}
 
 -- the number of 'What comes back'
 abbrev pub numberOf : Answer → ℕ
@@ -34,3 +36,12 @@ numberOfAsked (NotGiven k p) = k
 abbrev pub placeOfAsked : Asked → ℕ
 placeOfAsked (Element e) = 0
 placeOfAsked (NotGiven k p) = p
+
+-- beside 0 the new length
+abbrev pub numberOfWritten : Written → ℕ
+numberOfWritten (Length n) = 0
+numberOfWritten (NotWritten k p) = k
+
+abbrev pub valueOfWritten : Written → ℕ
+valueOfWritten (Length n) = n
+valueOfWritten (NotWritten k p) = p

@@ -13,3 +13,4 @@ pub mod Asked
 pub mod Known
 pub mod Decode
 pub mod Reader
+pub mod Writing

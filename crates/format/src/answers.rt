@@ -1,4 +1,4 @@
-// What the reader's calls answer. specs/Answers gives each case its number and value of 'What comes back'.
+// What the calls answer. specs/Answers gives each case its number and value of 'What comes back'.
 use crate::records::Description;
 use crate::records::Element;
 
@@ -17,5 +17,11 @@ pub enum Described {
 // Of asking for element k.
 pub enum Asked {
     Element(Element),
+    Refused(u8, usize),
+}
+
+// Of the writer: done, with the new length.
+pub enum Written {
+    Length(usize),
     Refused(u8, usize),
 }

@@ -14,7 +14,7 @@ ghost use Rattle.places.specs.Walks.{RoleBytes, Walkable, orZero, Locate
 use flags::wide;
 
 // The length of the element at a place.
-fn length_at(t: &[u8], at: usize) -> usize
+pub fn length_at(t: &[u8], at: usize) -> usize
     requires { ⌜ at + 2 < length (now t) ⌝ }
     ensures { λ r. ⌜ r ≡ stated (drop at (now (t .entry))) ⌝ }
 {

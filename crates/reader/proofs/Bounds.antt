@@ -18,10 +18,13 @@ use Rattle.format.specs.Numbers.{Role, role, allAmong, firstNaming, strings, st
 use Rattle.format.specs.Claims.{Claim, claim, alone, clashes, firstClash, unlessUnused, ownUsed, claimsOf, claimsFrom, firstClaims, claims}
 use Rattle.format.specs.Table.{PassKept}
 use Rattle.format.specs.Verdict.{Verdict, Passed, Accepts, accepted, short, unrevised, missized, misdescribed, stopped, unzoned, unnamed, clashing}
-use Rattle.format.specs.Answers.{valueOf}
+use Rattle.format.specs.Answers.{valueOf, placeOfAsked}
+use Rattle.format.specs.Asked.{Gives, given, past, ungiven}
 use Rattle.format.specs.declared.pins.OptionalPin.{OptionalPin}
 use Rattle.format.specs.declared.records.Description.{Description}
 use Rattle.format.specs.declared.answers.Answer.{Answer}
+use Rattle.format.specs.declared.answers.Answer.the-variants.{Refused}
+use Rattle.format.specs.declared.answers.Asked.{Asked}
 use Rattle.format.proofs.Slots.{starts-length}
 use Rattle.format.proofs.Opening.{opened-only, opened-facts, table-length}
 use Rattle.format.proofs.Theorem.{accepts-passed}
@@ -121,3 +124,8 @@ value-bound b a (unnamed d rs p z n) =
     n
 value-bound b a (clashing d rs p z n c) =
     omega (arith, clash-below (placeAfter rs) (claims d rs) [] _ (claims-below d rs) c, passed-top b d rs p)
+
+pub place-bound : (b : List ℕ) (k : ℕ) (a : Asked) (p : List ℕ) → Gives b k a p → placeOfAsked a ≤ 4096
+place-bound b k a p (given d rs c n) = omega arith
+place-bound b k a p (past d rs c n) = omega arith
+place-bound b k a p (ungiven {j = j} {p = q} v) = value-bound b (Refused j q) v

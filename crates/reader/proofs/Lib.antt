@@ -2,3 +2,5 @@ pub mod Owed
 pub mod Concluding
 pub mod Reading
 pub mod Bounds
+pub mod Asking
+pub mod Only

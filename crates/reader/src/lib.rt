@@ -9,12 +9,21 @@ ghost use Rattle.format.specs.Decode.{readDescription};
 ghost use Rattle.format.specs.Reader.{elementsOf, conclude, overAll, afterDescription, verdictOf};
 ghost use mathlib.Core.List.{[]};
 ghost use Rattle.claims.specs.Taken.{HeldIs};
+ghost use Rattle.format.specs.Slots.{written};
+ghost use Rattle.format.specs.Records.{Record, elementOf};
+ghost use Rattle.format.specs.Layout.{part};
+ghost use Rattle.format.specs.Verdict.{Stands};
+ghost use Rattle.format.specs.Asked.{Describes};
 ghost use Rattle.reader.specs.Whole.{Gathered};
+ghost use Rattle.reader.specs.Answered.{notDescribed, notGiven, GivesElement, GivesPart};
 use claims::Held;
 use flags::lacks;
 use flags::wide;
 use format::answers::Answer;
+use format::answers::Asked;
+use format::answers::Described;
 use format::records::Description;
+use format::records::Element;
 use pass::State;
 use pass::walk;
 
@@ -96,6 +105,13 @@ fn described(t: &[u8]) -> Answer
     if fault != 0 {
         return Answer::Refused(fault, 0);
     }
+    if (d.revision0.0 == 255) & (d.revision1.0 == 255) & (d.revision2.0 == 255) {
+        let led = claims::fault_led();
+        if t.len() == 16 {
+            return bare(d, led);
+        }
+        return elements(t, led);
+    }
     let held = claims::first_claims(d);
     if t.len() == 16 {
         return bare(d, held);
@@ -126,4 +142,87 @@ pub fn check(table: &[u8]) -> Answer
     ensures { λ r. ⌜ Verdict (now (table .entry)) r ⌝ }
 {
     read(table)
+}
+
+// The table's refusal, as asking for the description gives it.
+fn not_described(a: Answer) -> Described
+    ensures { λ r. ⌜ r ≡ notDescribed a ⌝ }
+{
+    match a {
+        Answer::Accepted(_) => Described::Refused(0, 0),
+        Answer::Refused(k, p) => Described::Refused(k, p),
+    }
+}
+
+// The description of an accepted table, or the table's refusal.
+pub fn description(table: &[u8]) -> Described
+    ensures { λ r. ⌜ Describes (now (table .entry)) r ⌝ }
+{
+    let answer = check(table);
+    let Answer::Accepted(_) = answer else {
+        return not_described(answer);
+    };
+    Described::Description(fields::description(table))
+}
+
+// The element that stands at a place.
+fn element_at(t: &[u8], at: usize) -> Element
+    requires { ⌜ ((x : Record) × Stands (drop at (now t)) x) ⌝ }
+    ensures { λ r. ⌜ ((x : Record) → Stands (drop at (now (t .entry))) x → r ≡ elementOf x) ⌝ }
+{
+    let len = places::length_at(t, at);
+    let from = at + 3;
+    let to = at + len;
+    elements::element_of(t[at], &t[from..to])
+}
+
+// The variable part of the element that stands at a place.
+fn part_at(t: &[u8], at: usize) -> &[u8]
+    requires { ⌜ ((x : Record) × Stands (drop at (now t)) x) ⌝ }
+    ensures { λ r. ⌜ ((x : Record) → Stands (drop at (now (t .entry))) x → now r ≡ written (part x)) ⌝ }
+{
+    let len = places::length_at(t, at);
+    let from = at + elements::part_start(t[at], len);
+    let to = at + len;
+    &t[from..to]
+}
+
+// The table's refusal, as asking for an element gives it.
+fn not_given(a: Answer) -> Asked
+    ensures { λ r. ⌜ r ≡ notGiven a ⌝ }
+{
+    match a {
+        Answer::Accepted(_) => Asked::Refused(0, 0),
+        Answer::Refused(k, p) => Asked::Refused(k, p),
+    }
+}
+
+// Element k of an accepted table; the table's refusal, or 17.
+pub fn element(table: &[u8], k: usize) -> Asked
+    ensures { λ r. ⌜ GivesElement (now (table .entry)) k r ⌝ }
+{
+    let answer = check(table);
+    let Answer::Accepted(n) = answer else {
+        return not_given(answer);
+    };
+    if n <= k {
+        return Asked::Refused(17, 0);
+    }
+    let at = places::place_of(table, k);
+    Asked::Element(element_at(table, at))
+}
+
+// Its variable part, as that part of the lent table; an empty part with a refusal.
+pub fn part(table: &[u8], k: usize) -> &[u8]
+    ensures { λ r. ⌜ GivesPart (now (table .entry)) k (now r) ⌝ }
+{
+    let answer = check(table);
+    let Answer::Accepted(n) = answer else {
+        return &table[0..0];
+    };
+    if n <= k {
+        return &table[0..0];
+    }
+    let at = places::place_of(table, k);
+    part_at(table, at)
 }

@@ -48,6 +48,9 @@ fn strapped(d: Description) -> bool
     let a = d.revision0;
     let b = d.revision1;
     let c = d.revision2;
+    if (a.0 == 255) & (b.0 == 255) & (c.0 == 255) {
+        return true;
+    }
     allowed_or_unused(Use::HardwareRevision, a)
         & (allowed_or_unused(Use::HardwareRevision, b)
             & allowed_or_unused(Use::HardwareRevision, c))

@@ -4,11 +4,13 @@ use native.Mathlib.Omega.{arith}
 use mathlib.Core.List.{_∷_, [], _++_}
 use Rattle.format.specs.Claims.{alone, claim}
 use Rattle.claims.specs.Taken.{usedPin, ownThree}
-use Rattle.claims.proofs.Elements.{fault-led}
 use Rattle.claims.proofs.Lone.{lone-at, lone-three}
 use borrow.Author.Needs.{needs}
 use Rattle.claims.proofs.first_claims.Statement.{statement}
 use Rattle.claims.proofs.first_claims.Tie as tie
+
+fault-led-requires : tie.Need-fault-led-requires
+fault-led-requires c κs = search needs
 
 three-requires : tie.Need-three-requires
 three-requires c κs = search needs
@@ -19,15 +21,15 @@ claim-requires c κs = search needs
 returns : tie.Need-returns
 returns c =
     λ k.
-    let p = c .before .before .args .d .revision0 in
-    let q = c .before .before .args .d .revision1 in
-    let r = c .before .before .args .d .revision2 in
+    let p = c .before .before .before .args .d .revision0 in
+    let q = c .before .before .before .args .d .revision1 in
+    let r = c .before .before .before .args .d .revision2 in
     c .claim .ensures
     (claim alone 0 0x10 ∷ [])
     (ownThree 0 p q r)
-    fault-led
+    (c .before .before .fault-led .ensures)
     (c .before .three .ensures 0 (omega arith) k)
     (rw (lone-three 0 p q r) at (lone-at 0 (usedPin p ++ usedPin q ++ usedPin r)))
 
 pub first-claims-spec : {M : Type 1} → statement M
-first-claims-spec = tie.close (tie.spec three-requires claim-requires returns)
+first-claims-spec = tie.close (tie.spec fault-led-requires three-requires claim-requires returns)

@@ -1,0 +1,60 @@
+//! The gate: known tables, named cases, and generated tables of fixed seeds.
+
+use crate::batch::Origin;
+use crate::comparison::Comparison;
+use crate::known;
+use crate::options::Options;
+use crate::tally::Tally;
+use second::generator::{self, raw};
+use second::random::Random;
+
+const SEEDS: [u64; 4] = [2007, 90, 16, 4096];
+const TABLES_OF_A_SEED: u64 = 15_000;
+
+pub fn gate(options: &Options) -> Result<bool, String> {
+    let mut comparison = Comparison::start(options)?;
+    for row in known::rows() {
+        comparison.known(row)?;
+    }
+    for (name, table) in generator::targeted() {
+        comparison.table(Origin::Case(name), table.clone())?;
+    }
+    for (name, table) in oversized() {
+        comparison.table(Origin::Case(name), table)?;
+    }
+    for seed in SEEDS {
+        let mut random = Random::new(seed);
+        for at in 0..TABLES_OF_A_SEED {
+            comparison.table(Origin::Seeded { seed, at }, generator::any(&mut random))?;
+        }
+    }
+    Ok(judged(&comparison.finish()?, options.elements))
+}
+
+/// Tables so long that two bytes cannot say it, or that a length of 4,096 must not be cut out of.
+fn oversized() -> Vec<(&'static str, Vec<u8>)> {
+    let with = |length: usize, said: usize| {
+        let mut table = raw::TABLE_A.to_vec();
+        table.resize(length, 0);
+        table[1..3].copy_from_slice(&(said as u16).to_le_bytes());
+        table
+    };
+    vec![
+        ("5,000 bytes that say 4,096", with(5_000, 4_096)),
+        ("65,535 bytes that say so", with(65_535, 65_535)),
+        ("65,536 bytes that say 0", with(65_536, 0)),
+        ("65,552 bytes that say 16", with(65_552, 16)),
+        ("69,632 bytes that say 4,096", with(69_632, 4_096)),
+    ]
+}
+
+/// Every answer of the reader must have come at least once.
+fn judged(tally: &Tally, elements: bool) -> bool {
+    tally.print_answers();
+    let mut good = tally.all_came(0, 0..=15);
+    if elements {
+        good &= tally.all_came(1, (0..=15).chain([17]));
+    }
+    tally.print_sum();
+    good && tally.differences == 0
+}

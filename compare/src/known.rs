@@ -1,0 +1,146 @@
+//! 'Known tables' of document 01, with the answers that stand there. The bytes are written out here
+//! and not taken from the second program.
+
+use crate::answer::Answer;
+use crate::call::Call;
+
+pub struct Row {
+    pub name: &'static str,
+    pub table: Vec<u8>,
+    pub call: Call,
+    pub answer: Answer,
+}
+
+const A: [u8; 16] = [
+    0x01, 0x10, 0x00, 0x02, 0x00, 0x07, 0x00, 0x00, 0x80, 0xFF, 0xFF, 0xFF, 0x00, 0x00, 0x00, 0x00,
+];
+/// PWM stands at 8, the tachometer at 9.
+const F: [u8; 16] = [
+    0x03, 0x10, 0x00, 0x00, 0xFF, 0xFF, 0xFF, 0x01, 0x05, 0x06, 0x02, 0x2C, 0x01, 0xDC, 0x05, 0x40,
+];
+/// ENTRIES stands at 12.
+const C: [u8; 17] = [
+    0x09, 0x11, 0x00, 0x00, 0xFF, 0xFF, 0xFF, 0x01, 0x00, 0x40, 0x00, 0x05, 0x01, 0x07, 0x00, 0x0C,
+    0x00,
+];
+/// Descriptor of zone 1 (000, Table 30), without a string; the rest is content.
+const ZONE_1: [u8; 30] = {
+    let mut zone = [0; 30];
+    zone[0] = 0x0B;
+    zone[1] = 30;
+    zone[3] = 1;
+    zone
+};
+
+/// A with one byte changed.
+fn a(at: usize, byte: u8) -> Vec<u8> {
+    changed(&A, &[(at, byte)])
+}
+
+fn changed(bytes: &[u8], changes: &[(usize, u8)]) -> Vec<u8> {
+    let mut bytes = bytes.to_vec();
+    for &(at, byte) in changes {
+        bytes[at] = byte;
+    }
+    bytes
+}
+
+/// A with its length mended and these bytes added.
+fn with(elements: &[&[u8]]) -> Vec<u8> {
+    let mut table = [&A[..], &elements.concat()].concat();
+    table[1] = table.len() as u8;
+    table
+}
+
+fn row(name: &'static str, table: Vec<u8>, number: u8, beside: usize) -> Row {
+    asked(name, table, Call::Check, number, beside)
+}
+
+fn asked(name: &'static str, table: Vec<u8>, call: Call, number: u8, beside: usize) -> Row {
+    let answer = Answer::of(number, beside);
+    Row {
+        name,
+        table,
+        call,
+        answer,
+    }
+}
+
+pub fn rows() -> Vec<Row> {
+    let mut rows = descriptions();
+    rows.extend(elements());
+    rows.extend(elements_asked_for());
+    rows
+}
+
+fn descriptions() -> Vec<Row> {
+    vec![
+        row("A", A.to_vec(), 0, 0),
+        row("A without its last byte", A[..15].to_vec(), 1, 0),
+        row("empty", Vec::new(), 1, 0),
+        row("A, byte 0 10h", a(0, 0x10), 2, 0),
+        row("A, length 17", a(1, 17), 3, 0),
+        row("A, byte 8 7Dh", a(8, 0x7D), 0, 0),
+        row("A, byte 8 7Eh", a(8, 0x7E), 5, 0),
+        row("A, byte 9 30h", a(9, 0x30), 0, 0),
+        row("A, byte 9 31h", a(9, 0x31), 10, 0),
+        row("A, byte 9 10h", a(9, 0x10), 15, 0),
+    ]
+}
+
+fn elements() -> Vec<Row> {
+    let no_tachometer = changed(&F, &[(9, 0xFF)]);
+    let falling = changed(&F, &[(8, 0x06), (9, 0x05)]);
+    let cut = changed(&F[..15], &[(1, 15)]);
+    let two_entries = changed(&C, &[(12, 2)]);
+    let no_entries = changed(&C, &[(12, 0)]);
+    vec![
+        row("A and two bytes", with(&[&[0x03, 0x10]]), 6, 16),
+        row("A, F", with(&[&F]), 13, 16),
+        row("A, F with tachometer FFh", with(&[&no_tachometer]), 9, 16),
+        row(
+            "A, F with PWM 06h, tachometer 05h",
+            with(&[&falling]),
+            10,
+            16,
+        ),
+        row("A, F cut to 15, its length 15", with(&[&cut]), 8, 16),
+        row("A, C", with(&[&C]), 13, 16),
+        row("A, C with ENTRIES 2", with(&[&two_entries]), 8, 16),
+        row("A, C with ENTRIES 0", with(&[&no_entries]), 9, 16),
+        row("A, F, zone 1", with(&[&F, &ZONE_1]), 0, 2),
+        row("A, F, F, zone 1", with(&[&F, &F, &ZONE_1]), 15, 32),
+        row("A, F, F", with(&[&F, &F]), 13, 16),
+    ]
+}
+
+/// Not rows of the list itself: what the same document's words on element k say of three of them.
+fn elements_asked_for() -> Vec<Row> {
+    let fan = || with(&[&F, &ZONE_1]);
+    let controller = || with(&[&C, &ZONE_1]);
+    let refused = || with(&[&F]);
+    vec![
+        asked("A", A.to_vec(), Call::Element(0), 17, 0),
+        asked("A", A.to_vec(), Call::Part(0), 0, 0),
+        asked("A, F, zone 1", fan(), Call::Element(0), 0, 0x03),
+        asked("A, F, zone 1", fan(), Call::Part(0), 0, 0),
+        asked("A, F, zone 1", fan(), Call::Element(1), 0, 0x0B),
+        asked("A, F, zone 1", fan(), Call::Part(1), 0, 27),
+        asked("A, F, zone 1", fan(), Call::Element(2), 17, 0),
+        asked("A, C, zone 1", controller(), Call::Part(0), 0, 6),
+        asked("A, F", refused(), Call::Element(0), 13, 16),
+        asked("A, F", refused(), Call::Part(7), 0, 0),
+    ]
+}
+
+#[cfg(test)]
+mod tests {
+    /// Needs no driver: the second program alone is held to the paper.
+    #[test]
+    fn the_second_program_gives_the_papers_answers() {
+        for row in super::rows() {
+            let (name, call) = (row.name, row.call);
+            assert_eq!(call.second(&row.table), row.answer, "{name}: {call}");
+        }
+    }
+}

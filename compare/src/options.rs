@@ -1,0 +1,70 @@
+//! The command line.
+
+#[derive(Debug, PartialEq, Eq)]
+pub enum Command {
+    Gate,
+    Long { seed: u64, count: u64 },
+}
+
+#[derive(Debug, PartialEq, Eq)]
+pub struct Options {
+    pub command: Command,
+    pub elements: bool,
+    /// The driver's program and its arguments, at least one word.
+    pub driver: Vec<String>,
+}
+
+/// What is given, before it is known to fit together.
+#[derive(Default)]
+struct Given {
+    seed: Option<u64>,
+    count: Option<u64>,
+    elements: bool,
+    driver: Vec<String>,
+}
+
+fn number(name: &str, word: Option<&String>) -> Result<Option<u64>, String> {
+    match word.and_then(|word| word.parse().ok()) {
+        Some(number) => Ok(Some(number)),
+        None => Err(format!("'{name}' wants a whole number after it")),
+    }
+}
+
+impl Given {
+    fn read(words: &[String]) -> Result<Given, String> {
+        let mut given = Given::default();
+        let mut words = words.iter();
+        while let Some(word) = words.next() {
+            match word.as_str() {
+                "--seed" => given.seed = number(word, words.next())?,
+                "--count" => given.count = number(word, words.next())?,
+                "--elements" => given.elements = true,
+                "--driver" => given.driver = words.by_ref().cloned().collect(),
+                _ => return Err(format!("'{word}' has no meaning here")),
+            }
+        }
+        Ok(given)
+    }
+}
+
+impl Options {
+    pub fn read(words: &[String]) -> Result<Options, String> {
+        let (command, rest) = words.split_first().ok_or("a command is missing")?;
+        let given = Given::read(rest)?;
+        let command = match (command.as_str(), given.seed, given.count) {
+            ("gate", None, None) => Command::Gate,
+            ("gate", _, _) => return Err("the gate's seeds and counts are fixed".into()),
+            ("long", Some(seed), Some(count)) => Command::Long { seed, count },
+            ("long", _, _) => return Err("'--seed' or '--count' is missing".into()),
+            _ => return Err(format!("there is no command '{command}'")),
+        };
+        if given.driver.is_empty() {
+            return Err("'--driver' and its command are missing".into());
+        }
+        Ok(Options {
+            command,
+            elements: given.elements,
+            driver: given.driver,
+        })
+    }
+}

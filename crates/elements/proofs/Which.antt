@@ -1,0 +1,100 @@
+-- What is decoded under each identifier, turned round: from the record to the bytes that it was read from.
+-- Assumes nothing.
+use Prim.Native.Nat.{ℕ, _≤_}
+use native.Mathlib.Omega.{arith}
+use mathlib.Core.Path.{_≡_, refl, sym, _∙_, ap}
+use mathlib.Core.Bool.{Bool, true, false}
+use mathlib.Core.List.{List}
+use mathlib.Core.Option.{Option, none, some}
+use lib.ListN.{length, drop}
+use lib.Dec.{eqb, leb}
+use borrow.Author.Tests.{eqb-true, leb-true, ne-eqb}
+use Rattle.format.specs.Slots.{byte}
+use Rattle.format.specs.Records.{Record, digital, analogue, fan, led, current, controller, tachometer, zone, string, rgb, elementOf}
+use Rattle.format.specs.Decode.{readDigital, readAnalogue, readFan, readLed, readCurrent, readDevice, readRgb, guard, bind, pick, cutBlocks, cutTwo, decode}
+use Rattle.format.specs.declared.records.Element.{Element}
+use Rattle.format.specs.declared.records.Element.the-variants.{Digital, Analogue, Fan, Led, Current, Controller, Tachometer, Zone, Text, Rgb}
+
+guard-some : {A : Type 0} (t : Bool) (o : Option A) (x : A) → guard t o ≡ some x → (t ≡ true) × (o ≡ some x)
+guard-some true o x h = (refl, h)
+guard-some false o x h = let z : _≡_ {A = ℕ} 0 1 = cc in absurd (omega arith)
+
+bind-element :
+    {A : Type 0} (o : Option A) (f : A → Record) (e : Element) (x : Record)
+    → ((a : A) → e ≡ elementOf (f a))
+    → bind o (λ a. some (f a)) ≡ some x
+    → e ≡ elementOf x
+bind-element none f e x g h = let z : _≡_ {A = ℕ} 0 1 = cc in absurd (omega arith)
+bind-element (some a) f e x g h = let z : f a ≡ x = cc in g a ∙ ap elementOf z
+
+-- a kind of one length
+even : (n m : ℕ) (y x : Record) → guard (eqb n m) (some y) ≡ some x → (n ≡ m) × (elementOf y ≡ elementOf x)
+even n m y x h =
+    let p = guard-some (eqb n m) (some y) x h in
+    let q = p .1 in
+    let z : y ≡ x = cc in
+    (eqb-true n m (p .0), ap elementOf z)
+
+module _ (c : List ℕ) (x : Record) where
+  pub is-digital : decode 1 c ≡ some x → (length c ≡ 18) × (Digital (readDigital (byte c)) ≡ elementOf x)
+  unfolding decode
+  is-digital h = even (length c) 18 (digital (readDigital (byte c))) x h
+
+  pub is-analogue : decode 2 c ≡ some x → (length c ≡ 17) × (Analogue (readAnalogue (byte c)) ≡ elementOf x)
+  unfolding decode
+  is-analogue h = even (length c) 17 (analogue (readAnalogue (byte c))) x h
+
+  pub is-fan : decode 3 c ≡ some x → (length c ≡ 13) × (Fan (readFan (byte c)) ≡ elementOf x)
+  unfolding decode
+  is-fan h = even (length c) 13 (fan (readFan (byte c))) x h
+
+  pub is-led : decode 4 c ≡ some x → (length c ≡ 11) × (Led (readLed (byte c)) ≡ elementOf x)
+  unfolding decode
+  is-led h = even (length c) 11 (led (readLed (byte c))) x h
+
+  pub is-current : decode 8 c ≡ some x → (length c ≡ 11) × (Current (readCurrent (byte c)) ≡ elementOf x)
+  unfolding decode
+  is-current h = even (length c) 11 (current (readCurrent (byte c))) x h
+
+  pub is-rgb : decode 14 c ≡ some x → (length c ≡ 8) × (Rgb (readRgb (byte c)) ≡ elementOf x)
+  unfolding decode
+  is-rgb h = even (length c) 8 (rgb (readRgb (byte c))) x h
+
+  pub is-controller : decode 9 c ≡ some x → (8 ≤ length c) × (Controller (readDevice (byte c)) ≡ elementOf x)
+  unfolding decode
+  is-controller h =
+      let p = guard-some (leb 8 (length c)) (bind (cutBlocks (length c) (drop 8 c)) (λ l. some (controller (readDevice (byte c)) l))) x h in
+      (leb-true 8 (length c) (p .0), bind-element (cutBlocks (length c) (drop 8 c)) (λ l. controller (readDevice (byte c)) l) (Controller (readDevice (byte c))) x (λ l. refl) (p .1))
+
+  pub is-tachometer : decode 10 c ≡ some x → (9 ≤ length c) × (Tachometer (readDevice (byte c)) ≡ elementOf x)
+  unfolding decode
+  is-tachometer h =
+      let p = guard-some (leb 9 (length c)) (bind (cutTwo (drop 9 c)) (λ t. some (tachometer (readDevice (byte c)) (t .0) (t .1)))) x h in
+      (leb-true 9 (length c) (p .0), bind-element (cutTwo (drop 9 c)) (λ t. tachometer (readDevice (byte c)) (t .0) (t .1)) (Tachometer (readDevice (byte c))) x (λ t. refl) (p .1))
+
+  pub is-text : decode 12 c ≡ some x → Text ≡ elementOf x
+  unfolding decode
+  is-text h = let z : string c ≡ x = cc in ap elementOf z
+
+  -- any other identifier is a zone descriptor's
+  pub is-zone :
+      (id : ℕ)
+      → (id ≡ 1 → ⊥)
+      → (id ≡ 2 → ⊥)
+      → (id ≡ 3 → ⊥)
+      → (id ≡ 4 → ⊥)
+      → (id ≡ 8 → ⊥)
+      → (id ≡ 9 → ⊥)
+      → (id ≡ 10 → ⊥)
+      → (id ≡ 12 → ⊥)
+      → (id ≡ 14 → ⊥)
+      → decode id c ≡ some x
+      → Zone ≡ elementOf x
+  unfolding decode
+  is-zone id a b d e f g i j k h =
+      go (eqb id 11)
+      (rw (ne-eqb id 1 a, ne-eqb id 2 b, ne-eqb id 3 d, ne-eqb id 4 e, ne-eqb id 8 f, ne-eqb id 9 g, ne-eqb id 10 i, ne-eqb id 12 j, ne-eqb id 14 k) at h)
+    where
+      go : (t : Bool) → pick t (some (zone c)) none ≡ some x → Zone ≡ elementOf x
+      go true q = let z : zone c ≡ x = cc in ap elementOf z
+      go false q = let z : _≡_ {A = ℕ} 0 1 = cc in absurd (omega arith)

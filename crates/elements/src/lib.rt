@@ -1,0 +1,58 @@
+// An element's bytes as a case of the element enum, and where its variable part starts.
+ghost use mathlib.Core.Path.{_≡_};
+ghost use mathlib.Core.Option.{some};
+ghost use Rattle.format.specs.Records.{Record, elementOf};
+ghost use Rattle.format.specs.Layout.{idOf};
+ghost use Rattle.format.specs.Decode.{decode};
+ghost use Rattle.elements.specs.Parts.{partStart};
+use format::records::Element;
+
+// The element in the bytes after a header with this identifier.
+pub fn element_of(id: u8, b: &[u8]) -> Element
+    requires { ⌜ ((x : Record) × (decode id (now b) ≡ some x)) ⌝ }
+    ensures { λ r. ⌜ ((x : Record) → decode id (now (b .entry)) ≡ some x → r ≡ elementOf x) ⌝ }
+{
+    match id {
+        1 => Element::Digital(fields::digital(b)),
+        2 => Element::Analogue(fields::analogue(b)),
+        3 => Element::Fan(fields::fan(b)),
+        4 => Element::Led(fields::led(b)),
+        8 => Element::Current(fields::current(b)),
+        9 => Element::Controller(fields::device(b)),
+        10 => Element::Tachometer(fields::device(b)),
+        12 => Element::Text,
+        14 => Element::Rgb(fields::rgb(b)),
+        _ => Element::Zone,
+    }
+}
+
+// The offset of the variable part in an element of so many bytes: its end where it has none.
+pub fn part_start(id: u8, len: usize) -> usize
+    ensures { λ r. ⌜ r ≡ partStart id len ⌝ }
+{
+    match id {
+        9 => 11,
+        10 => 12,
+        11 => 3,
+        12 => 3,
+        _ => len,
+    }
+}
+
+// The identifier of an element.
+pub fn id_of(e: Element) -> u8
+    ensures { λ r. ⌜ r ≡ idOf e ⌝ }
+{
+    match e {
+        Element::Digital(_) => 0x01,
+        Element::Analogue(_) => 0x02,
+        Element::Fan(_) => 0x03,
+        Element::Led(_) => 0x04,
+        Element::Current(_) => 0x08,
+        Element::Controller(_) => 0x09,
+        Element::Tachometer(_) => 0x0a,
+        Element::Zone => 0x0b,
+        Element::Text => 0x0c,
+        Element::Rgb(_) => 0x0e,
+    }
+}

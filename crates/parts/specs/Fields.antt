@@ -1,0 +1,45 @@
+-- The same answers by the records: speed block j of a list of blocks, block w of the two lists of 0Ah, and pair i of either.
+-- Assumes nothing.
+use Prim.Native.Nat.{ℕ, zero, suc}
+use mathlib.Core.List.{List}
+use mathlib.Core.Option.{Option, none, some}
+use lib.ListN.{length, getElem?}
+use Rattle.format.specs.Records.{Block}
+use Rattle.format.specs.declared.records.RegisterPair.{RegisterPair}
+use Rattle.parts.specs.declared.FoundBlock.{FoundBlock}
+use Rattle.parts.specs.declared.FoundBlock.the-variants.{Block as TheBlock, Nothing as NoBlock}
+use Rattle.parts.specs.declared.FoundPair.{FoundPair}
+use Rattle.parts.specs.declared.FoundPair.the-variants.{Pair, Nothing as NoPair}
+use Rattle.parts.specs.declared.FoundList.{FoundList}
+use Rattle.parts.specs.declared.FoundList.the-variants.{Entries, Nothing as NoList}
+
+-- the block's speed, and how many pairs it has
+abbrev pub blockField : Option Block → FoundBlock
+blockField none = NoBlock
+blockField (some b) = TheBlock (record { speed = b .speed; entries = length (b .pairs) })
+
+-- the pair itself
+abbrev pub pairField : Option RegisterPair → FoundPair
+pairField none = NoPair
+pairField (some p) = Pair p
+
+-- pair i of a block
+abbrev pub blockPairField : ℕ → Option Block → FoundPair
+blockPairField i none = NoPair
+blockPairField i (some b) = pairField (getElem? (b .pairs) i)
+
+-- the first list, the second, and there is no third
+abbrev pub listOf : List RegisterPair → List RegisterPair → ℕ → Option (List RegisterPair)
+listOf a b zero = some a
+listOf a b (suc zero) = some b
+listOf a b (suc (suc w)) = none
+
+-- how many pairs a list has
+abbrev pub listField : Option (List RegisterPair) → FoundList
+listField none = NoList
+listField (some ps) = Entries (length ps)
+
+-- pair i of a list
+abbrev pub listPairField : ℕ → Option (List RegisterPair) → FoundPair
+listPairField i none = NoPair
+listPairField i (some ps) = pairField (getElem? ps i)

@@ -1,0 +1,78 @@
+-- The fields inside a variable part: what stands at the head of any bytes, and where in a part its blocks begin.
+-- Assumes nothing.
+use Prim.Native.Nat.{ℕ, zero, suc, _+_, _*_}
+use mathlib.Core.Bool.{Bool, true, false, _&&_}
+use mathlib.Core.List.{List, []}
+use lib.ListN.{length, drop}
+use lib.Dec.{ltb, leb}
+use Rattle.format.specs.Slots.{byte}
+use Rattle.format.specs.Decode.{wordAt, pairOf}
+use Rattle.format.specs.declared.records.RegisterPair.{RegisterPair}
+use Rattle.parts.specs.declared.FoundBlock.{FoundBlock}
+use Rattle.parts.specs.declared.FoundBlock.the-variants.{Block, Nothing as NoBlock}
+use Rattle.parts.specs.declared.FoundPair.{FoundPair}
+use Rattle.parts.specs.declared.FoundPair.the-variants.{Pair, Nothing as NoPair}
+use Rattle.parts.specs.declared.FoundList.{FoundList}
+use Rattle.parts.specs.declared.FoundList.the-variants.{Entries, Nothing as NoList}
+
+-- an answer where a test holds
+abbrev pub whenList : Bool → ℕ → FoundList
+whenList true n = Entries n
+whenList false n = NoList
+
+abbrev pub whenPair : Bool → RegisterPair → FoundPair
+whenPair true p = Pair p
+whenPair false p = NoPair
+
+-- ENTRIES and that many pairs of four bytes stand whole at the head of the bytes
+abbrev pub wholeList : List ℕ → Bool
+wholeList q = leb (1 + 4 * byte q 0) (length q)
+
+-- the bytes past them
+abbrev pub afterList : List ℕ → List ℕ
+afterList q = drop (1 + 4 * byte q 0) q
+
+-- how many pairs they are
+abbrev pub listAt : List ℕ → FoundList
+listAt q = whenList (wholeList q) (byte q 0)
+
+-- pair i of them: its address and its data, two bytes each
+abbrev pub pairAt : List ℕ → ℕ → FoundPair
+pairAt q i = whenPair (wholeList q && ltb i (byte q 0)) (pairOf (wordAt (byte q) (1 + 4 * i)) (wordAt (byte q) (3 + 4 * i)))
+
+-- a speed block is SPEED and then ENTRIES and its pairs
+abbrev pub withSpeed : ℕ → FoundList → FoundBlock
+withSpeed s (Entries n) = Block (record { speed = record { 0 = s }; entries = n })
+withSpeed s NoList = NoBlock
+
+abbrev pub blockAt : List ℕ → FoundBlock
+blockAt r = withSpeed (byte r 0) (listAt (drop 1 r))
+
+-- the bytes past one speed block; none where it does not stand whole
+abbrev pub afterBlock : List ℕ → List ℕ
+afterBlock r = afterList (drop 1 r)
+
+-- the bytes from speed block j on
+abbrev pub blocksFrom : List ℕ → ℕ → List ℕ
+blocksFrom bs zero = bs
+blocksFrom bs (suc j) = blocksFrom (afterBlock bs) j
+
+-- 09h: speed block j, and register pair i of it
+abbrev pub blockIn : List ℕ → ℕ → FoundBlock
+blockIn bs j = blockAt (blocksFrom bs j)
+
+abbrev pub pairIn : List ℕ → ℕ → ℕ → FoundPair
+pairIn bs j i = pairAt (drop 1 (blocksFrom bs j)) i
+
+-- the bytes from the first block of 0Ah on, from the second, and there is no third
+abbrev pub listsFrom : List ℕ → ℕ → List ℕ
+listsFrom bs zero = bs
+listsFrom bs (suc zero) = afterList bs
+listsFrom bs (suc (suc w)) = []
+
+-- 0Ah: how many register pairs block w has, and pair i of it
+abbrev pub listIn : List ℕ → ℕ → FoundList
+listIn bs w = listAt (listsFrom bs w)
+
+abbrev pub listPairIn : List ℕ → ℕ → ℕ → FoundPair
+listPairIn bs w i = pairAt (listsFrom bs w) i
