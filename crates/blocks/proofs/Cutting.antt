@@ -22,14 +22,14 @@ pick-le false a b m h g = g
 
 pub past :
     (b : List ℕ) (c : Cut) {i k t : ℕ}
-    → i ≡ pick (ltb (c .at) (length b)) (c .at) 9
+    → i ≡ pick (ltb (c .at) (length b)) (c .at) 1
     → k ≡ getD b i 0
     → k < 256
     → t ≡ pick (ltb (c .at) (length b)) (c .at + 2 + 4 * k) (c .at)
     → (_≡_ {A = Cut} (record { at = t; full = c .full && not (eqb k 0) }) (pastBlock b c)) × (t ≤ c .at + 1022)
 unfolding pastBlock
 past b c {i} {k} {t} p q l r =
-    let e : k ≡ getD b (pick (ltb (c .at) (length b)) (c .at) 9) 0 = q ∙ ap (λ (j : ℕ). getD b j 0) p in
+    let e : k ≡ getD b (pick (ltb (c .at) (length b)) (c .at) 1) 0 = q ∙ ap (λ (j : ℕ). getD b j 0) p in
     (rw (r, e) refl, rw r (pick-le (ltb (c .at) (length b)) _ _ _ (omega arith) (omega arith)))
 
 pub six-turn : (b : List ℕ) (c c′ : Cut) (n : ℕ) → n < 6 → c′ ≡ pastBlock b c → cutFrom (6 - n) b c ≡ cutFrom (6 - (n + 1)) b c′

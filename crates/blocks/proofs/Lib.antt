@@ -1,3 +1,5 @@
 pub mod SixBlocks
 pub mod Cutting
 pub mod TwoBlocks
+pub mod Bound
+pub mod Shaped

@@ -24,16 +24,16 @@ abbrev cut : ℕ → Bool → Cut
 cut at full = record { at = at; full = full }
 
 -- past the end nothing moves
-past-end : (b : List ℕ) (at : ℕ) (f : Bool) → length b ≤ at → pastBlock b (cut at f) ≡ cut at (f && not (eqb (byte b 9) 0))
+past-end : (b : List ℕ) (at : ℕ) (f : Bool) → length b ≤ at → pastBlock b (cut at f) ≡ cut at (f && not (eqb (byte b 1) 0))
 unfolding pastBlock
 past-end b at f h = rw (le-ltb at (length b) h) refl
 
 stuck-at : (n : ℕ) (b : List ℕ) (at : ℕ) (f : Bool) → length b ≤ at → cutFrom n b (cut at f) .at ≡ at
 stuck-at zero b at f h = refl
 stuck-at (suc n) b at f h =
-    ap (λ (c : Cut). cutFrom n b c .at) (past-end b at f h) ∙ stuck-at n b at (f && not (eqb (byte b 9) 0)) h
+    ap (λ (c : Cut). cutFrom n b c .at) (past-end b at f h) ∙ stuck-at n b at (f && not (eqb (byte b 1) 0)) h
 
-stuck : (n : ℕ) (b : List ℕ) (at : ℕ) (f : Bool) → length b ≤ at → f && not (eqb (byte b 9) 0) ≡ f → cutFrom n b (cut at f) ≡ cut at f
+stuck : (n : ℕ) (b : List ℕ) (at : ℕ) (f : Bool) → length b ≤ at → f && not (eqb (byte b 1) 0) ≡ f → cutFrom n b (cut at f) ≡ cut at f
 stuck zero b at f h a = refl
 stuck (suc n) b at f h a =
     ap (cutFrom n b) (past-end b at f h ∙ ap (cut at) a) ∙ stuck n b at f h a
@@ -145,9 +145,9 @@ absorb false g x h = refl
 run-more :
     (n : ℕ) (b : List ℕ) (i : ℕ) (f : Bool) (left : ℕ)
     → i + 2 ≤ length b
-    → (f && not (eqb (byte b (i + 1)) 0)) && not (eqb (byte b 9) 0) ≡ f && not (eqb (byte b (i + 1)) 0)
+    → (f && not (eqb (byte b (i + 1)) 0)) && not (eqb (byte b 1) 0) ≡ f && not (eqb (byte b (i + 1)) 0)
     → length (drop i b) ≤ left
-    → ((j p : ℕ) (g : Bool) → j ≤ length b → g && not (eqb (byte b 9) 0) ≡ g → length (drop j b) ≤ p → Out n g (cutFrom n b (cut (j + 1) g)) (length b) (cutBlocks p (drop j b)))
+    → ((j p : ℕ) (g : Bool) → j ≤ length b → g && not (eqb (byte b 1) 0) ≡ g → length (drop j b) ≤ p → Out n g (cutFrom n b (cut (j + 1) g)) (length b) (cutBlocks p (drop j b)))
     → Out (suc n) f (cutFrom (suc n) b (cut (i + 1) f)) (length b) (cutBlocks left (drop i b))
 run-more n b i f left h a l ih = rw (past-one b i f (omega arith)) (go (ltb (length b) (i + 2 + 4 * byte b (i + 1))) refl)
   where
@@ -173,7 +173,7 @@ run-more n b i f left h a l ih = rw (past-one b i f (omega arith)) (go (ltb (len
 run-end :
     (n : ℕ) (b : List ℕ) (i : ℕ) (f : Bool) (left : ℕ)
     → i ≡ length b
-    → f && not (eqb (byte b 9) 0) ≡ f
+    → f && not (eqb (byte b 1) 0) ≡ f
     → Out n f (cutFrom n b (cut (i + 1) f)) (length b) (cutBlocks left (drop i b))
 run-end n b i f left h a =
     let r = stuck n b (i + 1) f (omega (arith, h)) a in
@@ -195,7 +195,7 @@ run-short n b i f left h =
 by-place :
     (n : ℕ) (b : List ℕ) (i : ℕ) (f : Bool) (left : ℕ)
     → i ≤ length b
-    → f && not (eqb (byte b 9) 0) ≡ f
+    → f && not (eqb (byte b 1) 0) ≡ f
     → (i + 2 ≤ length b → Out n f (cutFrom n b (cut (i + 1) f)) (length b) (cutBlocks left (drop i b)))
     → Out n f (cutFrom n b (cut (i + 1) f)) (length b) (cutBlocks left (drop i b))
 by-place n b i f left h a more = go (eqb i (length b)) refl (eqb (i + 1) (length b)) refl
@@ -216,7 +216,7 @@ by-place n b i f left h a more = go (eqb i (length b)) refl (eqb (i + 1) (length
 pub run :
     (n : ℕ) (b : List ℕ) (i : ℕ) (f : Bool) (left : ℕ)
     → i ≤ length b
-    → f && not (eqb (byte b 9) 0) ≡ f
+    → f && not (eqb (byte b 1) 0) ≡ f
     → length (drop i b) ≤ left
     → Out n f (cutFrom n b (cut (i + 1) f)) (length b) (cutBlocks left (drop i b))
 run zero b i f left h a l =
@@ -227,12 +227,12 @@ run zero b i f left h a l =
       bad = λ p w z. some-pos left (drop i b) w (omega (arith, length-drop i b)) z;
     })
 run (suc n) b i f left h a l =
-    by-place (suc n) b i f left h a (λ g. run-more n b i f left g (absorb f (not (eqb (byte b (i + 1)) 0)) (not (eqb (byte b 9) 0)) a) l (λ j p q. run n b j q p))
+    by-place (suc n) b i f left h a (λ g. run-more n b i f left g (absorb f (not (eqb (byte b (i + 1)) 0)) (not (eqb (byte b 1) 0)) a) l (λ j p q. run n b j q p))
 
 twice : (x : Bool) → (true && x) && x ≡ true && x
 twice true = refl
 twice false = refl
 
-pub six : (b : List ℕ) → 10 ≤ length b → Out 6 true (cutSix b) (length b) (cutBlocks (length b) (drop 8 b))
+pub six : (b : List ℕ) → 2 ≤ length b → Out 6 true (cutSix b) (length b) (cutBlocks (length b) b)
 six b h =
-    run-more 5 b 8 true (length b) h (twice (not (eqb (byte b 9) 0))) (omega (arith, length-drop 8 b)) (λ j p q. run 5 b j q p)
+    run-more 5 b 0 true (length b) h (twice (not (eqb (byte b 1) 0))) (omega arith) (λ j p q. run 5 b j q p)

@@ -7,8 +7,8 @@ use mathlib.Core.Path.{_≡_, refl, sym, _∙_, ap}
 use mathlib.Core.Bool.{Bool, true, false, false≢true}
 use mathlib.Core.List.{List, [], _∷_}
 use mathlib.Core.Option.{Option, none, some}
-use lib.ListN.{length, drop, length-drop, drop-of-length-le}
-use lib.Seq.{getD-drop, drop-drop}
+use lib.ListN.{length, drop, length-drop}
+use lib.Seq.{getD-drop}
 use lib.Dec.{eqb, ltb}
 use borrow.Author.Tests.{eqb-true, eqb-false, ltb-true, ltb-false, le-leb, lt-leb}
 use Rattle.format.specs.Slots.{byte}
@@ -59,53 +59,48 @@ module _ (bs : List ℕ) where
   both rest e h g =
       simp (entries-some bs h, ← e, entries-some rest (omega arith), nil-some (drop (suc (4 * byte rest 0)) rest) (readPairs (byte bs 0) (drop 1 bs), readPairs (byte rest 0) (drop 1 rest)) (omega (arith, length-drop (suc (4 * byte rest 0)) rest)))
 
-refused : (b : List ℕ) → (9 ≤ length b → cutTwo (drop 9 b) ≡ none) → TwoIs b false
-refused b h = record { good = λ e. absurd (false≢true e); bad = λ e. h }
+refused : (p : List ℕ) → cutTwo p ≡ none → TwoIs p false
+refused p h = record { good = λ e. absurd (false≢true e); bad = λ e. h }
 
-pub too-short : (b : List ℕ) → length b < 10 → TwoIs b false
-too-short b h = refused b (λ g. first-short (drop 9 b) (omega (arith, length-drop 9 b)))
+pub too-short : (p : List ℕ) → length p < 1 → TwoIs p false
+too-short p h = refused p (first-short p (omega arith))
 
 -- the code's places, k the first ENTRIES
-module _ (b : List ℕ) (k : ℕ) (e : k ≡ byte b 9) (long : 10 ≤ length b) where
-  first : byte (drop 9 b) 0 ≡ k
-  first = getD-drop 9 b 0 0 ∙ sym e
-
-  pub no-second : length b ≤ 10 + 4 * k → TwoIs b false
-  no-second h = refused b (λ g. go (eqb (length b) (10 + 4 * k)) refl)
+module _ (p : List ℕ) (k : ℕ) (e : k ≡ byte p 0) where
+  pub no-second : 1 ≤ length p → length p ≤ 1 + 4 * k → TwoIs p false
+  no-second l h = refused p (go (eqb (length p) (1 + 4 * k)) refl)
     where
-      go : (t : Bool) → eqb (length b) (10 + 4 * k) ≡ t → cutTwo (drop 9 b) ≡ none
+      go : (t : Bool) → eqb (length p) (1 + 4 * k) ≡ t → cutTwo p ≡ none
       go true q =
-          second-short (drop 9 b) (drop (suc (4 * byte (drop 9 b) 0)) (drop 9 b)) refl
-          (omega (arith, first, length-drop 9 b, eqb-true (length b) (10 + 4 * k) q))
-          (omega (arith, first, length-drop 9 b, length-drop (suc (4 * byte (drop 9 b) 0)) (drop 9 b), eqb-true (length b) (10 + 4 * k) q))
-      go false q = first-short (drop 9 b) (omega (arith, first, length-drop 9 b, eqb-false (length b) (10 + 4 * k) q))
+          second-short p (drop (suc (4 * byte p 0)) p) refl
+          (omega (arith, e, eqb-true (length p) (1 + 4 * k) q))
+          (omega (arith, e, length-drop (suc (4 * byte p 0)) p, eqb-true (length p) (1 + 4 * k) q))
+      go false q = first-short p (omega (arith, e, eqb-false (length p) (1 + 4 * k) q))
 
-  pub by-second : (m : ℕ) → m ≡ byte b (10 + 4 * k) → 10 + 4 * k < length b → TwoIs b (eqb (length b) (10 + 4 * k + 1 + 4 * m))
-  by-second m f h = go (eqb (length b) (10 + 4 * k + 1 + 4 * m)) refl
+  pub by-second : (m : ℕ) → m ≡ byte p (1 + 4 * k) → 1 + 4 * k < length p → TwoIs p (eqb (length p) (1 + 4 * k + 1 + 4 * m))
+  by-second m f h = go (eqb (length p) (1 + 4 * k + 1 + 4 * m)) refl
     where
-      same : (drop (10 + 4 * k) b) ≡ drop (suc (4 * byte (drop 9 b) 0)) (drop 9 b)
-      same =
-          let n : 10 + 4 * k ≡ 9 + suc (4 * byte (drop 9 b) 0) = omega (arith, first) in
-          ap (λ (n : ℕ). drop n b) n ∙ sym (drop-drop (suc (4 * byte (drop 9 b) 0)) 9 b)
+      same : drop (1 + 4 * k) p ≡ drop (suc (4 * byte p 0)) p
+      same = let n : 1 + 4 * k ≡ suc (4 * byte p 0) = omega (arith, e) in ap (λ (n : ℕ). drop n p) n
 
-      room : 1 + 4 * byte (drop 9 b) 0 ≤ length (drop 9 b)
-      room = omega (arith, first, length-drop 9 b)
+      room : 1 + 4 * byte p 0 ≤ length p
+      room = omega (arith, e)
 
-      second : byte (drop (10 + 4 * k) b) 0 ≡ m
-      second = getD-drop (10 + 4 * k) b 0 0 ∙ rw add-zero (sym f)
+      second : byte (drop (1 + 4 * k) p) 0 ≡ m
+      second = getD-drop (1 + 4 * k) p 0 0 ∙ rw add-zero (sym f)
 
-      left : length (drop (10 + 4 * k) b) + (10 + 4 * k) ≡ length b
-      left = omega (arith, length-drop (10 + 4 * k) b)
+      left : length (drop (1 + 4 * k) p) + (1 + 4 * k) ≡ length p
+      left = omega (arith, length-drop (1 + 4 * k) p)
 
-      neither : (length b ≡ 10 + 4 * k + 1 + 4 * m → ⊥) → (u : Bool) → ltb (length (drop (10 + 4 * k) b)) (1 + 4 * m) ≡ u → cutTwo (drop 9 b) ≡ none
-      neither n true q = second-short (drop 9 b) (drop (10 + 4 * k) b) same room (omega (arith, second, ltb-true (length (drop (10 + 4 * k) b)) (1 + 4 * m) q))
+      neither : (length p ≡ 1 + 4 * k + 1 + 4 * m → ⊥) → (u : Bool) → ltb (length (drop (1 + 4 * k) p)) (1 + 4 * m) ≡ u → cutTwo p ≡ none
+      neither n true q = second-short p (drop (1 + 4 * k) p) same room (omega (arith, second, ltb-true (length (drop (1 + 4 * k) p)) (1 + 4 * m) q))
       neither n false q =
-          second-long (drop 9 b) (drop (10 + 4 * k) b) same room (omega (arith, second, left, ltb-false (length (drop (10 + 4 * k) b)) (1 + 4 * m) q, n))
+          second-long p (drop (1 + 4 * k) p) same room (omega (arith, second, left, ltb-false (length (drop (1 + 4 * k) p)) (1 + 4 * m) q, n))
 
-      go : (t : Bool) → eqb (length b) (10 + 4 * k + 1 + 4 * m) ≡ t → TwoIs b t
+      go : (t : Bool) → eqb (length p) (1 + 4 * k + 1 + 4 * m) ≡ t → TwoIs p t
       go true q =
           record {
-            good = λ z. (omega arith, (_, both (drop 9 b) (drop (10 + 4 * k) b) same room (omega (arith, second, left, eqb-true (length b) (10 + 4 * k + 1 + 4 * m) q))));
+            good = λ z. (_, both p (drop (1 + 4 * k) p) same room (omega (arith, second, left, eqb-true (length p) (1 + 4 * k + 1 + 4 * m) q)));
             bad = λ z. absurd (false≢true (sym z));
           }
-      go false q = refused b (λ g. neither (eqb-false (length b) (10 + 4 * k + 1 + 4 * m) q) (ltb (length (drop (10 + 4 * k) b)) (1 + 4 * m)) refl)
+      go false q = refused p (neither (eqb-false (length p) (1 + 4 * k + 1 + 4 * m) q) (ltb (length (drop (1 + 4 * k) p)) (1 + 4 * m)) refl)

@@ -5,7 +5,7 @@ use mathlib.Core.Path.{_≡_}
 use mathlib.Core.Bool.{Bool, true, false, _&&_, not}
 use mathlib.Core.List.{List}
 use mathlib.Core.Option.{Option, none, some}
-use lib.ListN.{length, getD, drop}
+use lib.ListN.{length, getD}
 use lib.Dec.{eqb, ltb}
 use Rattle.format.specs.Records.{Block}
 use Rattle.format.specs.Rules.{filled}
@@ -21,7 +21,7 @@ pick false a b = b
 unfoldable pub pastBlock : List ℕ → Cut → Cut
 pastBlock b c =
     let more = ltb (c .at) (length b) in
-    let k = getD b (pick more (c .at) 9) 0 in
+    let k = getD b (pick more (c .at) 1) 0 in
     record { at = pick more (c .at + 2 + 4 * k) (c .at); full = c .full && not (eqb k 0) }
 
 abbrev pub cutFrom : ℕ → List ℕ → Cut → Cut
@@ -29,18 +29,18 @@ cutFrom zero b c = c
 cutFrom (suc n) b c = cutFrom n b (pastBlock b c)
 
 abbrev pub cutSix : List ℕ → Cut
-cutSix b = cutFrom 6 b (record { at = 9; full = true })
+cutSix b = cutFrom 6 b (record { at = 1; full = true })
 
 -- at most n blocks more: they fill the bytes, and are filled themselves, or there are more of them or none
 pub record Out (n : ℕ) (f : Bool) (r : Cut) (len : ℕ) (o : Option (List Block)) : Type 0 where
   pub good : r .at ≡ len + 1 → (l : List Block) × (o ≡ some l) × (length l ≤ n) × (r .full ≡ f && filled l)
   pub bad : (r .at ≡ len + 1 → ⊥) → (l : List Block) → o ≡ some l → n < length l
 
--- 09h: the speed blocks from 8
+-- 09h: the speed blocks of a part
 abbrev pub CutIs : List ℕ → Cut → Type 0
-CutIs b r = Out 6 true r (length b) (cutBlocks (length b) (drop 8 b))
+CutIs p r = Out 6 true r (length p) (cutBlocks (length p) p)
 
--- 0Ah: the two blocks from 9
-pub record TwoIs (b : List ℕ) (r : Bool) : Type 0 where
-  pub good : r ≡ true → (9 ≤ length b) × ((t : List RegisterPair × List RegisterPair) × (cutTwo (drop 9 b) ≡ some t))
-  pub bad : r ≡ false → 9 ≤ length b → cutTwo (drop 9 b) ≡ none
+-- 0Ah: the two blocks of a part
+pub record TwoIs (p : List ℕ) (r : Bool) : Type 0 where
+  pub good : r ≡ true → (t : List RegisterPair × List RegisterPair) × (cutTwo p ≡ some t)
+  pub bad : r ≡ false → cutTwo p ≡ none

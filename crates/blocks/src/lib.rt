@@ -1,4 +1,4 @@
-// The blocks of 09h and 0Ah, which are to fill an element's bytes exactly. The slices start after the element's header.
+// The blocks of 09h and 0Ah, which are to fill an element's part exactly: its bytes from the first block on.
 ghost use mathlib.Core.Path.{_≡_};
 ghost use Prim.Native.Nat.{_+_, _<_, _≤_};
 ghost use lib.ListN.{length};
@@ -17,52 +17,52 @@ fn wide(x: u8) -> usize
 }
 
 // Past one block more, where there is one; past the end the first ENTRIES byte is looked at again.
-fn past_block(b: &[u8], c: Cut) -> Cut
-    requires { ⌜ (10 ≤ length (now b)) × (c .at ≤ 100000) ⌝ }
-    ensures { λ r. ⌜ (r ≡ pastBlock (now (b .entry)) c) × (r .at ≤ c .at + 1022) ⌝ }
+fn past_block(p: &[u8], c: Cut) -> Cut
+    requires { ⌜ (2 ≤ length (now p)) × (c .at ≤ 100000) ⌝ }
+    ensures { λ r. ⌜ (r ≡ pastBlock (now (p .entry)) c) × (r .at ≤ c .at + 1022) ⌝ }
 {
     let at = c.at;
-    let more = at < b.len();
-    let i = if more { at } else { 9 };
-    let k = wide(b[i]);
+    let more = at < p.len();
+    let i = if more { at } else { 1 };
+    let k = wide(p[i]);
     Cut {
         at: if more { at + 2 + 4 * k } else { at },
         full: c.full & (k != 0),
     }
 }
 
-fn six_blocks(b: &[u8]) -> Cut
-    requires { ⌜ 10 ≤ length (now b) ⌝ }
-    ensures { λ r. ⌜ r ≡ cutSix (now (b .entry)) ⌝ }
+fn six_blocks(p: &[u8]) -> Cut
+    requires { ⌜ 2 ≤ length (now p) ⌝ }
+    ensures { λ r. ⌜ r ≡ cutSix (now (p .entry)) ⌝ }
 {
-    let mut c = Cut { at: 9, full: true };
+    let mut c = Cut { at: 1, full: true };
     let mut n: usize = 0;
     while n < 6 {
-        c = past_block(b, c);
+        c = past_block(p, c);
         n += 1;
     }
     c
 }
 
-// 09h: six speed blocks at most, from 8. They fill the bytes where the next ENTRIES byte would be one past the end.
-pub fn cut_blocks(b: &[u8]) -> Cut
-    requires { ⌜ 10 ≤ length (now b) ⌝ }
-    ensures { λ r. ⌜ CutIs (now (b .entry)) r ⌝ }
+// 09h: six speed blocks at most. They fill the part where the next ENTRIES byte would be one past the end.
+pub fn cut_blocks(p: &[u8]) -> Cut
+    requires { ⌜ 2 ≤ length (now p) ⌝ }
+    ensures { λ r. ⌜ CutIs (now (p .entry)) r ⌝ }
 {
-    six_blocks(b)
+    six_blocks(p)
 }
 
-// 0Ah: two blocks of ENTRIES and pairs fill the bytes from 9.
-pub fn two_blocks(b: &[u8]) -> bool
-    ensures { λ r. ⌜ TwoIs (now (b .entry)) r ⌝ }
+// 0Ah: two blocks of ENTRIES and pairs fill the part.
+pub fn two_blocks(p: &[u8]) -> bool
+    ensures { λ r. ⌜ TwoIs (now (p .entry)) r ⌝ }
 {
-    let n = b.len();
-    if n < 10 {
+    let n = p.len();
+    if n < 1 {
         return false;
     }
-    let second = 10 + 4 * wide(b[9]);
+    let second = 1 + 4 * wide(p[0]);
     if n <= second {
         return false;
     }
-    n == second + 1 + 4 * wide(b[second])
+    n == second + 1 + 4 * wide(p[second])
 }

@@ -1,12 +1,13 @@
 -- From what the code finds of one kind to what is to be found: no record is there, or the one that is decoded is judged.
 -- Assumes nothing.
-use Prim.Native.Nat.{ℕ, suc, _+_, _*_, _<_, _≤_}
+use Prim.Native.Nat.{ℕ, suc, _+_, _-_, _*_, _<_, _≤_}
 use native.Mathlib.Omega.{arith}
 use mathlib.Core.Path.{_≡_, refl, sym, _∙_, ap, subst}
 use mathlib.Core.Bool.{Bool, true, false, _&&_, false≢true}
 use mathlib.Core.List.{List, [], _∷_}
 use mathlib.Core.Option.{Option, none, some}
-use lib.ListN.{length, drop, length-drop, drop-of-length-le}
+use lib.ListN.{length, take, drop, length-drop, drop-of-length-le}
+use lib.Seq.{take-all}
 use lib.Dec.{eqb, leb}
 use borrow.Author.Tests.{eq-eqb, ne-eqb, le-leb, lt-leb, leb-true, leb-false}
 use Rattle.format.specs.Slots.{byte}
@@ -17,7 +18,11 @@ use Rattle.format.specs.Decode.{decode, readDigital, readAnalogue, readFan, rea
 use Rattle.format.specs.declared.records.RegisterPair.{RegisterPair}
 use Rattle.format.specs.declared.records.BusDevice.{BusDevice}
 use Rattle.format.proofs.Blocks.{cut-nil}
+use Rattle.blocks.specs.Cutting.{CutIs, TwoIs}
+use Rattle.blocks.specs.declared.Cut.{Cut}
 use Rattle.blocks.proofs.SixBlocks.{bad-short, some-pos}
+use Rattle.blocks.proofs.Bound.{cut-bound}
+use Rattle.blocks.proofs.Shaped.{misshapen, over-six, up-to-six}
 use Rattle.claims.specs.Taken.{ClaimsAre}
 use Rattle.claims.specs.declared.Claims.{Claims}
 use Rattle.rules.specs.Broken.{orElse}
@@ -67,6 +72,16 @@ module _ (id : ℕ) (c : List ℕ) (r : Found) where
             subst (λ (z : Record). ClaimsAre (r .claims) (claimsOf at z)) v
             (rw s (f at h (own-pinned (kind x) (sym p ∙ sym q ∙ n))));
       }
+
+-- the part of an element, as the code takes it
+rest : (n : ℕ) (b : List ℕ) → take (length b - n) (drop n b) ≡ drop n b
+rest n b = take-all (length b - n) (drop n b) (omega (arith, length-drop n b))
+
+pub cut-rest : (n : ℕ) (b : List ℕ) (r : Cut) → CutIs (take (length b - n) (drop n b)) r → CutIs (drop n b) r
+cut-rest n b r h = subst (λ (p : List ℕ). CutIs p r) (rest n b) h
+
+pub two-rest : (n : ℕ) (b : List ℕ) (r : Bool) → TwoIs (take (length b - n) (drop n b)) r → TwoIs (drop n b) r
+two-rest n b r h = subst (λ (p : List ℕ). TwoIs p r) (rest n b) h
 
 -- what is decoded, by kind
 pub digital-none : (c : List ℕ) → (length c ≡ 18 → ⊥) → decode 1 c ≡ none
@@ -121,7 +136,7 @@ controller-none : (c : List ℕ) → length c < 8 → decode 9 c ≡ none
 unfolding decode
 controller-none c h = simp (lt-leb 8 (length c) h)
 
-tachometer-none : (c : List ℕ) → length c < 9 → decode 10 c ≡ none
+pub tachometer-none : (c : List ℕ) → length c < 9 → decode 10 c ≡ none
 unfolding decode
 tachometer-none c h = simp (lt-leb 9 (length c) h)
 
@@ -134,17 +149,14 @@ controller-by :
 unfolding decode
 controller-by c o h e = simp (le-leb 8 (length c) h, e)
 
-misshapen : (d : BusDevice) (l : List Block) → shaped (controller d l) ≡ false → ownFault (some (controller d l)) ≡ 8
-unfolding ownRules
-misshapen d l h = rw h
-
-over-six : (d : BusDevice) (l : List Block) → 6 < length l → shaped (controller d l) ≡ false
-over-six d l h = rw (le-leb 1 (length l) (omega arith), lt-leb (length l) 6 h)
+-- the part from 8, under the part's own bound
+part-cut : (c : List ℕ) → cutBlocks (length c) (drop 8 c) ≡ cutBlocks (length (drop 8 c)) (drop 8 c)
+part-cut c = cut-bound (length c) (length (drop 8 c)) (drop 8 c) (omega (arith, length-drop 8 c)) (omega arith)
 
 pub controller-bad :
     (c : List ℕ)
     → 8 ≤ length c
-    → ((l : List Block) → cutBlocks (length c) (drop 8 c) ≡ some l → 6 < length l)
+    → ((l : List Block) → cutBlocks (length (drop 8 c)) (drop 8 c) ≡ some l → 6 < length l)
     → ownFault (decode 9 c) ≡ 8
 controller-bad c h f = go (cutBlocks (length c) (drop 8 c)) refl
   where
@@ -152,7 +164,7 @@ controller-bad c h f = go (cutBlocks (length c) (drop 8 c)) refl
     go none e = ap ownFault (controller-by c none h e)
     go (some l) e =
         ap ownFault (controller-by c (some l) h e)
-        ∙ misshapen (readDevice (byte c)) l (over-six (readDevice (byte c)) l (f l e))
+        ∙ misshapen (readDevice (byte c)) l (over-six (readDevice (byte c)) l (f l (sym (part-cut c) ∙ e)))
 
 pub controller-short : (c : List ℕ) → length c < 10 → ownFault (decode 9 c) ≡ 8
 controller-short c h = go (leb 8 (length c)) refl (leb 9 (length c)) refl
@@ -177,12 +189,12 @@ controller-short c h = go (leb 8 (length c)) refl (leb 9 (length c)) refl
 pub controller-good :
     (c : List ℕ) (l : List Block)
     → 10 ≤ length c
-    → cutBlocks (length c) (drop 8 c) ≡ some l
+    → cutBlocks (length (drop 8 c)) (drop 8 c) ≡ some l
     → length l ≤ 6
     → (decode 9 c ≡ some (controller (readDevice (byte c)) l)) × ((d : BusDevice) → shaped (controller d l) ≡ true)
 controller-good c l h e n =
-    let p = some-pos (length c) (drop 8 c) l (omega (arith, length-drop 8 c)) e in
-    (controller-by c (some l) (omega arith) e, λ d. rw (le-leb 1 (length l) (omega arith), le-leb (length l) 6 n))
+    let p = some-pos (length (drop 8 c)) (drop 8 c) l (omega (arith, length-drop 8 c)) e in
+    (controller-by c (some l) (omega arith) (part-cut c ∙ e), λ d. up-to-six d l p n)
 
 -- 0Ah
 tachometer-by :
@@ -193,12 +205,8 @@ tachometer-by :
 unfolding decode
 tachometer-by c o h e = simp (le-leb 9 (length c) h, e)
 
-pub tachometer-bad : (c : List ℕ) → (9 ≤ length c → cutTwo (drop 9 c) ≡ none) → decode 10 c ≡ none
-tachometer-bad c f = go (leb 9 (length c)) refl
-  where
-    go : (t : Bool) → leb 9 (length c) ≡ t → decode 10 c ≡ none
-    go true e = let h = leb-true 9 (length c) e in tachometer-by c none h (f h)
-    go false e = tachometer-none c (leb-false 9 (length c) e)
+pub tachometer-bad : (c : List ℕ) → 9 ≤ length c → cutTwo (drop 9 c) ≡ none → decode 10 c ≡ none
+tachometer-bad c h e = tachometer-by c none h e
 
 pub tachometer-good :
     (c : List ℕ) (t : List RegisterPair × List RegisterPair)

@@ -89,8 +89,9 @@ fn controller_found(b: &[u8]) -> Found
     if b.len() < 10 {
         return refused(8);
     }
-    let c = blocks::cut_blocks(b);
-    if c.at != b.len() + 1 {
+    let p = &b[8..];
+    let c = blocks::cut_blocks(p);
+    if c.at != p.len() + 1 {
         return refused(8);
     }
     let d = fields::device(b);
@@ -102,7 +103,11 @@ fn controller_found(b: &[u8]) -> Found
 fn tachometer_found(b: &[u8]) -> Found
     ensures { λ r. ⌜ Judged 10 (now (b .entry)) r ⌝ }
 {
-    if !blocks::two_blocks(b) {
+    if b.len() < 9 {
+        return refused(8);
+    }
+    let p = &b[9..];
+    if !blocks::two_blocks(p) {
         return refused(8);
     }
     let d = fields::device(b);

@@ -6,17 +6,12 @@ use Rattle.blocks.proofs.SixBlocks.{six}
 use borrow.Author.Needs.{needs}
 use Rattle.blocks.proofs.cut_blocks.Statement.{statement}
 use Rattle.blocks.proofs.cut_blocks.Tie as tie
-use Rattle.blocks.proofs.cut_blocks.Reads as reads
-use Rattle.blocks.proofs.cut_blocks.Lts as lts
-use Rattle.blocks.proofs.six_blocks.Reads as six-blocks-reads
 
--- src/lib.rt:52:5
 six-blocks-requires : tie.Need-six-blocks-requires
 six-blocks-requires c κs = search needs
 
--- src/lib.rt:48:1
 returns : tie.Need-returns
-returns c = rw (c .six-blocks .ensures) (six (now (c .before .before .args .b)) (omega arith))
+returns c = rw (c .six-blocks .ensures) (six (now (c .before .before .args .p)) (omega arith))
 
 pub cut-blocks-spec : {M : Type 1} → statement M
 cut-blocks-spec = tie.close (tie.spec six-blocks-requires returns)

@@ -1,0 +1,160 @@
+// What the writer asks of a record before it writes: 25, and 8, 9 and 10 of an element with its part. 8, 9 and 10 are found by
+// the functions that the reader calls too.
+ghost use mathlib.Core.Path.{_≡_};
+ghost use lib.ListN.{length};
+ghost use lib.Dec.{eqb};
+ghost use Rattle.format.specs.Slots.{halves, roomy, allRoomy};
+ghost use Rattle.format.specs.Layout.{device};
+ghost use Rattle.format.specs.Rules.{numbered, descriptionHeld, held};
+ghost use Rattle.format.specs.Writing.{partBreaks};
+ghost use Rattle.format.specs.declared.records.Element.the-variants.{Digital, Analogue, Led, Controller, Tachometer, Zone, Text};
+ghost use Rattle.rules.specs.Broken.{orElse};
+use format::records::Address;
+use format::records::AnalogueSensor;
+use format::records::BusDevice;
+use format::records::Description;
+use format::records::DigitalSensor;
+use format::records::Element;
+use format::records::Lamp;
+use format::records::StatusLed;
+
+// 25 of the description: no number is too large for its field.
+pub fn description_held(d: Description) -> bool
+    ensures { λ r. ⌜ r ≡ descriptionHeld d ⌝ }
+{
+    (d.serial < 0x1000000) & (d.power.0 < 128)
+}
+
+// Of a bus type and an address.
+fn address_held(bus: u8, a: Address) -> bool
+    ensures { λ r. ⌜ r ≡ allRoomy (device bus a) ⌝ }
+{
+    match a {
+        Address::Bus(n) => (bus < 16) & (n < 128),
+        Address::Select(_) => bus < 16,
+    }
+}
+
+// 01h
+fn digital_held(d: DigitalSensor) -> bool
+    ensures { λ r. ⌜ r ≡ held (Digital d) ⌝ }
+{
+    let a = d.address;
+    address_held(d.bus, a)
+}
+
+// 02h
+fn analogue_held(a: AnalogueSensor) -> bool
+    ensures { λ r. ⌜ r ≡ held (Analogue a) ⌝ }
+{
+    a.thermal < 16
+}
+
+// COLOR and PURPOSE of one lamp.
+fn lamp_held(l: Lamp) -> bool
+    ensures { λ r. ⌜ r ≡ roomy (halves (l .colour) (l .purpose)) ⌝ }
+{
+    (l.colour < 16) & (l.purpose < 16)
+}
+
+// 04h
+fn led_held(l: StatusLed) -> bool
+    ensures { λ r. ⌜ r ≡ held (Led l) ⌝ }
+{
+    let a = l.one;
+    let b = l.two;
+    let c = l.three;
+    lamp_held(a) & (lamp_held(b) & lamp_held(c))
+}
+
+// 09h and 0Ah
+fn device_held(d: BusDevice) -> bool
+    ensures { λ r. ⌜ (r ≡ held (Controller d)) × (r ≡ held (Tachometer d)) ⌝ }
+{
+    let a = d.address;
+    address_held(d.bus, a)
+}
+
+// 25 of an element. The numbers of the kinds that are always held fit by their types.
+pub fn element_held(e: Element) -> bool
+    ensures { λ r. ⌜ r ≡ held e ⌝ }
+{
+    match e {
+        Element::Digital(d) => digital_held(d),
+        Element::Analogue(a) => analogue_held(a),
+        Element::Fan(_) => true,
+        Element::Led(l) => led_held(l),
+        Element::Current(_) => true,
+        Element::Controller(d) => device_held(d),
+        Element::Tachometer(d) => device_held(d),
+        Element::Zone => true,
+        Element::Text => true,
+        Element::Rgb(_) => true,
+    }
+}
+
+// Of a kind without a part: 8 where there is one.
+fn unless_empty(part: &[u8], fault: u8) -> u8
+    ensures { λ r. ⌜ r ≡ orElse (eqb (length (now (part .entry))) 0) 8 fault ⌝ }
+{
+    if part.len() == 0 { fault } else { 8 }
+}
+
+// 09h
+fn controller_breaks(d: BusDevice, part: &[u8]) -> u8
+    ensures { λ r. ⌜ r ≡ numbered (partBreaks (Controller d) (now (part .entry))) ⌝ }
+{
+    if part.len() < 2 {
+        return 8;
+    }
+    let c = blocks::cut_blocks(part);
+    if c.at != part.len() + 1 {
+        return 8;
+    }
+    rules::device_breaks(d, c.full)
+}
+
+// 0Ah
+fn tachometer_breaks(d: BusDevice, part: &[u8]) -> u8
+    ensures { λ r. ⌜ r ≡ numbered (partBreaks (Tachometer d) (now (part .entry))) ⌝ }
+{
+    if !blocks::two_blocks(part) {
+        return 8;
+    }
+    rules::device_breaks(d, true)
+}
+
+// 0Bh: 30 bytes with the header.
+fn zone_breaks(part: &[u8]) -> u8
+    ensures { λ r. ⌜ r ≡ numbered (partBreaks Zone (now (part .entry))) ⌝ }
+{
+    if part.len() == 27 { 0 } else { 8 }
+}
+
+// 0Ch: its number and two bytes at least, and the number not 0.
+fn text_breaks(part: &[u8]) -> u8
+    ensures { λ r. ⌜ r ≡ numbered (partBreaks Text (now (part .entry))) ⌝ }
+{
+    if part.len() < 3 {
+        return 8;
+    }
+    if part[0] == 0 { 9 } else { 0 }
+}
+
+// The first of 8, 9 and 10 that an element with its part breaks, or 0.
+pub fn part_breaks(e: Element, part: &[u8]) -> u8
+    ensures { λ r. ⌜ r ≡ numbered (partBreaks e (now (part .entry))) ⌝ }
+{
+    match e {
+        Element::Digital(d) => unless_empty(part, rules::digital_breaks(d)),
+        Element::Analogue(a) => unless_empty(part, rules::analogue_breaks(a)),
+        Element::Fan(f) => unless_empty(part, rules::fan_breaks(f)),
+        Element::Led(l) => unless_empty(part, rules::led_breaks(l)),
+        Element::Current(c) => unless_empty(part, rules::current_breaks(c)),
+        Element::Controller(d) => controller_breaks(d, part),
+        Element::Tachometer(d) => tachometer_breaks(d, part),
+        Element::Zone => zone_breaks(part),
+        Element::Text => text_breaks(part),
+        Element::Rgb(c) => unless_empty(part, rules::rgb_breaks(c)),
+    }
+}

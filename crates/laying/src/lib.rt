@@ -1,0 +1,136 @@
+// From records to bytes in a lent buffer: reserved places at zero, every other byte of the buffer as it was.
+ghost use mathlib.Core.Path.{_≡_};
+ghost use mathlib.Core.Bool.{true};
+ghost use mathlib.Core.List.{_∷_};
+ghost use Prim.Native.Nat.{_+_, _<_, _≤_};
+ghost use lib.ListN.{length};
+ghost use Rattle.format.specs.Slots.{byteOf, flag, roomy, whole, word, written};
+ghost use Rattle.format.specs.Layout.{opening, fixed};
+ghost use Rattle.format.specs.Rules.{descriptionHeld, held};
+ghost use Rattle.format.specs.Writing.{elementSlots, overwritten};
+
+mod kinds;
+
+use elements::id_of;
+use format::records::Description;
+use format::records::Element;
+use kinds::RESERVED;
+
+// How many bytes an element's fixed fields are, its header not counted.
+pub fn fixed_length(e: Element) -> usize
+    ensures { λ r. ⌜ r ≡ length (fixed e) ⌝ }
+{
+    match e {
+        Element::Digital(_) => 18,
+        Element::Analogue(_) => 17,
+        Element::Fan(_) => 13,
+        Element::Led(_) => 11,
+        Element::Current(_) => 11,
+        Element::Controller(_) => 8,
+        Element::Tachometer(_) => 9,
+        Element::Zone => 0,
+        Element::Text => 0,
+        Element::Rgb(_) => 8,
+    }
+}
+
+// The new bytes from a place on.
+fn copy_into(buf: &mut [u8], at: usize, new: &[u8])
+    requires { ⌜ at + length (now new) ≤ length (now buf) ⌝ }
+    ensures { λ _. ⌜ now (buf .exit) ≡ overwritten at (now (new .entry)) (now (buf .entry)) ⌝ }
+{
+    let mut j = 0;
+    while j < new.len() {
+        buf[at + j] = new[j];
+        j += 1;
+    }
+}
+
+// The header of an element of so many bytes: its identifier, then its length, lowest byte first.
+fn header(id: u8, n: usize) -> [u8; 3]
+    requires { ⌜ n < 65536 ⌝ }
+    ensures { λ r. ⌜ r ≡ written (whole id ∷ word n) ⌝ }
+{
+    [id, (n % 256) as u8, (n / 256) as u8]
+}
+
+// An element's fixed fields.
+fn put_fixed(buf: &mut [u8], at: usize, e: Element)
+    requires { ⌜ (held e ≡ true) × (at + length (fixed e) ≤ length (now buf)) ⌝ }
+    ensures { λ _. ⌜ now (buf .exit) ≡ overwritten at (written (fixed e)) (now (buf .entry)) ⌝ }
+{
+    match e {
+        Element::Digital(d) => copy_into(buf, at, &kinds::digital(d)),
+        Element::Analogue(a) => copy_into(buf, at, &kinds::analogue(a)),
+        Element::Fan(f) => copy_into(buf, at, &kinds::fan(f)),
+        Element::Led(l) => copy_into(buf, at, &kinds::led(l)),
+        Element::Current(c) => copy_into(buf, at, &kinds::current(c)),
+        Element::Controller(d) => copy_into(buf, at, &kinds::controller(d)),
+        Element::Tachometer(d) => copy_into(buf, at, &kinds::tachometer(d)),
+        Element::Zone => {}
+        Element::Text => {}
+        Element::Rgb(c) => copy_into(buf, at, &kinds::rgb(c)),
+    }
+}
+
+// A flag in bit 7, a number in bits 6-0.
+fn flag_byte(t: bool, v: u8) -> u8
+    requires { ⌜ roomy (flag t v) ≡ true ⌝ }
+    ensures { λ r. ⌜ r ≡ byteOf (flag t v) ⌝ }
+{
+    if t { 128 + v } else { v }
+}
+
+// The bytes of a description, in a table of 16 bytes.
+fn description_bytes(d: Description) -> [u8; 16]
+    requires { ⌜ descriptionHeld d ≡ true ⌝ }
+    ensures { λ r. ⌜ r ≡ written (opening d 16) ⌝ }
+{
+    let power = flag_byte(d.spwr, d.power.0);
+    [
+        1,
+        16,
+        0,
+        d.device,
+        d.string,
+        (d.serial % 256) as u8,
+        (d.serial / 256 % 256) as u8,
+        (d.serial / 65536) as u8,
+        power,
+        d.revision0.0,
+        d.revision1.0,
+        d.revision2.0,
+        RESERVED,
+        RESERVED,
+        RESERVED,
+        RESERVED,
+    ]
+}
+
+// The description of a table of 16 bytes.
+pub fn put_description(buf: &mut [u8], d: Description)
+    requires { ⌜ (16 ≤ length (now buf)) × (descriptionHeld d ≡ true) ⌝ }
+    ensures { λ _. ⌜ now (buf .exit) ≡ overwritten 0 (written (opening d 16)) (now (buf .entry)) ⌝ }
+{
+    copy_into(buf, 0, &description_bytes(d));
+}
+
+// An element with its part, from a place on.
+pub fn put_element(buf: &mut [u8], at: usize, e: Element, part: &[u8])
+    requires { ⌜ (held e ≡ true) × (length (elementSlots e (now part)) ≤ 4096) × (at + length (elementSlots e (now part)) ≤ length (now buf)) ⌝ }
+    ensures { λ _. ⌜ now (buf .exit) ≡ overwritten at (written (elementSlots e (now (part .entry)))) (now (buf .entry)) ⌝ }
+{
+    let n = fixed_length(e);
+    let head = header(id_of(e), 3 + n + part.len());
+    copy_into(buf, at, &head);
+    put_fixed(buf, at + 3, e);
+    copy_into(buf, at + 3 + n, part);
+}
+
+// The table's length in bytes 1-2.
+pub fn put_length(buf: &mut [u8], n: usize)
+    requires { ⌜ (3 ≤ length (now buf)) × (n < 65536) ⌝ }
+    ensures { λ _. ⌜ now (buf .exit) ≡ overwritten 1 (written (word n)) (now (buf .entry)) ⌝ }
+{
+    copy_into(buf, 1, &[(n % 256) as u8, (n / 256) as u8]);
+}

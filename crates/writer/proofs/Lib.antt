@@ -1,0 +1,6 @@
+pub mod Answering
+pub mod Assembled
+pub mod Standing
+pub mod Demand2
+pub mod Only
+pub mod Refusals
