@@ -8,21 +8,30 @@ long write(int file, const void *from, number count);
 void *mmap(void *where, number length, int access, int kind, int file, long offset);
 void *memcpy(void *to, const void *from, number count);
 void *memmove(void *to, const void *from, number count);
+void *memset(void *to, int value, number count);
+int memcmp(const void *one, const void *other, number count);
 void _exit(int status);
 
 number esa_check(const byte *table, number length);
 /* Weak, so that an archive without them links too: their modes then answer NO_SUCH_CALL. */
 __attribute__((weak)) number esa_element(const byte *table, number length, number k);
 __attribute__((weak)) number esa_part_length(const byte *table, number length, number k);
+__attribute__((weak)) number esa_start(byte *buffer, number length, const byte *numbers);
+__attribute__((weak)) number esa_append(byte *buffer, number length, byte id, const byte *numbers, const byte *part,
+                                        number part_length);
 
-enum { CHECK = 0, ELEMENT = 1, PART = 2 };
-enum { BROKEN_REQUEST = 3, NO_INPUT_OR_OUTPUT = 4, NO_MEMORY = 5 }; /* exit status */
-enum { HEADER = 13, LONGEST = 70000, ROOM = 1 << 17, GUARD = 1 << 16 };
+__attribute__((weak)) number esa_rewrite(const byte *table, number length, byte *out, number room);
+enum { CHECK = 0, ELEMENT = 1, PART = 2, START = 3, APPEND = 4, REWRITE = 5 };
+/* exit status; TOUCHED: bytes in front of the buffer, the numbers or the part have changed */
+enum { BROKEN_REQUEST = 3, NO_INPUT_OR_OUTPUT = 4, NO_MEMORY = 5, TOUCHED = 6 };
+enum { HEADER = 13, NUMBERS = 32, LONGEST = 70000, FRONT = 256, FRONT_BYTE = 0xC3, ROOM = 1 << 17, GUARD = 1 << 16 };
 #define NO_SUCH_CALL (~0UL)
 
 static byte input[1 << 20];
 static byte output[1 << 16];
 static number waiting; /* bytes of output */
+static byte *table_end, *numbers_end, *part_end; /* of three guarded places */
+static byte front[FRONT];
 
 static void flush(void)
 {
@@ -35,14 +44,20 @@ static void flush(void)
     waiting = 0;
 }
 
-static void answer(number value)
+static void put(const void *from, number count)
 {
-    if (waiting == sizeof output) flush();
-    memcpy(output + waiting, &value, 8);
-    waiting += 8;
+    number done = 0;
+    while (done < count) {
+        if (waiting == sizeof output) flush();
+        number piece = sizeof output - waiting;
+        if (piece > count - done) piece = count - done;
+        memcpy(output + waiting, (const byte *)from + done, piece);
+        waiting += piece;
+        done += piece;
+    }
 }
 
-/* The end of a place for tables. Nothing behind it can be read: a call that tries ends this program. */
+/* The end of a place for bytes that are lent. Nothing behind it can be read: a call that tries ends this program. */
 static byte *guarded_end(void)
 {
     enum { NO_ACCESS = 0, READ_AND_WRITE = 3, PRIVATE = 2, FIXED = 16, ANONYMOUS = 32 };
@@ -64,36 +79,76 @@ static number call(byte mode, const byte *table, number length, number k)
     }
 }
 
+static number write_call(byte mode, byte id, byte *buffer, number length, const byte *numbers, number part_length)
+{
+    if (mode == START) return esa_start ? esa_start(buffer, length, numbers) : NO_SUCH_CALL;
+    if (mode == REWRITE) return esa_rewrite ? esa_rewrite(part_end - part_length, part_length, buffer, length) : NO_SUCH_CALL;
+    if (!esa_append) return NO_SUCH_CALL;
+    return esa_append(buffer, length, id, numbers, part_end - part_length, part_length);
+}
+
+/* A call of the writer: body is the buffer, the numbers and the part (of a rewriting, the table in the part's stead). The answer goes out, and then the buffer. */
+static void answer_writer(byte mode, byte id, const byte *body, number length, number part_length)
+{
+    byte *buffer = table_end - length;
+    byte *numbers = numbers_end - NUMBERS;
+    byte *part = part_end - part_length;
+    memcpy(buffer - FRONT, front, FRONT);
+    memcpy(buffer, body, length);
+    memcpy(numbers, body + length, NUMBERS);
+    memcpy(part, body + length + NUMBERS, part_length);
+    number value = write_call(mode, id, buffer, length, numbers, part_length);
+    if (memcmp(buffer - FRONT, front, FRONT) || memcmp(numbers, body + length, NUMBERS) ||
+        memcmp(part, body + length + NUMBERS, part_length))
+        _exit(TOUCHED);
+    put(&value, 8);
+    put(buffer, length);
+}
+
+static void answer_reader(byte mode, const byte *body, number length, number k)
+{
+    byte *table = table_end - length;
+    memcpy(table, body, length);
+    number value = call(mode, table, length, k);
+    put(&value, 8);
+}
+
 /* Answers the whole requests among the bytes held, and gives the number of bytes that they took. */
-static number answer_all(number held, byte *end)
+static number answer_all(number held)
 {
     number used = 0;
     while (held - used >= HEADER) {
         const byte *request = input + used;
+        byte mode = request[0];
+        int writes = mode == START || mode == APPEND || mode == REWRITE;
         unsigned length;
         number k;
         memcpy(&length, request + 1, 4);
         memcpy(&k, request + 5, 8);
-        if (length > LONGEST) _exit(BROKEN_REQUEST);
-        if (held - used < HEADER + (number)length) break;
-        byte *table = end - length;
-        memcpy(table, request + HEADER, length);
-        answer(call(request[0], table, length, k));
-        used += HEADER + (number)length;
+        number part_length = writes ? k >> 8 : 0;
+        if (length > LONGEST || part_length > LONGEST) _exit(BROKEN_REQUEST);
+        number size = HEADER + (number)length + (writes ? NUMBERS + part_length : 0);
+        if (held - used < size) break;
+        if (writes) answer_writer(mode, (byte)k, request + HEADER, length, part_length);
+        else answer_reader(mode, request + HEADER, length, k);
+        used += size;
     }
     return used;
 }
 
 int main(void)
 {
-    byte *end = guarded_end();
+    table_end = guarded_end();
+    numbers_end = guarded_end();
+    part_end = guarded_end();
+    memset(front, FRONT_BYTE, FRONT);
     number held = 0;
     for (;;) {
         long got = read(0, input + held, sizeof input - held);
         if (got < 0) return NO_INPUT_OR_OUTPUT;
         if (got == 0) return held == 0 ? 0 : BROKEN_REQUEST;
         held += (number)got;
-        number used = answer_all(held, end);
+        number used = answer_all(held);
         memmove(input, input + used, held - used);
         held -= used;
         flush();

@@ -1,9 +1,10 @@
-//! The time of the proved reader beside the second program's, in one process: see the README.
+//! The time of the proved reader and writer beside the second program's, in one process: see the README.
 
 mod corpora;
 mod growth;
 mod rounds;
 mod sides;
+mod writing;
 
 use corpora::Corpus;
 use sides::{ours, second};
@@ -14,7 +15,7 @@ fn main() -> ExitCode {
     println!("| Corpus | ours, ns | second's, ns | ratio | differences |");
     println!("|---|---|---|---|---|");
     let differences: usize = corpora::all().iter().map(report).sum();
-    let differences = differences + growth::report();
+    let differences = differences + growth::report() + writing::report();
     if differences == 0 {
         ExitCode::SUCCESS
     } else {

@@ -1,24 +1,27 @@
-//! Timed rounds over many tables.
+//! Timed rounds over many tables, or whatever else the sides take.
 
-use crate::sides::Side;
+use std::borrow::Borrow;
 use std::hint::black_box;
 use std::time::Instant;
 
 /// Rounds of each side; the median one counts.
 const ROUNDS: usize = 101;
 
-/// A round passes over the tables until it has made so many calls, so that the clock's own time is
+/// A round passes over the items until it has made so many calls, so that the clock's own time is
 /// nothing beside it.
 const CALLS: usize = 2_000;
 
-/// Nanoseconds for one table on each side. The sides take turns, and take turns in going first, so
+/// Nanoseconds for one item on each side. The sides take turns, and take turns in going first, so
 /// that whatever else the machine does meets them alike.
-pub fn medians<const SIDES: usize>(sides: [Side; SIDES], tables: &[Vec<u8>]) -> [f64; SIDES] {
+pub fn medians<I: Borrow<T>, T: ?Sized, const SIDES: usize>(
+    sides: [fn(&T) -> u64; SIDES],
+    items: &[I],
+) -> [f64; SIDES] {
     let mut times = [const { Vec::new() }; SIDES];
     for round in 0..ROUNDS {
         for turn in 0..SIDES {
             let side = (round + turn) % SIDES;
-            times[side].push(one_round(sides[side], tables));
+            times[side].push(one_round(sides[side], items));
         }
     }
     times.map(|mut list| {
@@ -27,13 +30,13 @@ pub fn medians<const SIDES: usize>(sides: [Side; SIDES], tables: &[Vec<u8>]) -> 
     })
 }
 
-fn one_round(side: Side, tables: &[Vec<u8>]) -> f64 {
-    let passes = CALLS.div_ceil(tables.len());
+fn one_round<I: Borrow<T>, T: ?Sized>(side: fn(&T) -> u64, items: &[I]) -> f64 {
+    let passes = CALLS.div_ceil(items.len());
     let begin = Instant::now();
     for _ in 0..passes {
-        for table in tables {
-            black_box(side(black_box(table)));
+        for item in items {
+            black_box(side(black_box(item.borrow())));
         }
     }
-    begin.elapsed().as_nanos() as f64 / (passes * tables.len()) as f64
+    begin.elapsed().as_nanos() as f64 / (passes * items.len()) as f64
 }

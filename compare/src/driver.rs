@@ -53,12 +53,16 @@ impl Driver {
         let mut answers = Vec::with_capacity(count);
         let mut word = [0; 8];
         for _ in 0..count {
-            if self.answers.read_exact(&mut word).is_err() {
-                return Err(self.ended());
-            }
+            self.receive_bytes(&mut word)?;
             answers.push(Answer(u64::from_le_bytes(word)));
         }
         Ok(answers)
+    }
+
+    /// Bytes that follow an answer.
+    pub fn receive_bytes(&mut self, bytes: &mut [u8]) -> Result<(), String> {
+        let read = self.answers.read_exact(bytes);
+        read.map_err(|_| self.ended())
     }
 
     fn ended(&mut self) -> String {

@@ -1,4 +1,4 @@
-//! The proved reader, linked from its static library, against the second program: see the README.
+//! The proved reader and writer, linked from its static library, against the second program: see the README.
 #![forbid(unsafe_code)]
 
 mod answer;
@@ -11,13 +11,15 @@ mod known;
 mod long;
 mod options;
 mod tally;
+mod writer;
 
 use options::{Command, Options};
 use std::process::ExitCode;
 
 const USAGE: &str = "\
-use: compare gate [--elements] --driver COMMAND...
+use: compare gate [--elements] [--writer] --driver COMMAND...
      compare long --seed S --count N [--elements] --driver COMMAND...
+     compare writer --seed S --count N --driver COMMAND...
 ";
 
 fn main() -> ExitCode {
@@ -30,8 +32,9 @@ fn main() -> ExitCode {
         }
     };
     let good = match options.command {
-        Command::Gate => gate::gate(&options),
+        Command::Gate => gate(&options),
         Command::Long { seed, count } => long::long(&options, seed, count),
+        Command::Writer { seed, count } => writer::long(&options, seed, count),
     };
     match good {
         Ok(true) => ExitCode::SUCCESS,
@@ -41,4 +44,9 @@ fn main() -> ExitCode {
             ExitCode::from(1)
         }
     }
+}
+
+fn gate(options: &Options) -> Result<bool, String> {
+    let good = gate::gate(options)?;
+    Ok((!options.writer || writer::gate(options)?) && good)
 }

@@ -4,12 +4,15 @@
 pub enum Command {
     Gate,
     Long { seed: u64, count: u64 },
+    Writer { seed: u64, count: u64 },
 }
 
 #[derive(Debug, PartialEq, Eq)]
 pub struct Options {
     pub command: Command,
     pub elements: bool,
+    /// The gate: the writer's calls too.
+    pub writer: bool,
     /// The driver's program and its arguments, at least one word.
     pub driver: Vec<String>,
 }
@@ -20,6 +23,7 @@ struct Given {
     seed: Option<u64>,
     count: Option<u64>,
     elements: bool,
+    writer: bool,
     driver: Vec<String>,
 }
 
@@ -39,6 +43,7 @@ impl Given {
                 "--seed" => given.seed = number(word, words.next())?,
                 "--count" => given.count = number(word, words.next())?,
                 "--elements" => given.elements = true,
+                "--writer" => given.writer = true,
                 "--driver" => given.driver = words.by_ref().cloned().collect(),
                 _ => return Err(format!("'{word}' has no meaning here")),
             }
@@ -55,15 +60,20 @@ impl Options {
             ("gate", None, None) => Command::Gate,
             ("gate", _, _) => return Err("the gate's seeds and counts are fixed".into()),
             ("long", Some(seed), Some(count)) => Command::Long { seed, count },
-            ("long", _, _) => return Err("'--seed' or '--count' is missing".into()),
+            ("writer", Some(seed), Some(count)) => Command::Writer { seed, count },
+            ("long" | "writer", _, _) => return Err("'--seed' or '--count' is missing".into()),
             _ => return Err(format!("there is no command '{command}'")),
         };
+        if given.writer && command != Command::Gate {
+            return Err("'--writer' is for the gate alone".into());
+        }
         if given.driver.is_empty() {
             return Err("'--driver' and its command are missing".into());
         }
         Ok(Options {
             command,
             elements: given.elements,
+            writer: given.writer,
             driver: given.driver,
         })
     }

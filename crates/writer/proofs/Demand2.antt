@@ -23,20 +23,20 @@ use Rattle.format.specs.declared.answers.Written.the-variants.{Length}
 use Rattle.format.proofs.Slots.{starts-count}
 use Rattle.format.proofs.Written.{written-again}
 use Rattle.writer.specs.Calls.{Started}
-use Rattle.writer.specs.Runs.{Appends, AllDone}
+use Rattle.writer.specs.Runs.{standing, Appends, AllDone}
 use Rattle.writer.proofs.Assembled.{roomy-split}
-use Rattle.writer.proofs.Standing.{standing, appended}
+use Rattle.writer.proofs.Standing.{appended}
 
 -- start
-opening-held : (d : Description) (n : ℕ) → allRoomy (opening d n) ≡ true → descriptionHeld d ≡ true
+pub opening-held : (d : Description) (n : ℕ) → allRoomy (opening d n) ≡ true → descriptionHeld d ≡ true
 opening-held d n h = roomy-split (whole 1 ∷ word n) (drop 3 (opening d 16)) h .1
 
-starts :
+pub starts :
     (d : Description) (c : List ℕ) → 16 ≤ length c → descriptionHeld d ≡ true → descriptionBreaks d ≡ none → startAnswer c d ≡ Length 16
 unfolding startAnswer
 starts d c long h k = rw (le-leb 16 (length c) long, h, k) refl
 
-fits-length : (c : List ℕ) (ss : List Slot) → Fits c ss → length c ≡ length ss
+pub fits-length : (c : List ℕ) (ss : List Slot) → Fits c ss → length c ≡ length ss
 fits-length c ss h = omega (arith, starts-count c ss [] h)
 
 -- 'into a buffer long enough': the table's bytes, and the buffer's own behind them

@@ -25,7 +25,7 @@ use Rattle.writer.proofs.Standing.{layouts-append}
 use Rattle.writer.proofs.Answering.{good, unbroken}
 
 -- a record in the middle of a list that keeps the rules
-passed-at :
+pub passed-at :
     (xs before : List Record) (r : Record) (after : List Record)
     → PassKept xs (before ++ r ∷ after)
     → elementBreaks (xs ++ before) r ≡ none
@@ -33,7 +33,7 @@ passed-at xs [] r after h = subst (λ (l : List Record). elementBreaks l r ≡ n
 passed-at xs (x ∷ before) r after h =
     subst (λ (l : List Record). elementBreaks l r ≡ none) (append-assoc xs (x ∷ []) before) (passed-at (xs ++ x ∷ []) before r after (h .2))
 
-layout-roomy : (d : Description) (before : List Record) (r : Record) (after : List Record) → Keeps d (before ++ r ∷ after) → allRoomy (layout r) ≡ true
+pub layout-roomy : (d : Description) (before : List Record) (r : Record) (after : List Record) → Keeps d (before ++ r ∷ after) → allRoomy (layout r) ≡ true
 layout-roomy d before r after k =
     let rs = before ++ r ∷ after in
     let h = roomy-split (opening d (16 + length (layouts rs))) (layouts rs) (k .held) .1 in

@@ -21,16 +21,13 @@ use Rattle.format.specs.declared.answers.Written.the-variants.{Length}
 use Rattle.format.proofs.Written.{length-written}
 use Rattle.laying.proofs.Laws.{written-append}
 use Rattle.writer.proofs.Assembled.{roomy-split, body-roomy, kept-break, slots-written, slots-length}
-use Rattle.writer.specs.Runs.{Appends, AllDone}
+use Rattle.writer.specs.Runs.{standing, Appends, AllDone}
 
--- the buffer when so many records are written: their table, and the rest as it was
-abbrev pub standing : Description → List Record → List ℕ → List ℕ
-standing d rs c = written (table d rs) ++ drop (16 + length (layouts rs)) c
-
+-- the table so far
 table-length : (d : Description) (rs : List Record) → length (written (table d rs)) ≡ 16 + length (layouts rs)
 table-length d rs = length-written (table d rs) ∙ length-append (opening d (16 + length (layouts rs))) (layouts rs)
 
-standing-length : (d : Description) (rs : List Record) (c : List ℕ) → 16 + length (layouts rs) ≤ length c → length (standing d rs c) ≡ length c
+pub standing-length : (d : Description) (rs : List Record) (c : List ℕ) → 16 + length (layouts rs) ≤ length c → length (standing d rs c) ≡ length c
 standing-length d rs c h =
     omega (arith, length-append (written (table d rs)) (drop (16 + length (layouts rs)) c), table-length d rs, length-drop (16 + length (layouts rs)) c)
 
@@ -69,7 +66,7 @@ snoc-length : (rs : List Record) (r : Record) → 16 + length (layouts rs) + len
 snoc-length rs r =
     omega (arith, ap length (layouts-snoc rs r), length-append (layouts rs) (layout r), length-written (layout r))
 
-leaves-standing :
+pub leaves-standing :
     (d : Description) (rs : List Record) (r : Record) (c : List ℕ) (n : ℕ)
     → n ≡ 16 + length (layouts (rs ++ r ∷ []))
     → appendLeaves (Length n) (standing d rs c) (elementOf r) (written (part r)) ≡ standing d (rs ++ r ∷ []) c
@@ -94,7 +91,7 @@ leaves-standing d rs r c n e =
     ∙ ap (λ (w : List ℕ). written (table d (rs ++ r ∷ [])) ++ w) rest
 
 -- append's answer to a record of the list: the new length
-answers-length :
+pub answers-length :
     (d : Description) (rs : List Record) (r : Record) (c : List ℕ)
     → elementBreaks rs r ≡ none
     → allRoomy (layout r) ≡ true

@@ -1,0 +1,127 @@
+//! One call of the writer: how it is asked for, and what the second program does.
+
+use super::numbers::{self, Numbers};
+use crate::answer::Answer;
+use crate::tally::hex;
+use second::answer::number;
+use second::{Refusal, Verdict};
+use std::fmt;
+
+/// What the call is asked to do; the driver's modes 3, 4 and 5.
+#[derive(Clone, Copy, Debug, PartialEq, Eq)]
+pub enum Does {
+    Start,
+    /// An element of this identifier.
+    Append(u8),
+    /// The table that stands in the part's stead, into the buffer.
+    Rewrite,
+}
+
+#[derive(Clone, Debug, PartialEq, Eq)]
+pub struct WriterCall {
+    pub does: Does,
+    pub numbers: Numbers,
+    /// Of append alone; the table of a rewriting.
+    pub part: Vec<u8>,
+    /// As lent, before the call.
+    pub buffer: Vec<u8>,
+}
+
+/// The answer and the whole buffer after the call.
+#[derive(Clone, Debug, PartialEq, Eq)]
+pub struct Outcome {
+    pub answer: Answer,
+    pub buffer: Vec<u8>,
+}
+
+impl WriterCall {
+    pub fn start(numbers: Numbers, buffer: Vec<u8>) -> WriterCall {
+        WriterCall {
+            does: Does::Start,
+            numbers,
+            part: Vec::new(),
+            buffer,
+        }
+    }
+
+    pub fn append(id: u8, numbers: Numbers, part: Vec<u8>, buffer: Vec<u8>) -> WriterCall {
+        WriterCall {
+            does: Does::Append(id),
+            numbers,
+            part,
+            buffer,
+        }
+    }
+
+    pub fn rewrite(table: Vec<u8>, buffer: Vec<u8>) -> WriterCall {
+        WriterCall {
+            does: Does::Rewrite,
+            numbers: Numbers::default(),
+            part: table,
+            buffer,
+        }
+    }
+
+    /// Adds the request: mode, length of the buffer, identifier + 256 x length of the part, then
+    /// buffer, numbers and part.
+    pub fn request(&self, to: &mut Vec<u8>) {
+        let (mode, id) = match self.does {
+            Does::Start => (3, 0),
+            Does::Append(id) => (4, id),
+            Does::Rewrite => (5, 0),
+        };
+        to.push(mode);
+        to.extend_from_slice(&(self.buffer.len() as u32).to_le_bytes());
+        to.extend_from_slice(&(u64::from(id) + 256 * self.part.len() as u64).to_le_bytes());
+        to.extend_from_slice(&self.buffer);
+        to.extend_from_slice(&self.numbers);
+        to.extend_from_slice(&self.part);
+    }
+
+    /// What the second program answers, and the buffer as it leaves it.
+    pub fn second(&self) -> Outcome {
+        let mut buffer = self.buffer.clone();
+        let result = self.run_second(&mut buffer);
+        let answer = match result {
+            Ok(length) => Answer::of(0, length),
+            Err(Refusal { number, place }) => Answer::of(number, place),
+        };
+        Outcome { answer, buffer }
+    }
+
+    /// The C face alone knows identifiers of no kind: 7 with 0, and nothing else is looked at.
+    fn run_second(&self, buffer: &mut [u8]) -> Result<usize, Refusal> {
+        let id = match self.does {
+            Does::Start => return second::start(buffer, &numbers::description(&self.numbers)),
+            Does::Rewrite => return rewritten(&self.part, buffer),
+            Does::Append(id) => id,
+        };
+        let element = numbers::element(id, &self.numbers);
+        let element = element.ok_or(Refusal::at(number::IDENTIFIER, 0))?;
+        second::append(buffer, &element, &self.part)
+    }
+}
+
+/// An accepted table with its reserved places at zero; the table's refusal, or 16 at 0 without room.
+fn rewritten(table: &[u8], buffer: &mut [u8]) -> Result<usize, Refusal> {
+    if let Verdict::Refused { number, place } = second::check(table) {
+        return Err(Refusal::at(number, place));
+    }
+    if buffer.len() < table.len() {
+        return Err(Refusal::at(number::NO_ROOM, 0));
+    }
+    buffer[..table.len()].copy_from_slice(&second::cleared(table));
+    Ok(table.len())
+}
+
+impl fmt::Display for WriterCall {
+    fn fmt(&self, to: &mut fmt::Formatter) -> fmt::Result {
+        match self.does {
+            Does::Start => to.write_str("start")?,
+            Does::Append(id) => write!(to, "append {id:02X}")?,
+            Does::Rewrite => to.write_str("rewrite (the table stands as part)")?,
+        }
+        let [numbers, part, buffer] = [&self.numbers[..], &self.part, &self.buffer].map(hex);
+        write!(to, ", numbers {numbers}, part '{part}', buffer '{buffer}'")
+    }
+}

@@ -1,0 +1,107 @@
+//! Calls at the edges of sizes, lengths, room and identifiers: 1, 3, 16 and 7.
+
+use super::call::WriterCall;
+use super::samples::{description, elements, junk, Sink};
+use second::element::id;
+
+pub fn calls(to: Sink) -> Result<(), String> {
+    sizes(to)?;
+    lengths(to)?;
+    room(to)?;
+    unknown(to)
+}
+
+/// 1: buffers of 0 to 20 bytes, beside good records and bad ones.
+fn sizes(to: Sink) -> Result<(), String> {
+    for size in 0..=20 {
+        for numbers in [description(), [0xFF; 32], [0; 32]] {
+            to(WriterCall::start(numbers, junk(size, 16)))?;
+        }
+        for sample in elements() {
+            to(sample.call(junk(size, 16)))?;
+            to(WriterCall::append(
+                sample.id,
+                [0xFF; 32],
+                vec![0; 9],
+                junk(size, 16),
+            ))?;
+        }
+    }
+    Ok(())
+}
+
+/// 3: what bytes 1-2 say, in buffers of many sizes.
+fn lengths(to: Sink) -> Result<(), String> {
+    for size in [
+        16, 17, 64, 300, 4_095, 4_096, 4_097, 4_200, 65_535, 65_536, 65_552, 70_000,
+    ] {
+        let said = [
+            0,
+            1,
+            15,
+            16,
+            17,
+            255,
+            256,
+            4_095,
+            4_096,
+            4_097,
+            65_535,
+            size - 1,
+            size,
+            size + 1,
+        ];
+        for said in said {
+            for sample in elements() {
+                to(sample.call(junk(size, said)))?;
+            }
+            to(WriterCall::append(
+                id::FAN,
+                [0xFF; 32],
+                vec![1],
+                junk(size, said),
+            ))?;
+        }
+    }
+    Ok(())
+}
+
+/// 16: room exactly there, one byte short, one more, and the same at 4,096.
+fn room(to: Sink) -> Result<(), String> {
+    for sample in elements() {
+        let needed = sample.needed();
+        let largest = 4_096 - needed;
+        for so_far in [16, 17, 100, largest - 1, largest, largest + 1, 4_095, 4_096] {
+            let new_length = so_far + needed;
+            for size in [
+                so_far,
+                new_length - 1,
+                new_length,
+                new_length + 1,
+                4_096,
+                4_097,
+                5_000,
+                70_000,
+            ] {
+                to(sample.call(junk(size, so_far)))?;
+            }
+        }
+    }
+    Ok(())
+}
+
+/// Identifiers of no kind: 7, whatever else there is.
+fn unknown(to: Sink) -> Result<(), String> {
+    for id in (0..=255).filter(|id| !id::ALL.contains(id)) {
+        for size in [0, 2, 15, 16, 100] {
+            to(WriterCall::append(id, [0; 32], Vec::new(), junk(size, 16)))?;
+            to(WriterCall::append(
+                id,
+                [0xFF; 32],
+                vec![1; 27],
+                junk(size, 4_097),
+            ))?;
+        }
+    }
+    Ok(())
+}

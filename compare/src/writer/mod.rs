@@ -1,0 +1,77 @@
+//! The writer's calls, start, append and rewrite, on both sides.
+
+mod call;
+mod codes;
+mod comparison;
+mod edges;
+mod numbers;
+mod parts;
+mod rewritings;
+mod runs;
+mod samples;
+mod stream;
+mod tally;
+
+use crate::options::Options;
+use comparison::Comparison;
+use second::random::Random;
+use std::time::Instant;
+use stream::Stream;
+use tally::Tally;
+
+const SEED: u64 = 2_026;
+/// Seeded calls of the gate; the calls at the edges come in addition.
+const SEEDED: u64 = 60_000;
+/// Tables that the gate writes again, each into three buffers or four.
+const REWRITTEN: u64 = 3_000;
+/// Calls from one line of progress to the next.
+const STEP: u64 = 500_000;
+
+/// Every call at the edges, and calls of a fixed seed. Every answer must come at least once.
+pub fn gate(options: &Options) -> Result<bool, String> {
+    let mut comparison = Comparison::start(&options.driver)?;
+    edges::calls(&mut |call| comparison.call(call))?;
+    codes::calls(&mut |call| comparison.call(call))?;
+    parts::calls(&mut |call| comparison.call(call))?;
+    for call in Stream::new(SEED).take(SEEDED as usize) {
+        comparison.call(call)?;
+    }
+    let mut random = Random::new(SEED);
+    for _ in 0..REWRITTEN {
+        let calls = rewritings::calls(&mut random);
+        calls
+            .into_iter()
+            .try_for_each(|call| comparison.call(call))?;
+    }
+    let tally = comparison.finish()?;
+    tally.print_answers();
+    let all = tally.all_came();
+    Ok(summed(&tally) && all)
+}
+
+/// So many calls of one seed.
+pub fn long(options: &Options, seed: u64, count: u64) -> Result<bool, String> {
+    let begin = Instant::now();
+    let mut comparison = Comparison::start(&options.driver)?;
+    let mut stream = Stream::new(seed);
+    for at in 0..count {
+        if at > 0 && at % STEP == 0 {
+            let differences = comparison.tally.differences;
+            println!("{at} writer calls asked, {differences} differences");
+        }
+        comparison.call(stream.call())?;
+    }
+    let tally = comparison.finish()?;
+    let seconds = begin.elapsed().as_secs_f64();
+    println!(
+        "seed {seed}, {seconds:.0} s, {:.0} calls a second",
+        tally.calls as f64 / seconds
+    );
+    tally.print_answers();
+    Ok(summed(&tally))
+}
+
+fn summed(tally: &Tally) -> bool {
+    tally.print_sum();
+    tally.differences == 0
+}

@@ -1,0 +1,212 @@
+//! A record's numbers as the 32 bytes of the C face, both ways. Bytes that a record does not use may
+//! be anything.
+
+use second::element::id;
+use second::pins::Pin;
+use second::record::*;
+use second::units::{Centimetres, Deciamps, DegreesCentigrade, FourMilliamps, Rpm};
+
+pub type Numbers = [u8; 32];
+
+/// Bytes that a description or an element of this kind uses.
+pub const OF_DESCRIPTION: usize = 11;
+
+pub fn used(identifier: u8) -> usize {
+    match identifier {
+        id::DIGITAL_SENSOR => 18,
+        id::ANALOGUE_SENSOR => 17,
+        id::FAN => 13,
+        id::STATUS_LED => 14,
+        id::CURRENT => 10,
+        id::CONTROLLER | id::TACHOMETER | id::RGB_LED => 8,
+        _ => 0,
+    }
+}
+
+fn word(numbers: &Numbers, at: usize) -> u16 {
+    u16::from_le_bytes([numbers[at], numbers[at + 1]])
+}
+
+pub fn description(numbers: &Numbers) -> Description {
+    let [_, _, a, b, c, d, ..] = *numbers;
+    Description {
+        device_type: numbers[0],
+        string: numbers[1],
+        serial: u32::from_le_bytes([a, b, c, d]),
+        self_powered: numbers[6] != 0,
+        power: FourMilliamps(numbers[7]),
+        hardware: [Pin(numbers[8]), Pin(numbers[9]), Pin(numbers[10])],
+    }
+}
+
+/// `None` when the identifier is of no kind.
+pub fn element(identifier: u8, n: &Numbers) -> Option<Element> {
+    let common = common(n);
+    let attachment = attachment(n);
+    Some(match identifier {
+        id::DIGITAL_SENSOR => Element::DigitalSensor(DigitalSensor {
+            common,
+            attachment,
+            lsb_register: word(n, 8),
+            msb_register: word(n, 10),
+            minimum_value: word(n, 12),
+            minimum_temp: DegreesCentigrade(n[14]),
+            maximum_value: word(n, 15),
+            maximum_temp: DegreesCentigrade(n[17]),
+        }),
+        id::ANALOGUE_SENSOR => Element::AnalogueSensor(AnalogueSensor {
+            common,
+            thermal_type: n[5],
+            pin: Pin(n[6]),
+            calibration: [7, 9, 11, 13, 15].map(|at| word(n, at)),
+        }),
+        id::FAN => Element::Fan(Fan {
+            common,
+            pwm: Pin(n[5]),
+            tachometer: Pin(n[6]),
+            pulses_per_revolution: n[7],
+            minimum_rpm: Rpm(word(n, 8)),
+            maximum_rpm: Rpm(word(n, 10)),
+            minimum_duty: n[12],
+        }),
+        id::STATUS_LED => Element::StatusLed(StatusLed {
+            common,
+            lights: [5, 8, 11].map(|at| Light {
+                pin: Pin(n[at]),
+                colour: n[at + 1],
+                purpose: n[at + 2],
+            }),
+        }),
+        id::CURRENT => Element::Current(Current {
+            common,
+            pin: Pin(n[5]),
+            at_minimum: Deciamps(word(n, 6)),
+            at_maximum: Deciamps(word(n, 8)),
+        }),
+        id::CONTROLLER => Element::Controller(Controller { common, attachment }),
+        id::TACHOMETER => Element::Tachometer(Tachometer { common, attachment }),
+        id::RGB_LED => Element::RgbLed(RgbLed {
+            common,
+            red: Pin(n[5]),
+            green: Pin(n[6]),
+            blue: Pin(n[7]),
+        }),
+        id::ZONE => Element::Zone(Zone),
+        id::TEXT => Element::Text(Text),
+        _ => return None,
+    })
+}
+
+fn common(n: &Numbers) -> Common {
+    Common {
+        string: n[0],
+        position: Position {
+            x: Centimetres(n[1]),
+            y: Centimetres(n[2]),
+            z: Centimetres(n[3]),
+        },
+        zone: n[4],
+    }
+}
+
+fn attachment(n: &Numbers) -> Attachment {
+    let address = match n[6] {
+        0 => Address::Bus(n[7]),
+        _ => Address::Select(Pin(n[7])),
+    };
+    Attachment {
+        bus_type: n[5],
+        address,
+    }
+}
+
+/// Puts the description's numbers over what stands in `n`; the byte of SPWR stays where it says the
+/// same.
+pub fn put_description(record: &Description, n: &mut Numbers) {
+    n[0] = record.device_type;
+    n[1] = record.string;
+    n[2..6].copy_from_slice(&record.serial.to_le_bytes());
+    put_truth(record.self_powered, &mut n[6]);
+    n[7] = record.power.0;
+    n[8..11].copy_from_slice(&record.hardware.map(|pin| pin.0));
+}
+
+/// Any value but 0 is true, and one that stands there already is kept.
+fn put_truth(truth: bool, at: &mut u8) {
+    *at = if truth { (*at).max(1) } else { 0 };
+}
+
+pub fn put_element(record: &Element, n: &mut Numbers) {
+    if let Some(common) = record.common() {
+        let Position { x, y, z } = common.position;
+        n[..5].copy_from_slice(&[common.string, x.0, y.0, z.0, common.zone]);
+    }
+    if let Some(attachment) = record.attachment() {
+        let (select, address) = match attachment.address {
+            Address::Bus(address) => (false, address),
+            Address::Select(pin) => (true, pin.0),
+        };
+        n[5] = attachment.bus_type;
+        put_truth(select, &mut n[6]);
+        n[7] = address;
+    }
+    let low_first =
+        |words: &[u16]| -> Vec<u8> { words.iter().flat_map(|w| w.to_le_bytes()).collect() };
+    match record {
+        Element::DigitalSensor(e) => {
+            n[8..14].copy_from_slice(&low_first(&[
+                e.lsb_register,
+                e.msb_register,
+                e.minimum_value,
+            ]));
+            n[14] = e.minimum_temp.0;
+            n[15..17].copy_from_slice(&e.maximum_value.to_le_bytes());
+            n[17] = e.maximum_temp.0;
+        }
+        Element::AnalogueSensor(e) => {
+            n[5..7].copy_from_slice(&[e.thermal_type, e.pin.0]);
+            n[7..17].copy_from_slice(&low_first(&e.calibration));
+        }
+        Element::Fan(e) => {
+            n[5..8].copy_from_slice(&[e.pwm.0, e.tachometer.0, e.pulses_per_revolution]);
+            n[8..12].copy_from_slice(&low_first(&[e.minimum_rpm.0, e.maximum_rpm.0]));
+            n[12] = e.minimum_duty;
+        }
+        Element::StatusLed(e) => {
+            for (at, light) in [5, 8, 11].into_iter().zip(&e.lights) {
+                n[at..at + 3].copy_from_slice(&[light.pin.0, light.colour, light.purpose]);
+            }
+        }
+        Element::Current(e) => {
+            n[5] = e.pin.0;
+            n[6..10].copy_from_slice(&low_first(&[e.at_minimum.0, e.at_maximum.0]));
+        }
+        Element::RgbLed(e) => n[5..8].copy_from_slice(&[e.red.0, e.green.0, e.blue.0]),
+        Element::Controller(_) | Element::Tachometer(_) | Element::Zone(_) | Element::Text(_) => (),
+    }
+}
+
+#[cfg(test)]
+mod tests {
+    use super::*;
+    use second::generator::{writer_call, What};
+    use second::random::Random;
+
+    #[test]
+    fn numbers_give_their_record_back() {
+        let mut random = Random::new(5);
+        for _ in 0..20_000 {
+            let mut numbers: Numbers = std::array::from_fn(|_| random.byte());
+            match writer_call(&mut random).what {
+                What::Start(record) => {
+                    put_description(&record, &mut numbers);
+                    assert_eq!(description(&numbers), record);
+                }
+                What::Append(record, _) => {
+                    put_element(&record, &mut numbers);
+                    assert_eq!(element(record.identifier(), &numbers), Some(record));
+                }
+            }
+        }
+    }
+}

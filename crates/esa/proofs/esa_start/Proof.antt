@@ -1,0 +1,19 @@
+-- `esa_start` meets its contract: the description is the one in the numbers, and no value is too large.
+-- Assumes nothing.
+use borrow.Author.Needs.{needs}
+use Rattle.esa.proofs.Joining.{start-bound, started-for}
+use Rattle.esa.proofs.esa_start.Statement.{statement}
+use Rattle.esa.proofs.esa_start.Tie as tie
+
+pack-written-requires : tie.Need-pack-written-requires
+pack-written-requires c κs = start-bound _ _ _ _ (c .before .before .start .ensures)
+
+returns : tie.Need-returns
+returns c =
+    let s = c .before .before .before in
+    started-for _ _ _ _ _ _ (s .before .description-from .ensures) (s .start .ensures) (c .pack-written .ensures)
+
+pub esa-start-spec : {M : Type 1} → statement M
+esa-start-spec =
+    tie.close
+    (tie.spec (λ c κs. search needs) (λ c κs. search needs) pack-written-requires (search needs) returns)

@@ -1,0 +1,43 @@
+-- The writer's answers as one number, and the bytes that are left.
+-- Assumes nothing.
+use Prim.Native.Nat.{ℕ, _+_, _*_}
+use mathlib.Core.Path.{_≡_}
+use mathlib.Core.List.{List}
+use Rattle.format.specs.Answers.{numberOfWritten, valueOfWritten}
+use Rattle.format.specs.declared.records.Element.{Element}
+use Rattle.format.specs.declared.answers.Written.{Written}
+use Rattle.writer.specs.Calls.{Started, Appended}
+use Rattle.rewriting.specs.Again.{Rewritten}
+use Rattle.numbers.specs.From.{descriptionFrom, elementFrom}
+use Rattle.numbers.specs.declared.FoundElement.{FoundElement}
+use Rattle.numbers.specs.declared.FoundElement.the-variants.{Element as Found, Unknown}
+
+abbrev pub packedWritten : Written → ℕ
+packedWritten w = numberOfWritten w + 256 * valueOfWritten w
+
+-- a table was started with the description in the numbers
+pub record StartedFor (b n : List ℕ) (r : ℕ) (after : List ℕ) : Type 0 where
+  pub answer : Written
+  pub started : Started b (descriptionFrom n) answer after
+  pub number : r ≡ packedWritten answer
+
+-- an element was appended
+pub record AppendedOne (b : List ℕ) (e : Element) (p : List ℕ) (r : ℕ) (after : List ℕ) : Type 0 where
+  pub answer : Written
+  pub appended : Appended b e p answer after
+  pub number : r ≡ packedWritten answer
+
+-- 7: 'identifier not in the list above'; then no byte is altered
+abbrev pub AppendedAs : FoundElement → List ℕ → List ℕ → ℕ → List ℕ → Type 0
+AppendedAs (Found e) b p r after = AppendedOne b e p r after
+AppendedAs Unknown b p r after = (r ≡ 7) × (after ≡ b)
+
+-- the element of the identifier in the numbers was appended
+pub record AppendedFor (b : List ℕ) (id : ℕ) (n p : List ℕ) (r : ℕ) (after : List ℕ) : Type 0 where
+  pub appended : AppendedAs (elementFrom id n) b p r after
+
+-- the records of a table were written again
+pub record RewrittenFor (b c : List ℕ) (r : ℕ) (after : List ℕ) : Type 0 where
+  pub answer : Written
+  pub rewritten : Rewritten b c answer after
+  pub number : r ≡ packedWritten answer

@@ -1,0 +1,34 @@
+-- `digital_from` meets its contract, by what each call ensures of its result.
+-- Assumes nothing.
+use borrow.Author.Needs.{needs}
+use Rattle.numbers.proofs.digital_from.Statement.{statement}
+use Rattle.numbers.proofs.digital_from.Tie as tie
+
+returns : tie.Need-returns
+returns c =
+    let first = c .before .before .before .before .before in
+    rw (
+      first .before .before .before .before .before .placement .ensures,
+      first .before .address .ensures,
+      first .word .ensures,
+      c .before .before .before .before .word2 .ensures,
+      c .before .before .before .word3 .ensures,
+      c .before .word4 .ensures,
+    )
+
+pub digital-from-spec : {M : Type 1} → statement M
+digital-from-spec =
+    tie.close
+    (tie.spec
+    (λ c κs. search needs)
+    (search needs)
+    (search needs)
+    (search needs)
+    (λ c κs. search needs)
+    (λ c κs. search needs)
+    (λ c κs. search needs)
+    (λ c κs. search needs)
+    (search needs)
+    (λ c κs. search needs)
+    (search needs)
+    returns)
