@@ -1,0 +1,39 @@
+// Reads a table on standard input. Accepted: its records, read one by one and written again, go to standard output as raw bytes,
+// with reserved places at zero. Refused: the line R, number, place, with tabs.
+use format::answers::Written;
+use libc::STDIN_FILENO;
+use libc::STDOUT_FILENO;
+
+// R, number, place.
+fn refuse(number: u8, place: usize) {
+    io::write_all(STDOUT_FILENO, &[b'R', b'\t']);
+    io::print_decimal(STDOUT_FILENO, number as u64);
+    io::write_all(STDOUT_FILENO, &[b'\t']);
+    io::print_decimal(STDOUT_FILENO, place as u64);
+    io::write_all(STDOUT_FILENO, &[b'\n']);
+}
+
+// The first n bytes of the buffer.
+fn send(n: usize, out: &[u8]) {
+    if n <= 4096 {
+        let count = io::count(n as isize, out);
+        io::write_all(STDOUT_FILENO, &out[..count]);
+    }
+}
+
+// The table written again, or the refusal.
+fn answer(written: Written, out: &[u8]) {
+    match written {
+        Written::Length(n) => send(n, out),
+        Written::Refused(k, p) => refuse(k, p),
+    }
+}
+
+// 4,097 bytes of input are enough: a longer table is refused by the first of them (2) or by its length (3).
+fn main() {
+    let mut input = [0u8; 4097];
+    let n = io::read_full(STDIN_FILENO, &mut input);
+    let mut out = io::buffer();
+    let written = rewriting::rewrite(&input[..n], &mut out);
+    answer(written, &out);
+}
