@@ -25,8 +25,7 @@ use Rattle.blocks.proofs.Bound.{cut-bound}
 use Rattle.blocks.proofs.Shaped.{misshapen, over-six, up-to-six}
 use Rattle.claims.specs.Taken.{ClaimsAre}
 use Rattle.claims.specs.declared.Claims.{Claims}
-use Rattle.rules.specs.Broken.{orElse}
-use Rattle.found.specs.Judged.{ownFault, placedId, Judged, JudgedPlaced}
+use Rattle.found.specs.Judged.{ownFault, Judged}
 use Rattle.found.specs.declared.Found.{Found}
 
 -- a record that breaks none of 8, 9 and 10 keeps 10
@@ -214,31 +213,3 @@ pub tachometer-good :
     → cutTwo (drop 9 c) ≡ some t
     → decode 10 c ≡ some (tachometer (readDevice (byte c)) (t .0) (t .1))
 tachometer-good c t h e = tachometer-by c (some t) h e
-
--- by the identifier: one of the eight kinds, or 7
-pub of-kind : (id k : ℕ) (c : List ℕ) (r : Found) → id ≡ k → placedId k ≡ true → Judged k c r → JudgedPlaced id c r
-of-kind id k c r e p j =
-    rw e
-    (record { right = j .right ∙ sym (ap (λ (t : Bool). orElse t 7 (ownFault (decode k c))) p); long = j .long; claimed = j .claimed })
-
-pub of-none : (id : ℕ) (c : List ℕ) (r : Found) → placedId id ≡ false → r .fault ≡ 7 → JudgedPlaced id c r
-of-none id c r e p =
-    record {
-      right = p ∙ sym (ap (λ (t : Bool). orElse t 7 (ownFault (decode id c))) e);
-      long = λ n. absurd (omega (arith, p, n));
-      claimed = λ n. absurd (omega (arith, p, n));
-    }
-
-pub not-placed :
-    (id : ℕ)
-    → (id ≡ 1 → ⊥)
-    → (id ≡ 2 → ⊥)
-    → (id ≡ 3 → ⊥)
-    → (id ≡ 4 → ⊥)
-    → (id ≡ 8 → ⊥)
-    → (id ≡ 9 → ⊥)
-    → (id ≡ 10 → ⊥)
-    → (id ≡ 14 → ⊥)
-    → placedId id ≡ false
-not-placed id a b c d e f g h =
-    simp (ne-eqb id 1 a, ne-eqb id 2 b, ne-eqb id 3 c, ne-eqb id 4 d, ne-eqb id 8 e, ne-eqb id 9 f, ne-eqb id 10 g, ne-eqb id 14 h)

@@ -2,17 +2,14 @@
 -- Assumes nothing.
 use Prim.Native.Nat.{ℕ, _<_, _≤_}
 use mathlib.Core.Path.{_≡_}
-use mathlib.Core.Bool.{Bool, true, false}
-use mathlib.Core.List.{List, [], _∷_}
+use mathlib.Core.List.{List}
 use mathlib.Core.Option.{Option, none, some}
 use lib.ListN.{length}
 use Rattle.format.specs.Records.{Record}
-use Rattle.format.specs.Pins.{among}
 use Rattle.format.specs.Rules.{numbered, firstBroken, ownRules}
 use Rattle.format.specs.Claims.{claimsOf}
 use Rattle.format.specs.Decode.{decode}
 use Rattle.claims.specs.Taken.{ClaimsAre}
-use Rattle.rules.specs.Broken.{orElse}
 use Rattle.found.specs.declared.Found.{Found}
 
 -- the first of 8, 9 and 10 that it breaks, or 0
@@ -23,16 +20,6 @@ ownFault (some x) = numbered (firstBroken (ownRules x))
 -- of bytes after a header with this identifier: the fault, or room for the placement and the claims
 pub record Judged (id : ℕ) (c : List ℕ) (r : Found) : Type 0 where
   pub right : r .fault ≡ ownFault (decode id c)
-  pub long : r .fault ≡ 0 → 5 ≤ length c
-  pub claimed :
-      r .fault ≡ 0 → (x : Record) → decode id c ≡ some x → (at : ℕ) → at < 65536 → ClaimsAre (r .claims) (claimsOf at x)
-
--- the identifiers of the eight kinds that stand in a zone
-abbrev pub placedId : ℕ → Bool
-placedId id = among id (1 ∷ 2 ∷ 3 ∷ 4 ∷ 8 ∷ 9 ∷ 10 ∷ 14 ∷ [])
-
-pub record JudgedPlaced (id : ℕ) (c : List ℕ) (r : Found) : Type 0 where
-  pub right : r .fault ≡ orElse (placedId id) 7 (ownFault (decode id c))
   pub long : r .fault ≡ 0 → 5 ≤ length c
   pub claimed :
       r .fault ≡ 0 → (x : Record) → decode id c ≡ some x → (at : ℕ) → at < 65536 → ClaimsAre (r .claims) (claimsOf at x)

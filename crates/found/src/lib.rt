@@ -3,7 +3,7 @@
 ghost use mathlib.Core.Path.{_≡_};
 ghost use mathlib.Core.List.{[]};
 ghost use Rattle.claims.specs.Taken.{ClaimsAre};
-ghost use Rattle.found.specs.Judged.{Judged, JudgedPlaced};
+ghost use Rattle.found.specs.Judged.{Judged};
 use claims::Claims;
 
 pub struct Found {
@@ -27,7 +27,7 @@ fn both(fault: u8, claims: Claims) -> Found
 }
 
 // 01h
-fn digital_found(b: &[u8]) -> Found
+pub fn digital_found(b: &[u8]) -> Found
     ensures { λ r. ⌜ Judged 1 (now (b .entry)) r ⌝ }
 {
     if b.len() != 18 {
@@ -39,7 +39,7 @@ fn digital_found(b: &[u8]) -> Found
 }
 
 // 02h
-fn analogue_found(b: &[u8]) -> Found
+pub fn analogue_found(b: &[u8]) -> Found
     ensures { λ r. ⌜ Judged 2 (now (b .entry)) r ⌝ }
 {
     if b.len() != 17 {
@@ -50,7 +50,7 @@ fn analogue_found(b: &[u8]) -> Found
 }
 
 // 03h
-fn fan_found(b: &[u8]) -> Found
+pub fn fan_found(b: &[u8]) -> Found
     ensures { λ r. ⌜ Judged 3 (now (b .entry)) r ⌝ }
 {
     if b.len() != 13 {
@@ -61,7 +61,7 @@ fn fan_found(b: &[u8]) -> Found
 }
 
 // 04h
-fn led_found(b: &[u8]) -> Found
+pub fn led_found(b: &[u8]) -> Found
     ensures { λ r. ⌜ Judged 4 (now (b .entry)) r ⌝ }
 {
     if b.len() != 11 {
@@ -72,7 +72,7 @@ fn led_found(b: &[u8]) -> Found
 }
 
 // 08h
-fn current_found(b: &[u8]) -> Found
+pub fn current_found(b: &[u8]) -> Found
     ensures { λ r. ⌜ Judged 8 (now (b .entry)) r ⌝ }
 {
     if b.len() != 11 {
@@ -83,7 +83,7 @@ fn current_found(b: &[u8]) -> Found
 }
 
 // 09h
-fn controller_found(b: &[u8]) -> Found
+pub fn controller_found(b: &[u8]) -> Found
     ensures { λ r. ⌜ Judged 9 (now (b .entry)) r ⌝ }
 {
     if b.len() < 10 {
@@ -100,7 +100,7 @@ fn controller_found(b: &[u8]) -> Found
 }
 
 // 0Ah
-fn tachometer_found(b: &[u8]) -> Found
+pub fn tachometer_found(b: &[u8]) -> Found
     ensures { λ r. ⌜ Judged 10 (now (b .entry)) r ⌝ }
 {
     if b.len() < 9 {
@@ -116,7 +116,7 @@ fn tachometer_found(b: &[u8]) -> Found
 }
 
 // 0Eh
-fn rgb_found(b: &[u8]) -> Found
+pub fn rgb_found(b: &[u8]) -> Found
     ensures { λ r. ⌜ Judged 14 (now (b .entry)) r ⌝ }
 {
     if b.len() != 8 {
@@ -124,21 +124,4 @@ fn rgb_found(b: &[u8]) -> Found
     }
     let c = fields::rgb(b);
     both(rules::rgb_breaks(c), claims::rgb_claims(c))
-}
-
-// One of the eight kinds; 7 of any other identifier.
-pub fn placed_found(id: u8, b: &[u8]) -> Found
-    ensures { λ r. ⌜ JudgedPlaced id (now (b .entry)) r ⌝ }
-{
-    match id {
-        1 => digital_found(b),
-        2 => analogue_found(b),
-        3 => fan_found(b),
-        4 => led_found(b),
-        8 => current_found(b),
-        9 => controller_found(b),
-        10 => tachometer_found(b),
-        14 => rgb_found(b),
-        _ => refused(7),
-    }
 }

@@ -3,7 +3,7 @@
 use Prim.Native.Nat.{ℕ, zero, suc, _+_, _<_, _≤_}
 use native.Mathlib.Omega.{arith}
 use mathlib.Core.Path.{_≡_, refl, sym, _∙_, ap, subst}
-use mathlib.Core.Bool.{Bool, true, false, _&&_, not}
+use mathlib.Core.Bool.{Bool, true, false, _&&_, not, false≢true}
 use mathlib.Core.List.{List, [], _∷_, _++_, append-nil}
 use mathlib.Core.Option.{Option, none, some}
 use lib.ListN.{length, getD, set, drop, length-append}
@@ -25,7 +25,7 @@ use Rattle.flags.proofs.Marked.{marks-put, marks-same}
 use Rattle.claims.specs.Taken.{ClaimsAre, HeldIs}
 use Rattle.claims.specs.declared.Held.{Held}
 use Rattle.rules.specs.Broken.{orElse}
-use Rattle.found.specs.Judged.{ownFault, placedId, JudgedPlaced}
+use Rattle.found.specs.Judged.{ownFault, Judged}
 use Rattle.found.specs.declared.Found.{Found}
 use Rattle.pass.specs.Tracks.{allNamed, Tracks, zoneStop, ZoneStep, textStop, TextStep, PlacedStep, Went, TakeIs}
 use Rattle.pass.specs.declared.State.{State}
@@ -274,31 +274,59 @@ module _
           (subst (λ (n : ℕ). HeldIs (r .state .held) ((firstClaims d ++ claimsFrom 16 before) ++ claimsOf n x)) place
           (p .held o (firstClaims d ++ claimsFrom 16 before) (claimsOf at x) (t .held) (q z x refl) (claims-at at x)))
 
-known-placed : (id : ℕ) → (id ≡ 11 → ⊥) → (id ≡ 12 → ⊥) → known id ≡ placedId id
-known-placed id z s = simp (ne-eqb id 11 z, ne-eqb id 12 s)
+-- the identifiers of the eight kinds that stand in a zone
+abbrev placedId : ℕ → Bool
+placedId id = among id (1 ∷ 2 ∷ 3 ∷ 4 ∷ 8 ∷ 9 ∷ 10 ∷ 14 ∷ [])
+
+known-placed : (k : ℕ) → (k ≡ 11 → ⊥) → (k ≡ 12 → ⊥) → placedId k ≡ true → known k ≡ true
+known-placed k z s p = simp (ne-eqb k 11 z, ne-eqb k 12 s) p
 
 pub take-placed :
-    (id : ℕ) (c : List ℕ) (at : ℕ) (s : State) (zs ss zu su : List Bool) (f : Found) (r : Step) (zu′ su′ : List Bool)
-    → (id ≡ 11 → ⊥)
-    → (id ≡ 12 → ⊥)
+    (id k : ℕ) (c : List ℕ) (at : ℕ) (s : State) (zs ss zu su : List Bool) (f : Found) (r : Step) (zu′ su′ : List Bool)
+    → id ≡ k
+    → placedId k ≡ true
     → at < 65536
     → Bytes c
-    → JudgedPlaced id c f
+    → Judged k c f
     → PlacedStep f c at s zu su r zu′ su′
     → TakeIs id c at s zs ss zu su r zs ss zu′ su′
-take-placed id c at s zs ss zu su f r zu′ su′ z n low small j p =
-    record { takes = λ d before place t. rw (known-placed id z n) (go d before place t (placedId id) (j .right)) }
+take-placed id k c at s zs ss zu su f r zu′ su′ e i low small j p =
+    record {
+      takes =
+          λ d before place t.
+          rw (e, known-placed k zone-not text-not i)
+          (take-some c at s zs ss zu su f r zu′ su′ p small d before (decode k c) (decode-placed k c zone-not text-not) (j .right)
+          (λ n x w. j .claimed n x w at low)
+          place
+          t);
+    }
   where
-    go :
-        (d : Description) (before : List Record)
-        → at ≡ placeAfter before
-        → Tracks d s zs ss zu su before
-        → (b : Bool)
-        → f .fault ≡ orElse b 7 (ownFault (decode id c))
-        → Went d before r zs ss zu′ su′ (orStop b 7 (judge before (decode id c)))
-    go d before place t true q =
-        take-some c at s zs ss zu su f r zu′ su′ p small d before (decode id c) (decode-placed id c z n) q
-        (λ e x w. j .claimed e x w at low)
-        place
-        t
-    go d before place t false q = (p .stop ∙ q, omega arith)
+    zone-not : k ≡ 11 → ⊥
+    zone-not q = false≢true (subst (λ (n : ℕ). placedId n ≡ true) q i)
+
+    text-not : k ≡ 12 → ⊥
+    text-not q = false≢true (subst (λ (n : ℕ). placedId n ≡ true) q i)
+
+-- 7
+pub not-known :
+    (id : ℕ)
+    → (id ≡ 1 → ⊥)
+    → (id ≡ 2 → ⊥)
+    → (id ≡ 3 → ⊥)
+    → (id ≡ 4 → ⊥)
+    → (id ≡ 8 → ⊥)
+    → (id ≡ 9 → ⊥)
+    → (id ≡ 10 → ⊥)
+    → (id ≡ 11 → ⊥)
+    → (id ≡ 12 → ⊥)
+    → (id ≡ 14 → ⊥)
+    → known id ≡ false
+not-known id a b c d e f g h i j =
+    simp (ne-eqb id 1 a, ne-eqb id 2 b, ne-eqb id 3 c, ne-eqb id 4 d, ne-eqb id 8 e, ne-eqb id 9 f, ne-eqb id 10 g, ne-eqb id 11 h, ne-eqb id 12 i, ne-eqb id 14 j)
+
+pub take-unknown :
+    (id : ℕ) (c : List ℕ) (at : ℕ) (s : State) (zs ss zu su : List Bool) (r : Step)
+    → known id ≡ false
+    → r .stop ≡ 7
+    → TakeIs id c at s zs ss zu su r zs ss zu su
+take-unknown id c at s zs ss zu su r e p = record { takes = λ d before place t. rw e (p, omega arith) }

@@ -11,7 +11,6 @@ ghost use Rattle.pass.specs.Tracks.{Tracks, ZoneStep, TextStep, PlacedSt
 use claims::Held;
 use flags::wide;
 use found::Found;
-use found::placed_found;
 
 // How many elements and zones there are so far, and who claims which pins.
 pub struct State {
@@ -133,6 +132,8 @@ fn placed_step(
     }
 }
 
+// An element by its identifier; 7 of one that is not in the list. Each kind has its own call of `placed_step`, so that the
+// compiler lays it out for the pins that the kind claims (docs/BENCH.md).
 fn take(
     id: u8,
     b: &[u8],
@@ -146,13 +147,19 @@ fn take(
     requires { ⌜ (s .count < 96) × (s .zones ≤ 12) × (at < 65536) ⌝ }
     ensures { λ r. ⌜ TakeIs id (now (b .entry)) at s (now (zs .entry)) (now (ss .entry)) (now (zu .entry)) (now (su .entry)) r (now (zs .exit)) (now (ss .exit)) (now (zu .exit)) (now (su .exit)) ⌝ }
 {
-    if id == 11 {
-        return zone_step(b, s, zs, su);
+    match id {
+        1 => placed_step(found::digital_found(b), b, at, s, zu, su),
+        2 => placed_step(found::analogue_found(b), b, at, s, zu, su),
+        3 => placed_step(found::fan_found(b), b, at, s, zu, su),
+        4 => placed_step(found::led_found(b), b, at, s, zu, su),
+        8 => placed_step(found::current_found(b), b, at, s, zu, su),
+        9 => placed_step(found::controller_found(b), b, at, s, zu, su),
+        10 => placed_step(found::tachometer_found(b), b, at, s, zu, su),
+        11 => zone_step(b, s, zs, su),
+        12 => text_step(b, s, ss),
+        14 => placed_step(found::rgb_found(b), b, at, s, zu, su),
+        _ => stopped(7, s),
     }
-    if id == 12 {
-        return text_step(b, s, ss);
-    }
-    placed_step(placed_found(id, b), b, at, s, zu, su)
 }
 
 fn halted(stop: u8, state: State) -> Moved
