@@ -154,7 +154,7 @@ pub fn claim(h: Held, c: Claims, at: usize) -> Held
 }
 
 // The fault LED claims P1.0.
-pub fn fault_led() -> Held
+fn fault_led() -> Held
     ensures { λ r. ⌜ HeldIs r (claim alone 0 0x10 ∷ []) ⌝ }
 {
     Held {

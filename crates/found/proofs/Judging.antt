@@ -1,18 +1,18 @@
 -- From what the code finds of one kind to what is to be found: no record is there, or the one that is decoded is judged.
 -- Assumes nothing.
-use Prim.Native.Nat.{ℕ, suc, _+_, _-_, _*_, _<_, _≤_}
+use Prim.Native.Nat.{ℕ, _-_, _<_, _≤_}
 use native.Mathlib.Omega.{arith}
 use mathlib.Core.Path.{_≡_, refl, sym, _∙_, ap, subst}
-use mathlib.Core.Bool.{Bool, true, false, _&&_, false≢true}
-use mathlib.Core.List.{List, [], _∷_}
+use mathlib.Core.Bool.{Bool, true, false}
+use mathlib.Core.List.{List, []}
 use mathlib.Core.Option.{Option, none, some}
 use lib.ListN.{length, take, drop, length-drop, drop-of-length-le}
 use lib.Seq.{take-all}
-use lib.Dec.{eqb, leb}
+use lib.Dec.{leb}
 use borrow.Author.Tests.{eq-eqb, ne-eqb, le-leb, lt-leb, leb-true, leb-false}
 use Rattle.format.specs.Slots.{byte}
 use Rattle.format.specs.Records.{Block, Record, digital, analogue, fan, led, current, controller, tachometer, rgb}
-use Rattle.format.specs.Rules.{numbered, firstBroken, unlessKept, ownRules, shaped, coded, pinned, filled}
+use Rattle.format.specs.Rules.{numbered, firstBroken, unlessKept, ownRules, shaped, coded, pinned}
 use Rattle.format.specs.Claims.{claimsOf}
 use Rattle.format.specs.Decode.{decode, readDigital, readAnalogue, readFan, readLed, readCurrent, readDevice, readRgb, bind, cutBlocks, cutTwo}
 use Rattle.format.specs.declared.records.RegisterPair.{RegisterPair}

@@ -1,8 +1,6 @@
 // What the bytes of an element that stands in a zone say of it alone: the first of 8, 9 and 10 that it breaks, and the pins
 // that it claims. The slices start after the element's header.
 ghost use mathlib.Core.Path.{_≡_};
-ghost use mathlib.Core.List.{[]};
-ghost use Rattle.claims.specs.Taken.{ClaimsAre};
 ghost use Rattle.found.specs.Judged.{Judged};
 use claims::Claims;
 

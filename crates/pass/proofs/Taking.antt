@@ -2,23 +2,23 @@
 -- Assumes nothing.
 use Prim.Native.Nat.{ℕ, zero, suc, _+_, _<_, _≤_}
 use native.Mathlib.Omega.{arith}
-use mathlib.Core.Path.{_≡_, refl, sym, _∙_, ap, subst}
+use mathlib.Core.Path.{_≡_, refl, _∙_, subst}
 use mathlib.Core.Bool.{Bool, true, false, _&&_, not, false≢true}
 use mathlib.Core.List.{List, [], _∷_, _++_, append-nil}
 use mathlib.Core.Option.{Option, none, some}
-use lib.ListN.{length, getD, set, drop, length-append}
+use lib.ListN.{length, drop, length-append}
 use lib.Dec.{eqb, ltb, leb}
 use borrow.Author.Tests.{eqb-true, ltb-true, ltb-false, ne-eqb, le-leb, lt-leb}
 use Rattle.format.specs.Slots.{byte, Bytes}
 use Rattle.format.specs.Records.{Record, zone, string, controller, tachometer}
 use Rattle.format.specs.Layout.{placeAfter}
-use Rattle.format.specs.Rules.{unlessKept, numbered, firstBroken, ownRules, shaped, coded, pinned}
+use Rattle.format.specs.Rules.{unlessKept, numbered, ownRules, shaped, coded, pinned}
 use Rattle.format.specs.Pins.{among}
-use Rattle.format.specs.Numbers.{Role, placed, zoning, naming, role, zones, strings, zoneDeclared, stringDeclared, zoneNamed, stringNamed, zonesFit, fresh, rulesAgainst}
+use Rattle.format.specs.Numbers.{Role, placed, role, zones, strings, zoneDeclared, stringDeclared, zoneNamed, stringNamed, zonesFit, fresh, rulesAgainst}
 use Rattle.format.specs.Claims.{Claim, firstClaims, claimsOf, claimsFrom}
 use Rattle.format.specs.Verdict.{known}
 use Rattle.format.specs.Decode.{readPlacement, readDevice, guard, bind, pick, decode, cutBlocks, cutTwo}
-use Rattle.format.specs.Reader.{Outcome, took, stop, orStop, unlessBroken, judge}
+use Rattle.format.specs.Reader.{Outcome, took, stop, unlessBroken, judge}
 use Rattle.format.specs.declared.records.Description.{Description}
 use Rattle.flags.specs.Marks.{Marks}
 use Rattle.flags.proofs.Marked.{marks-put, marks-same}

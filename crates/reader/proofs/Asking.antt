@@ -1,21 +1,20 @@
 -- From an accepted table to its description, element k and the bytes of its variable part.
 -- Assumes nothing.
-use Prim.Native.Nat.{ℕ, zero, suc, _+_, _-_, _*_, _≤_, _<_}
+use Prim.Native.Nat.{ℕ, zero, suc, _+_, _-_, _≤_, _<_}
 use native.Mathlib.Omega.{arith}
 use native.Mathlib.Nat.{add-zero}
 use mathlib.Core.Path.{_≡_, refl, sym, _∙_, ap}
-use mathlib.Core.Bool.{Bool, true, false, _&&_, false≢true}
+use mathlib.Core.Bool.{Bool, true, false, false≢true}
 use mathlib.Core.List.{List, [], _∷_, _++_, map, append-nil}
-use mathlib.Core.Option.{Option, none, some}
+use mathlib.Core.Option.{none, some}
 use lib.ListN.{length, take, drop, length-append, length-drop}
 use lib.Seq.{drop-drop, getD-drop}
 use Rattle.format.specs.Slots.{Slot, whole, low, high, halves, flag, reserved, word, written, Starts, Fits, byte, Bytes}
 use Rattle.format.specs.Records.{Block, Record, digital, analogue, fan, led, current, controller, tachometer, zone, string, rgb, elementOf}
 use Rattle.format.specs.Layout.{fixed, part, pairs, entries, blocks, idOf, body, layout, layouts}
-use Rattle.format.specs.Table.{PassKept}
 use Rattle.format.specs.Verdict.{stated, Stands, Accepts, Verdict, accepted}
 use Rattle.format.specs.Decode.{content, decode, readDescription}
-use Rattle.format.specs.Reader.{elementsOf, through}
+use Rattle.format.specs.Reader.{through, verdictOf}
 use Rattle.format.specs.Asked.{nth, Describes, described, undescribed, Gives, given, past, ungiven}
 use Rattle.format.specs.declared.records.RegisterPair.{RegisterPair}
 use Rattle.format.specs.declared.records.Element.{Element as Case}
@@ -25,13 +24,17 @@ use Rattle.format.specs.declared.answers.Answer.the-variants.{Accepted, Refused
 use Rattle.format.specs.declared.answers.Described.the-variants.{Description}
 use Rattle.format.specs.declared.answers.Asked.the-variants.{Element, Refused as NotGiven}
 use Rattle.format.proofs.Slots.{bytes-drop, starts-over, starts-split, starts-rest, starts-length}
-use Rattle.format.proofs.Opening.{opened-only, opened-facts, table-split, Split}
+use Rattle.format.proofs.Opening.{opened-only, opened-facts, table-split}
 use Rattle.format.proofs.Decoding.{starts-stated, stands-decoded}
 use Rattle.format.proofs.Passing.{pass-only}
-use Rattle.format.proofs.Theorem.{accepts-passed}
+use Rattle.format.proofs.Theorem.{accepts-passed, meets}
 use Rattle.elements.specs.Parts.{partStart}
 use Rattle.places.specs.Walks.{Walkable, Located}
 use Rattle.reader.specs.Answered.{GivesElement, GivesPart, notDescribed, notGiven}
+
+-- the reader's function gives the verdict
+pub verdict : (b : List ℕ) (a : Answer) → Bytes b → a ≡ verdictOf b → Verdict b a
+verdict b a small e = rw e (meets b small)
 
 -- what an acceptance says
 pub record Taken (b : List ℕ) (n : ℕ) : Type 0 where
@@ -41,8 +44,8 @@ pub record Taken (b : List ℕ) (n : ℕ) : Type 0 where
   pub count : n ≡ length (table .rs)
   pub reads : fields ≡ readDescription (byte b)
 
-pub taken : (b : List ℕ) (n : ℕ) → Bytes b → Verdict b (Accepted n) → Taken b n
-taken b n small (accepted d rs c) =
+of-verdict : (b : List ℕ) (n : ℕ) → Bytes b → Verdict b (Accepted n) → Taken b n
+of-verdict b n small (accepted d rs c) =
     let p = accepts-passed b d rs c in
     let s = table-split b d rs (p .limit) (p .fits) in
     let o = opened-only b d (s .rest) (s .opened) in
@@ -64,16 +67,20 @@ taken b n small (accepted d rs c) =
       reads = o .0;
     }
 
+pub taken : (b : List ℕ) (n : ℕ) (a : Answer) → Bytes b → a ≡ verdictOf b → a ≡ Accepted n → Taken b n
+taken b n a small e p = of-verdict b n small (verdict b (Accepted n) small (sym p ∙ e))
+
 -- the description
 pub describes : (b : List ℕ) (n : ℕ) → Taken b n → Describes b (Description (readDescription (byte b)))
 describes b n t = rw (← (t .reads)) (described (t .fields) (t .table .rs) (t .accepts))
 
-pub describes-not : (b : List ℕ) (a : Answer) {k p : ℕ} → Verdict b a → a ≡ Refused k p → Describes b (notDescribed a)
-describes-not b a v e = rw e (undescribed (rw e at v))
+pub describes-not : (b : List ℕ) (a : Answer) {k p : ℕ} → Bytes b → a ≡ verdictOf b → a ≡ Refused k p → Describes b (notDescribed a)
+describes-not b a small v e = rw e (undescribed (verdict b _ small (sym e ∙ v)))
 
 -- an element past the last, or a refused table
-pub gives-not : (b : List ℕ) (k : ℕ) (a : Answer) {j p : ℕ} → Verdict b a → a ≡ Refused j p → Gives b k (notGiven a) []
-gives-not b k a v e = rw e (ungiven (rw e at v))
+pub gives-not :
+    (b : List ℕ) (k : ℕ) (a : Answer) {j p : ℕ} → Bytes b → a ≡ verdictOf b → a ≡ Refused j p → Gives b k (notGiven a) []
+gives-not b k a small v e = rw e (ungiven (verdict b _ small (sym e ∙ v)))
 
 nth-past : (rs : List Record) (k : ℕ) → length rs ≤ k → nth rs k ≡ none
 nth-past [] k h = refl

@@ -1,25 +1,24 @@
 -- The rules over the whole table, from what the pass has gathered.
 -- Assumes nothing.
-use Prim.Native.Nat.{ℕ, _+_, _≤_, _<_}
-use native.Mathlib.Omega.{arith}
+use Prim.Native.Nat.{ℕ, _<_}
 use mathlib.Core.Path.{_≡_, refl, sym, _∙_, ap}
 use mathlib.Core.Bool.{Bool, true, false, _||_, false≢true}
-use mathlib.Core.List.{List, [], _∷_, _++_, append-nil}
+use mathlib.Core.List.{List, [], _∷_}
 use mathlib.Core.Option.{Option, none, some}
-use lib.ListN.{length, getD, drop}
+use lib.ListN.{getD}
 use lib.Dec.{eqb}
 use borrow.Author.Tests.{eq-eqb, ne-eqb, eqb-true}
 use Rattle.format.specs.Slots.{byte}
 use Rattle.format.specs.Records.{Record}
 use Rattle.format.specs.Pins.{among}
 use Rattle.format.specs.Numbers.{zones, strings, zoneNamed, stringNamed, firstNaming, zoneless, nameless}
-use Rattle.format.specs.Claims.{Claim, firstClash, firstClaims, claims, contested}
+use Rattle.format.specs.Claims.{Claim, firstClash, claims}
 use Rattle.format.specs.Decode.{readDescription}
-use Rattle.format.specs.Reader.{elementsOf, through, orRefuse, overAll, conclude}
+use Rattle.format.specs.Reader.{elementsOf, through, overAll, conclude}
 use Rattle.format.specs.declared.records.Description.{Description}
 use Rattle.format.specs.declared.answers.Answer.{Answer}
 use Rattle.format.specs.declared.answers.Answer.the-variants.{Accepted, Refused}
-use Rattle.flags.specs.Marks.{Marks, Lacks}
+use Rattle.flags.specs.Marks.{Lacks}
 use Rattle.claims.specs.Taken.{isNone, placeOr, HeldIs}
 use Rattle.claims.specs.declared.Held.{Held}
 use Rattle.claims.proofs.Firsts.{place-none}
@@ -49,20 +48,6 @@ a-clash h cs k n =
     some-is (firstClash [] cs)
     (sym (place-none cs [] (k .are-proper)) ∙ ne-eqb (placeOr (firstClash [] cs)) 65536 m)
     ∙ ap some (sym (k .first-clash))
-
--- a table without elements
-module _ (d : Description) (h : Held) (k : HeldIs h (firstClaims d)) where
-  whole : firstClash [] (firstClaims d ++ []) ≡ firstClash [] (firstClaims d)
-  whole = ap (λ (l : List Claim). firstClash [] l) (append-nil (firstClaims d))
-
-  pub bare-14 : (d .string ≡ 0 → ⊥) → Refused 14 0 ≡ overAll d []
-  bare-14 n = sym (rw (ne-eqb (d .string) 0 n) refl)
-
-  pub bare-15 : d .string ≡ 0 → (h .clash ≡ 65536 → ⊥) → Refused 15 (h .clash) ≡ overAll d []
-  bare-15 e n = sym (rw (eq-eqb (d .string) 0 e, whole, a-clash h (firstClaims d) k n) refl)
-
-  pub bare-0 : d .string ≡ 0 → h .clash ≡ 65536 → Accepted 0 ≡ overAll d []
-  bare-0 e n = sym (rw (eq-eqb (d .string) 0 e, whole, no-clash h (firstClaims d) k n) refl)
 
 -- a table with elements
 module _ (t : List ℕ) (s : State) (zs ss zu su : List Bool) (g : Gathered t s zs ss zu su) where

@@ -1,31 +1,27 @@
 -- From the pass to the whole answer: what is gathered, the description before it, and the first three rules.
 -- Assumes nothing.
-use Prim.Native.Nat.{ℕ, _+_, _*_, _≤_, _<_}
+use Prim.Native.Nat.{ℕ, _≤_, _<_}
 use native.Mathlib.Omega.{arith}
 use mathlib.Core.Path.{_≡_, refl, sym, _∙_, ap, subst}
-use mathlib.Core.Bool.{Bool, true, false, _&&_, false≢true}
-use mathlib.Core.List.{List, [], _∷_, _++_, append-nil}
+use mathlib.Core.Bool.{Bool, true, false}
+use mathlib.Core.List.{List, [], _∷_, append-nil}
 use mathlib.Core.Option.{Option, none, some}
-use lib.ListN.{length, set, drop, replicate, length-drop}
-use lib.Dec.{eqb, leb}
+use lib.ListN.{length, set, drop, replicate}
 use borrow.Author.Tests.{eq-eqb, ne-eqb, le-leb, lt-leb}
 use Rattle.format.specs.Slots.{byte, Bytes}
-use Rattle.format.specs.Records.{Record}
 use Rattle.format.specs.Numbers.{strings}
 use Rattle.format.specs.Rules.{numbered, unlessKept, descriptionRules, typed, powered, strapped}
-use Rattle.format.specs.Pins.{unused}
-use Rattle.format.specs.Claims.{claim, alone, firstClaims}
+use Rattle.format.specs.Claims.{firstClaims}
 use Rattle.format.specs.Table.{descriptionBreaks}
 use Rattle.format.specs.Verdict.{stated}
 use Rattle.format.specs.Decode.{readDescription}
-use Rattle.format.specs.Reader.{Result, halted, through, pass, elementsOf, conclude, overAll, unlessMisdescribed, afterDescription, verdictOf}
+use Rattle.format.specs.Reader.{Result, halted, through, pass, elementsOf, conclude, unlessMisdescribed, afterDescription, verdictOf}
 use Rattle.format.specs.declared.records.Description.{Description}
 use Rattle.format.specs.declared.answers.Answer.{Answer}
-use Rattle.format.specs.declared.answers.Answer.the-variants.{Accepted, Refused}
+use Rattle.format.specs.declared.answers.Answer.the-variants.{Refused}
 use Rattle.flags.specs.Marks.{Marks}
 use Rattle.flags.proofs.Marked.{marks-clear, marks-put, marks-front}
 use Rattle.claims.specs.Taken.{HeldIs}
-use Rattle.claims.specs.declared.Held.{Held}
 use Rattle.pass.specs.Tracks.{Tracks, WalkIs}
 use Rattle.pass.specs.declared.State.{State}
 use Rattle.pass.specs.declared.Over.{Over}
@@ -128,40 +124,16 @@ well-described :
 well-described d bs k a e z p =
     p ∙ sym (ap (λ (o : Option ℕ). unlessMisdescribed o (conclude d (pass (length bs) [] 16 bs))) (good-none d (sym e ∙ z)))
 
--- no bytes after the description
-nothing-after : (t : List ℕ) → length t ≡ 16 → elementsOf t ≡ through []
-unfolding pass
-nothing-after t h = rw (length-drop 16 t, h) refl
-
--- without hardware revision pins the fault LED's claim is the only one before the elements
-three-unused : (a b c : Bool) → a && b && c ≡ true → (a ≡ true) × (b ≡ true) × (c ≡ true)
-three-unused true true true h = (refl, refl, refl)
-three-unused true true false h = absurd (false≢true h)
-three-unused true false c h = absurd (false≢true h)
-three-unused false b c h = absurd (false≢true h)
-
-pub led-alone :
-    (d : Description) (h : Held)
-    → unused (d .revision0) && unused (d .revision1) && unused (d .revision2) ≡ true
-    → HeldIs h (claim alone 0 0x10 ∷ [])
-    → HeldIs h (firstClaims d)
-led-alone d h e k =
-    let u = three-unused (unused (d .revision0)) (unused (d .revision1)) (unused (d .revision2)) e in
-    let q : firstClaims d ≡ claim alone 0 0x10 ∷ [] = rw (u .0, u .1, u .2) refl in
-    rw q k
-
--- after a good description: a table without elements, and one with them
-module _ (t : List ℕ) (d : Description) (k : ℕ) (a : Answer) (e : d ≡ readDescription (byte t)) (f : k ≡ numbered (descriptionBreaks d)) (z : k ≡ 0) where
+-- after a good description
+module _ (t : List ℕ) (d : Description) (k : ℕ) (e : d ≡ readDescription (byte t)) (f : k ≡ numbered (descriptionBreaks d)) (z : k ≡ 0) where
   pub good-strapped : strapped d ≡ true
   good-strapped = strapped-of d (sym f ∙ z)
 
-  pub after-bare : length t ≡ 16 → a ≡ overAll d [] → a ≡ afterDescription (readDescription (byte t)) (drop 16 t)
-  after-bare n p =
-      rw (← e) (well-described d (drop 16 t) k a f z (p ∙ sym (ap (conclude d) (nothing-after t n))))
-
   pub after-elements :
-      a ≡ conclude (readDescription (byte t)) (elementsOf t) → a ≡ afterDescription (readDescription (byte t)) (drop 16 t)
-  after-elements p = well-described (readDescription (byte t)) (drop 16 t) k a (rw e at f) z p
+      (a : Answer)
+      → a ≡ conclude (readDescription (byte t)) (elementsOf t)
+      → a ≡ afterDescription (readDescription (byte t)) (drop 16 t)
+  after-elements a p = well-described (readDescription (byte t)) (drop 16 t) k a (rw e at f) z p
 
 -- the first three rules
 module _ (t : List ℕ) where

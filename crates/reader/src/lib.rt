@@ -2,19 +2,17 @@
 ghost use mathlib.Core.Path.{_≡_};
 ghost use Prim.Native.Nat.{_≤_};
 ghost use lib.ListN.{length, drop};
-ghost use Rattle.format.specs.Slots.{byte, Bytes};
+ghost use Rattle.format.specs.Slots.{byte, written, Bytes};
 ghost use Rattle.format.specs.Claims.{firstClaims};
-ghost use Rattle.format.specs.Verdict.{Verdict};
+ghost use Rattle.format.specs.Verdict.{stated, Stands, Verdict};
 ghost use Rattle.format.specs.Decode.{readDescription};
-ghost use Rattle.format.specs.Reader.{elementsOf, conclude, overAll, afterDescription, verdictOf};
-ghost use mathlib.Core.List.{[]};
+ghost use Rattle.format.specs.Reader.{elementsOf, conclude, afterDescription, verdictOf};
 ghost use Rattle.claims.specs.Taken.{HeldIs};
-ghost use Rattle.format.specs.Slots.{written};
 ghost use Rattle.format.specs.Records.{Record, elementOf};
 ghost use Rattle.format.specs.Layout.{part};
-ghost use Rattle.format.specs.Verdict.{Stands};
 ghost use Rattle.format.specs.Asked.{Describes};
 ghost use Rattle.reader.specs.Whole.{Gathered};
+ghost use Rattle.reader.specs.Bare.{plain, bareTable};
 ghost use Rattle.reader.specs.Answered.{notDescribed, notGiven, GivesElement, GivesPart};
 use claims::Held;
 use flags::lacks;
@@ -81,20 +79,6 @@ fn elements(t: &[u8], held: Held) -> Answer
     concluded(t, s, &zs, &ss, &zu, &su)
 }
 
-// A table without elements.
-fn bare(d: Description, held: Held) -> Answer
-    requires { ⌜ HeldIs held (firstClaims d) ⌝ }
-    ensures { λ r. ⌜ r ≡ overAll d [] ⌝ }
-{
-    if d.string != 0 {
-        return Answer::Refused(14, 0);
-    }
-    if held.clash != 65536 {
-        return Answer::Refused(15, held.clash);
-    }
-    Answer::Accepted(0)
-}
-
 // What follows the first three rules.
 fn described(t: &[u8]) -> Answer
     requires { ⌜ (16 ≤ length (now t)) × (length (now t) ≤ 4096) × Bytes (now t) ⌝ }
@@ -105,20 +89,18 @@ fn described(t: &[u8]) -> Answer
     if fault != 0 {
         return Answer::Refused(fault, 0);
     }
-    if (d.revision0.0 == 255) & (d.revision1.0 == 255) & (d.revision2.0 == 255) {
-        let led = claims::fault_led();
-        if t.len() == 16 {
-            return bare(d, led);
-        }
-        return elements(t, led);
-    }
-    let held = claims::first_claims(d);
-    if t.len() == 16 {
-        return bare(d, held);
-    }
-    elements(t, held)
+    elements(t, claims::first_claims(d))
 }
 
+// The length that bytes 1-2 give.
+fn stated(t: &[u8]) -> usize
+    requires { ⌜ 3 ≤ length (now t) ⌝ }
+    ensures { λ r. ⌜ r ≡ stated (now (t .entry)) ⌝ }
+{
+    wide(t[1]) + 256 * wide(t[2])
+}
+
+// All rules in their order.
 fn read(t: &[u8]) -> Answer
     ensures { λ r. ⌜ r ≡ verdictOf (now (t .entry)) ⌝ }
 {
@@ -128,7 +110,7 @@ fn read(t: &[u8]) -> Answer
     if t[0] != 1 {
         return Answer::Refused(2, 0);
     }
-    if wide(t[1]) + 256 * wide(t[2]) != t.len() {
+    if stated(t) != t.len() {
         return Answer::Refused(3, 0);
     }
     if 4096 < t.len() {
@@ -137,10 +119,40 @@ fn read(t: &[u8]) -> Answer
     described(t)
 }
 
+// A description that breaks neither 4 nor 5, without string index and hardware revision pins.
+fn plain(d: Description) -> bool
+    ensures { λ r. ⌜ r ≡ plain d ⌝ }
+{
+    let a = d.revision0;
+    let b = d.revision1;
+    let c = d.revision2;
+    (d.string == 0)
+        & rules::typed(d)
+        & rules::powered(d)
+        & rules::unused(a)
+        & rules::unused(b)
+        & rules::unused(c)
+}
+
+// 16 bytes with a plain description break no rule.
+fn bare(t: &[u8]) -> bool
+    ensures { λ r. ⌜ r ≡ bareTable (now (t .entry)) ⌝ }
+{
+    if t.len() != 16 {
+        return false;
+    }
+    (t[0] == 1) & (stated(t) == 16) & plain(fields::description(t))
+}
+
 // Accepted with the number of elements, or the number and the place of the first rule that is broken.
+// A bare table is answered before the flags are laid out, which takes longer than all its tests (docs/BENCH.md). The other
+// calls go to `read`: so `check` stays small enough to be laid into its callers.
 pub fn check(table: &[u8]) -> Answer
     ensures { λ r. ⌜ Verdict (now (table .entry)) r ⌝ }
 {
+    if bare(table) {
+        return Answer::Accepted(0);
+    }
     read(table)
 }
 
@@ -158,7 +170,7 @@ fn not_described(a: Answer) -> Described
 pub fn description(table: &[u8]) -> Described
     ensures { λ r. ⌜ Describes (now (table .entry)) r ⌝ }
 {
-    let answer = check(table);
+    let answer = read(table);
     let Answer::Accepted(_) = answer else {
         return not_described(answer);
     };
@@ -201,7 +213,7 @@ fn not_given(a: Answer) -> Asked
 pub fn element(table: &[u8], k: usize) -> Asked
     ensures { λ r. ⌜ GivesElement (now (table .entry)) k r ⌝ }
 {
-    let answer = check(table);
+    let answer = read(table);
     let Answer::Accepted(n) = answer else {
         return not_given(answer);
     };
@@ -216,7 +228,7 @@ pub fn element(table: &[u8], k: usize) -> Asked
 pub fn part(table: &[u8], k: usize) -> &[u8]
     ensures { λ r. ⌜ GivesPart (now (table .entry)) k (now r) ⌝ }
 {
-    let answer = check(table);
+    let answer = read(table);
     let Answer::Accepted(n) = answer else {
         return &table[0..0];
     };

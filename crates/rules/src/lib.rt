@@ -30,27 +30,27 @@ fn or_else(kept: bool, number: u8, later: u8) -> u8
     if kept { later } else { number }
 }
 
-fn typed(d: Description) -> bool
+// 4
+pub fn typed(d: Description) -> bool
     ensures { λ r. ⌜ r ≡ typed d ⌝ }
 {
     (d.device == 1) | (d.device == 2) | (d.device == 3)
 }
 
-fn powered(d: Description) -> bool
+// 5
+pub fn powered(d: Description) -> bool
     ensures { λ r. ⌜ r ≡ powered d ⌝ }
 {
     d.spwr | (d.power.0 <= 125)
 }
 
+// 10
 fn strapped(d: Description) -> bool
     ensures { λ r. ⌜ r ≡ strapped d ⌝ }
 {
     let a = d.revision0;
     let b = d.revision1;
     let c = d.revision2;
-    if (a.0 == 255) & (b.0 == 255) & (c.0 == 255) {
-        return true;
-    }
     allowed_or_unused(Use::HardwareRevision, a)
         & (allowed_or_unused(Use::HardwareRevision, b)
             & allowed_or_unused(Use::HardwareRevision, c))
@@ -119,7 +119,7 @@ pub fn analogue_breaks(a: AnalogueSensor) -> u8
     )
 }
 
-fn unused(p: OptionalPin) -> bool
+pub fn unused(p: OptionalPin) -> bool
     ensures { λ r. ⌜ r ≡ unused p ⌝ }
 {
     p.0 == 255

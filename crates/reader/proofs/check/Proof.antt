@@ -1,16 +1,20 @@
--- `check` meets its contract: the reader's function gives the verdict.
+-- `check` meets its contract: a bare table breaks no rule, and of any other the reader's function gives the verdict.
 -- Assumes nothing.
 use native.Mathlib.Omega.{arith}
-use Rattle.format.proofs.Theorem.{meets}
+use mathlib.Core.Path.{sym, _∙_}
+use Rattle.reader.proofs.Accepting.{bare-accepted}
+use Rattle.reader.proofs.Asking.{verdict}
 use borrow.Author.Needs.{needs}
 use Rattle.reader.proofs.check.Statement.{statement}
 use Rattle.reader.proofs.check.Tie as tie
 
-read-requires : tie.Need-read-requires
-read-requires c κs = search needs
-
 returns : tie.Need-returns
-returns c = rw (c .read .ensures) (meets _ (λ i. omega (arith, c .before .shared-slice-known .given i)))
+returns c =
+    verdict _ _ (λ i. omega (arith, c .before .before .shared-slice-known .given i))
+    (bare-accepted _ (sym (c .before .bare .ensures) ∙ c .if1 .taken))
+
+returns-2 : tie.Need-returns-2
+returns-2 c = verdict _ _ (λ i. omega (arith, c .before .before .before .shared-slice-known .given i)) (c .read .ensures)
 
 pub check-spec : {M : Type 1} → statement M
-check-spec = tie.close (tie.spec read-requires returns)
+check-spec = tie.close (tie.spec (search needs) returns (search needs) returns-2)

@@ -6,8 +6,8 @@ use borrow.Author.Needs.{needs}
 use Rattle.reader.proofs.description.Statement.{statement}
 use Rattle.reader.proofs.description.Tie as tie
 
-check-requires : tie.Need-check-requires
-check-requires c κs = search needs
+read-requires : tie.Need-read-requires
+read-requires c κs = search needs
 
 enum-told : tie.Need-enum-told
 enum-told c = search needs
@@ -19,19 +19,19 @@ not-described-requires : tie.Need-not-described-requires
 not-described-requires c κs = search needs
 
 returns : tie.Need-returns
-returns c = rw (c .not-described .ensures) (describes-not _ _ (c .before .before .before .check .ensures) (c .before .enum-told2 .given .1))
+returns c = rw (c .not-described .ensures) (describes-not _ _ (λ i. omega (arith, c .before .before .before .before .shared-slice-known .given i)) (c .before .before .before .read .ensures) (c .before .enum-told2 .given .1))
 
 description-requires : tie.Need-description-requires
-description-requires c κs = omega (arith, taken _ _ (λ i. omega (arith, c .before .before .before .shared-slice-known .given i)) (rw (c .enum-told .given .1) at (c .before .before .check .ensures)) .table .long)
+description-requires c κs = omega (arith, taken _ _ _ (λ i. omega (arith, c .before .before .before .shared-slice-known .given i)) (c .before .before .read .ensures) (c .enum-told .given .1) .table .long)
 
 returns-2 : tie.Need-returns-2
-returns-2 c = rw (c .description .ensures) (describes _ _ (taken _ _ (λ i. omega (arith, c .before .before .before .before .shared-slice-known .given i)) (rw (c .before .enum-told .given .1) at (c .before .before .before .check .ensures))))
+returns-2 c = rw (c .description .ensures) (describes _ _ (taken _ _ _ (λ i. omega (arith, c .before .before .before .before .shared-slice-known .given i)) (c .before .before .before .read .ensures) (c .before .enum-told .given .1)))
 
 pub description-spec : {M : Type 1} → statement M
 description-spec =
     tie.close
     (tie.spec
-    check-requires
+    read-requires
     enum-told
     enum-told-2
     not-described-requires

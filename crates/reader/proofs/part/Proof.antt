@@ -6,8 +6,8 @@ use borrow.Author.Needs.{needs}
 use Rattle.reader.proofs.part.Statement.{statement}
 use Rattle.reader.proofs.part.Tie as tie
 
-check-requires : tie.Need-check-requires
-check-requires c κs = search needs
+read-requires : tie.Need-read-requires
+read-requires c κs = search needs
 
 enum-known-answer : tie.Need-enum-known-answer
 enum-known-answer c = search needs
@@ -25,7 +25,7 @@ part-result-end : tie.Need-part-result-end
 part-result-end c = search needs
 
 returns : tie.Need-returns
-returns c = record { beside = _; gives = gives-not _ _ _ (c .before .before .before .check .ensures) (c .before .enum-told .given .1) }
+returns c = record { beside = _; gives = gives-not _ _ _ (λ i. omega (arith, c .before .before .before .before .shared-slice-known .given i)) (c .before .before .before .read .ensures) (c .before .enum-told .given .1) }
 
 sub-result-2 : tie.Need-sub-result-2
 sub-result-2 c = search needs
@@ -37,22 +37,22 @@ part-result-end-2 : tie.Need-part-result-end-2
 part-result-end-2 c = search needs
 
 returns-2 : tie.Need-returns-2
-returns-2 c = record { beside = _; gives = gives-past _ _ _ (taken _ _ (λ i. omega (arith, c .before .before .before .before .before .before .shared-slice-known .given i)) (rw (c .before .before .before .answer .given .1) at (c .before .before .before .before .before .check .ensures))) (c .before .if1 .taken) }
+returns-2 c = record { beside = _; gives = gives-past _ _ _ (taken _ _ _ (λ i. omega (arith, c .before .before .before .before .before .before .shared-slice-known .given i)) (c .before .before .before .before .before .read .ensures) (c .before .before .before .answer .given .1)) (c .before .if1 .taken) }
 
 place-of-requires : tie.Need-place-of-requires
 place-of-requires c κs =
-    let t = taken _ _ (λ i. omega (arith, c .before .before .before .before .before .shared-slice-known .given i)) (rw (c .before .before .answer .given .1) at (c .before .before .before .before .check .ensures)) in
+    let t = taken _ _ _ (λ i. omega (arith, c .before .before .before .before .before .shared-slice-known .given i)) (c .before .before .before .before .read .ensures) (c .before .before .answer .given .1) in
     (t .table, omega (arith, t .count, c .if1 .left))
 
 part-at-requires : tie.Need-part-at-requires
 part-at-requires c κs =
-    let t = taken _ _ (λ i. omega (arith, c .before .before .before .before .before .before .shared-slice-known .given i)) (rw (c .before .before .before .answer .given .1) at (c .before .before .before .before .before .check .ensures)) in
+    let t = taken _ _ _ (λ i. omega (arith, c .before .before .before .before .before .before .shared-slice-known .given i)) (c .before .before .before .before .before .read .ensures) (c .before .before .before .answer .given .1) in
     let l = c .place-of .ensures _ (t .table .whole) in
     (l .record-there, l .stands)
 
 returns-3 : tie.Need-returns-3
 returns-3 c =
-    let t = taken _ _ (λ i. omega (arith, c .before .before .before .before .before .before .before .shared-slice-known .given i)) (rw (c .before .before .before .before .answer .given .1) at (c .before .before .before .before .before .before .check .ensures)) in
+    let t = taken _ _ _ (λ i. omega (arith, c .before .before .before .before .before .before .before .shared-slice-known .given i)) (c .before .before .before .before .before .before .read .ensures) (c .before .before .before .before .answer .given .1) in
     let l = c .before .place-of .ensures _ (t .table .whole) in
     part-there _ _ _ _ t l (c .part-at .ensures (l .record-there) (l .stands))
 
@@ -60,7 +60,7 @@ pub part-spec : {M : Type 1} → statement M
 part-spec =
     tie.close
     (tie.spec
-    check-requires
+    read-requires
     enum-known-answer
     enum-told
     sub-result
