@@ -22,6 +22,7 @@ use Rattle.pass.specs.declared.State.{State}
 use Rattle.pass.specs.declared.Moved.{Moved}
 use Rattle.pass.specs.declared.Over.{Over}
 use Rattle.pass.proofs.Growing.{place-snoc}
+use Rattle.pass.proofs.Moving.{unframed-short, move-6}
 
 -- the loop's invariant: some elements lie behind, the state and the flags track them, and the pass is where the loop is
 pub record Underway (d : Description) (t : List ℕ) (s : State) (zs ss zu su : List Bool) (at : ℕ) : Type 0 where
@@ -155,6 +156,24 @@ module _
   halt w z v a b =
       let k = turned in
       halt-by (k .0) (step (u .before) (drop at t)) z (w .moves d (u .before) (u .place) (u .tracks)) (k .2) v a b
+
+-- one or two bytes are left
+pub cut-short :
+    (d : Description) (t : List ℕ) (s : State) (zs ss zu su : List Bool) (at : ℕ)
+    → Underway d t s zs ss zu su at
+    → length t ≤ at + 2
+    → at < length t
+    → (v : Over)
+    → v .stop ≡ 6
+    → v .place ≡ at
+    → OverIs d v zs ss zu su (elementsOf t)
+cut-short d t s zs ss zu su at u l h v a b =
+    let r : Moved = record { stop = 6; len = 0; state = s } in
+    halt d t s zs ss zu su at u r zs ss zu su h (move-6 t at s zs ss zu su r zs ss zu su refl (unframed-short t at (omega arith)))
+    (λ e. omega (arith, e))
+    v
+    a
+    b
 
 pub finish :
     (d : Description) (t : List ℕ) (s : State) (zs ss zu su : List Bool) (at : ℕ)

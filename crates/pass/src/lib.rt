@@ -172,7 +172,7 @@ fn halted(stop: u8, state: State) -> Moved
     }
 }
 
-// What stands at a place of the table.
+// What stands at a place of the table, where there is room for a header.
 fn one_step(
     t: &[u8],
     at: usize,
@@ -182,13 +182,10 @@ fn one_step(
     zu: &mut [bool; 256],
     su: &mut [bool; 256],
 ) -> Moved
-    requires { ⌜ (at < length (now t)) × (length (now t) ≤ 4096) × (s .count ≤ 96) × (s .zones ≤ 12) ⌝ }
+    requires { ⌜ (at + 2 < length (now t)) × (length (now t) ≤ 4096) × (s .count ≤ 96) × (s .zones ≤ 12) ⌝ }
     ensures { λ r. ⌜ MoveIs (now (t .entry)) at s (now (zs .entry)) (now (ss .entry)) (now (zu .entry)) (now (su .entry)) r (now (zs .exit)) (now (ss .exit)) (now (zu .exit)) (now (su .exit)) ⌝ }
 {
     let left = t.len() - at;
-    if left < 3 {
-        return halted(6, s);
-    }
     let len = wide(t[at + 1]) + 256 * wide(t[at + 2]);
     if len < 3 {
         return halted(6, s);
@@ -210,7 +207,7 @@ fn one_step(
     }
 }
 
-// All elements.
+// All elements. The loop ends where no header can stand: at the end, or 6.
 pub fn walk(
     t: &[u8],
     start: State,
@@ -224,7 +221,7 @@ pub fn walk(
 {
     let mut s = start;
     let mut at: usize = 16;
-    while at < t.len() {
+    while at + 2 < t.len() {
         let r = one_step(t, at, s, zs, ss, zu, su);
         let next = r.state;
         if r.stop != 0 {
@@ -236,6 +233,13 @@ pub fn walk(
         }
         s = next;
         at += r.len;
+    }
+    if at < t.len() {
+        return Over {
+            stop: 6,
+            place: at,
+            state: s,
+        };
     }
     Over {
         stop: 0,

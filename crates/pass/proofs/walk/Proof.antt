@@ -1,12 +1,12 @@
 -- `walk` meets its contract: some elements lie behind, the state and the flags track them, and the loop is where the pass is.
 -- Assumes nothing.
-use Prim.Native.Nat.{_-_, _+_}
+use Prim.Native.Nat.{_-_}
 use native.Mathlib.Omega.{arith}
 use mathlib.Core.Path.{refl}
 use lib.ListN.{length}
 use Rattle.format.specs.Slots.{byte}
 use Rattle.format.specs.Decode.{readDescription}
-use Rattle.pass.proofs.Walking.{Underway, begin, go-on, halt, finish}
+use Rattle.pass.proofs.Walking.{Underway, begin, go-on, halt, cut-short, finish}
 use Rattle.pass.proofs.walk.Statement.{statement}
 use Rattle.pass.proofs.walk.Tie as tie
 
@@ -19,40 +19,47 @@ abbrev μ-loop : tie.MeasureT-loop
 loop-holds : tie.Need-loop-holds Inv-loop μ-loop
 loop-holds c = begin _ _ _ _ _ _ _ (c .before .pre .0) (c .before .pre .2) (c .before .pre .3)
 
+add-loop : tie.Need-add-loop Inv-loop μ-loop
+add-loop c = omega (arith, c .loop .inv .within, c .before .before .pre .1)
+
 one-step-requires : tie.Need-one-step-requires Inv-loop μ-loop
 one-step-requires c κs =
-    let l = c .before .before .before .before .before .loop in
-    (c .before .before .before .before .loop-test .taken, c .before .before .before .before .before .before .before .pre .1, l .inv .most, l .inv .few)
+    let l = c .before .before .before .before .before in
+    (omega (arith, c .before .before .before .before .loop-test .taken), l .before .before .pre .1, l .loop .inv .most, l .loop .inv .few)
 
 returns : tie.Need-returns Inv-loop μ-loop
 returns c =
     let d = c .before .before .before in
-    let l = d .before .before .before .before .before .before .loop in
-    record { over = halt _ _ _ _ _ _ _ _ (l .inv) (d .one-step .result) _ _ _ _ (d .before .before .before .before .before .loop-test .taken) (d .one-step .ensures) (c .if1 .taken) _ refl refl }
+    let l = d .before .before .before .before .before in
+    record { over = halt _ _ _ _ _ _ _ _ (l .before .loop .inv) (d .one-step .result) _ _ _ _ (omega (arith, l .loop-test .taken)) (d .one-step .ensures) (c .if1 .taken) _ refl refl }
 
 add-at : tie.Need-add-at Inv-loop μ-loop
 add-at c =
     let d = c .before .before .before .before in
-    let l = d .before .before .before .before .before .before .loop in
-    let g = go-on _ _ _ _ _ _ _ _ (l .inv) (d .one-step .result) _ _ _ _ (d .before .before .before .before .before .loop-test .taken) (d .one-step .ensures) (c .before .if1 .left) in
-    omega (arith, g .0 .within, d .before .before .before .before .before .before .before .before .pre .1)
+    let l = d .before .before .before .before .before in
+    let g = go-on _ _ _ _ _ _ _ _ (l .before .loop .inv) (d .one-step .result) _ _ _ _ (omega (arith, l .loop-test .taken)) (d .one-step .ensures) (c .before .if1 .left) in
+    omega (arith, g .0 .within, l .before .before .before .pre .1)
 
 loop-less : tie.Need-loop-less Inv-loop μ-loop
 loop-less c =
     let d = c .before .before .before .before in
-    let l = d .before .before .before .before .before .before .loop in
-    let g = go-on _ _ _ _ _ _ _ _ (l .inv) (d .one-step .result) _ _ _ _ (d .before .before .before .before .before .loop-test .taken) (d .one-step .ensures) (c .before .if1 .left) in
+    let l = d .before .before .before .before .before in
+    let g = go-on _ _ _ _ _ _ _ _ (l .before .loop .inv) (d .one-step .result) _ _ _ _ (omega (arith, l .loop-test .taken)) (d .one-step .ensures) (c .before .if1 .left) in
     omega (arith, g .0 .within, g .1)
 
 loop-again : tie.Need-loop-again Inv-loop μ-loop
 loop-again c =
     let d = c .before .before .before .before in
-    let l = d .before .before .before .before .before .before .loop in
-    let g = go-on _ _ _ _ _ _ _ _ (l .inv) (d .one-step .result) _ _ _ _ (d .before .before .before .before .before .loop-test .taken) (d .one-step .ensures) (c .before .if1 .left) in
+    let l = d .before .before .before .before .before in
+    let g = go-on _ _ _ _ _ _ _ _ (l .before .loop .inv) (d .one-step .result) _ _ _ _ (omega (arith, l .loop-test .taken)) (d .one-step .ensures) (c .before .if1 .left) in
     g .0
 
 returns-2 : tie.Need-returns-2 Inv-loop μ-loop
-returns-2 c = record { over = finish _ _ _ _ _ _ _ _ (c .before .loop .inv) (c .loop-test .left) _ refl refl }
+returns-2 c =
+    record { over = cut-short _ _ _ _ _ _ _ _ (c .before .before .loop .inv) (c .before .loop-test .left) (c .if2 .taken) _ refl refl }
+
+returns-3 : tie.Need-returns-3 Inv-loop μ-loop
+returns-3 c = record { over = finish _ _ _ _ _ _ _ _ (c .before .before .loop .inv) (c .if2 .left) _ refl refl }
 
 pub walk-spec : {M : Type 1} → statement M
 walk-spec =
@@ -61,9 +68,11 @@ walk-spec =
     Inv-loop
     μ-loop
     loop-holds
+    add-loop
     one-step-requires
     returns
     add-at
     loop-less
     loop-again
-    returns-2)
+    returns-2
+    returns-3)
