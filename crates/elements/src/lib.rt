@@ -1,11 +1,12 @@
-// An element's bytes as a case of the element enum, and where its variable part starts.
+// An element's bytes as a case of the element enum, where its variable part starts, and whether its position is known.
 ghost use mathlib.Core.Path.{_≡_};
 ghost use mathlib.Core.Option.{some};
-ghost use Rattle.format.specs.Records.{Record, elementOf};
+ghost use Rattle.format.specs.Records.{Record, elementOf, unknownPosition};
 ghost use Rattle.format.specs.Layout.{idOf};
 ghost use Rattle.format.specs.Decode.{decode};
 ghost use Rattle.elements.specs.Parts.{partStart};
 use format::records::Element;
+use format::records::Placement;
 
 // The element in the bytes after a header with this identifier.
 pub fn element_of(id: u8, b: &[u8]) -> Element
@@ -55,4 +56,11 @@ pub fn id_of(e: Element) -> u8
         Element::Text => 0x0c,
         Element::Rgb(_) => 0x0e,
     }
+}
+
+// A position is unknown where all three axes are FFh; FFh on one or two of them is a distance.
+pub fn position_unknown(p: Placement) -> bool
+    ensures { λ r. ⌜ r ≡ unknownPosition p ⌝ }
+{
+    (p.x.0 == 255) & (p.y.0 == 255) & (p.z.0 == 255)
 }

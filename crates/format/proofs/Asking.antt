@@ -24,7 +24,7 @@ use Rattle.format.proofs.Theorem.{meets, only, one-list, accepts-passed
 -- an accepted table has no refusal, and one list of records
 never-both : (b : List ℕ) {j p : ℕ} (d : Fields) (rs : List Record) → Bytes b → Accepts b d rs → Verdict b (Refused j p) → ⊥
 never-both b {j} {p} d rs small a v =
-    let x = only b (Accepted (length rs)) small (accepted d rs a) in
+    let x = only b _ small (accepted d rs a) in
     let y = only b (Refused j p) small v in
     let z : _≡_ {A = ℕ} 0 1 = cc in
     omega arith

@@ -13,7 +13,7 @@ use Rattle.format.specs.Numbers.{rulesAgainst}
 use Rattle.format.specs.Verdict.{Verdict}
 use Rattle.format.specs.Decode.{decode}
 use Rattle.format.specs.Reader.{verdictOf, pass, step}
-use Rattle.format.specs.Known.{Row, starred, twofold}
+use Rattle.format.specs.Known.{Row, starred, twofold, zoned}
 use Rattle.format.specs.declared.answers.Answer.{Answer}
 use Rattle.format.specs.declared.answers.Answer.the-variants.{Accepted, Refused}
 use Rattle.format.proofs.Kept.{and-true}
@@ -39,7 +39,7 @@ abbrev pub small : List ℕ → Bool
 small [] = true
 small (b ∷ bs) = ltb b 256 && small bs
 
-small-bytes : (bs : List ℕ) → small bs ≡ true → Bytes bs
+pub small-bytes : (bs : List ℕ) → small bs ≡ true → Bytes bs
 small-bytes [] h i = omega arith
 small-bytes (b ∷ bs) h zero = ltb-true b 256 (and-true (ltb b 256) (small bs) h .0)
 small-bytes (b ∷ bs) h (suc i) = small-bytes bs (and-true (ltb b 256) (small bs) h .1) i
@@ -75,3 +75,11 @@ computed-twofold = refl
 
 pub order-of-rules : Each twofold
 order-of-rules = right-each twofold computed-twofold
+
+-- a zone descriptor after the element that names it
+computed-zoned : right zoned ≡ true
+unfolding verdictOf pass step decode descriptionRules ownRules rulesAgainst
+computed-zoned = refl
+
+pub zone-comes-later : Each zoned
+zone-comes-later = right-each zoned computed-zoned

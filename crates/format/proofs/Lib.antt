@@ -11,3 +11,4 @@ pub mod Written
 pub mod Asking
 pub mod KnownTables
 pub mod Demand3
+pub mod BadReaders

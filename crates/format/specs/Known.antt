@@ -1,4 +1,5 @@
--- The starred rows of 'Known tables', and rows of two faults at once, whose answers are proved of the verdict itself.
+-- The starred rows of 'Known tables', rows of two faults at once, and a row whose zone descriptor comes after the element that
+-- names it. Their answers are proved of the verdict itself.
 -- Assumes nothing.
 use Prim.Native.Nat.{ℕ}
 use mathlib.Core.List.{List, [], _∷_, _++_}
@@ -81,3 +82,24 @@ twofold =
     ∷ (tableWith 32 0x02 0x09 0x80 0xff ++ fanF 0x05 0x06 gives Refused 13 16)
     ∷ (tableWith 16 0x02 0x09 0x80 0x10 gives Refused 14 0)
     ∷ []
+
+-- 'Looking a zone up as its element is met: descriptors may come later.'
+
+-- zone descriptor 1, with no string
+abbrev pub zone1 : List ℕ
+zone1 =
+    0x0b
+    ∷ 0x1e ∷ 0x00
+    ∷ 0x01 ∷ 0x00 ∷ 0x00
+    ∷ 0x00 ∷ 0x00 ∷ 0x00 ∷ 0x00
+    ∷ 0x00 ∷ 0x00 ∷ 0x00 ∷ 0x00
+    ∷ 0x00 ∷ 0x00 ∷ 0x00 ∷ 0x00
+    ∷ 0x00 ∷ 0x00 ∷ 0x00 ∷ 0x00
+    ∷ 0x00 ∷ 0x00 ∷ 0x00 ∷ 0x00
+    ∷ 0x00 ∷ 0x00 ∷ 0x00 ∷ 0x00
+    ∷ []
+
+-- the row 'A, F, zone 1', and the same with the zone descriptor first
+abbrev pub zoned : List Row
+zoned =
+    (after 62 (fanF 0x05 0x06 ++ zone1) gives Accepted 2) ∷ (after 62 (zone1 ++ fanF 0x05 0x06) gives Accepted 2) ∷ []

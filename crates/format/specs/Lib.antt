@@ -11,6 +11,7 @@ pub mod Answers
 pub mod Cleared
 pub mod Asked
 pub mod Known
+pub mod Bargain
 pub mod Decode
 pub mod Reader
 pub mod Writing

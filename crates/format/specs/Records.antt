@@ -1,9 +1,12 @@
 -- The record of an element: its fixed fields and, taken apart, its variable part. One case for each of the ten kinds.
 -- Assumes nothing.
 use Prim.Native.Nat.{ℕ}
+use mathlib.Core.Bool.{Bool, _&&_}
 use mathlib.Core.List.{List}
 use lib.ListN.{getD, drop}
+use lib.Dec.{eqb}
 use Rattle.format.specs.declared.units.HundredRpm.{HundredRpm}
+use Rattle.format.specs.declared.records.Placement.{Placement}
 use Rattle.format.specs.declared.records.DigitalSensor.{DigitalSensor}
 use Rattle.format.specs.declared.records.AnalogueSensor.{AnalogueSensor}
 use Rattle.format.specs.declared.records.PwmFan.{PwmFan}
@@ -47,6 +50,11 @@ stringNumber bytes = getD bytes 0 0
 
 abbrev pub textOf : List ℕ → List ℕ
 textOf bytes = drop 3 bytes
+
+-- 000, 8.4 and every kind with a position: 'If measurement is not possible or is not meaningful for the device, all three fields
+-- shall be set to FFh'
+abbrev pub unknownPosition : Placement → Bool
+unknownPosition p = eqb (p .x .0) 0xff && eqb (p .y .0) 0xff && eqb (p .z .0) 0xff
 
 -- the element that a record is of, as the code holds it: the record but for its variable part
 abbrev pub elementOf : Record → Element
