@@ -5,7 +5,6 @@ use native.Mathlib.Omega.{arith}
 use mathlib.Core.Path.{_≡_, refl, sym, _∙_, ap}
 use mathlib.Core.List.{List, [], _∷_}
 use mathlib.Core.Option.{Option, none, some}
-use lib.ListN.{length}
 use Rattle.format.specs.Slots.{Bytes, written}
 use Rattle.format.specs.Records.{Record, elementOf}
 use Rattle.format.specs.Layout.{part}

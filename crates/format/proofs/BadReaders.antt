@@ -7,7 +7,7 @@ use mathlib.Core.List.{List, []}
 use lib.ListN.{length}
 use Rattle.format.specs.Slots.{Bytes}
 use Rattle.format.specs.Records.{Record}
-use Rattle.format.specs.Verdict.{Accepts, Verdict, accepted}
+use Rattle.format.specs.Verdict.{Accepts, accepted}
 use Rattle.format.specs.Reader.{verdictOf}
 use Rattle.format.specs.Known.{tableA}
 use Rattle.format.specs.Bargain.{KeepsWords, TurnsAllAway, RepliesOnly, InventsCount}

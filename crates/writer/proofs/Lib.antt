@@ -4,3 +4,5 @@ pub mod Standing
 pub mod Demand2
 pub mod Only
 pub mod Refusals
+pub mod Tried
+pub mod BadWriters
