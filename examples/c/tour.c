@@ -1,0 +1,120 @@
+/* A tour of the library from C: is a file a table, what stands in it, how a new one is written, and written again.
+   tour [FILE]      without FILE it looks at a table of its own. On x86-64:
+   rt staticlib esa && cc -std=c99 -I include examples/c/tour.c target/staticlib/libesa.a -o tour */
+#include <stdio.h>
+#include <string.h>
+
+#include "esa.h"
+
+/* A computer case with one fan in zone 1. */
+static const uint8_t own_table[62] = {
+    /* description: revision 0.90, 62 bytes, type 2, no string, serial number 7, own power, no hardware revision pins */
+    0x01, 62, 0, 2, 0, 7, 0, 0, 0x80, 0xFF, 0xFF, 0xFF, 0, 0, 0, 0,
+    /* PWM fan: 16 bytes, position unknown, zone 1, PWM on P0.5, tachometer on P0.6, 2 pulses, 300 to 1,500 RPM */
+    0x03, 16, 0, 0, 0xFF, 0xFF, 0xFF, 1, 0x05, 0x06, 2, 0x2C, 0x01, 0xDC, 0x05, 0x40,
+    /* zone descriptor: 30 bytes, zone 1; its curve is all zeros */
+    0x0B, 30, 0, 1
+};
+
+/* An answer in words. 'beside' says what stands beside 0. Gives 1 for success. */
+static int told(const char *what, uint64_t answer, const char *beside)
+{
+    unsigned number = esa_number(answer);
+    if (number == ESA_GOOD)
+        printf("%s: good, %zu %s\n", what, esa_beside(answer), beside);
+    else
+        printf("%s: refused, %u at %zu: %s\n", what, number, esa_beside(answer), esa_words(number));
+    return number == ESA_GOOD;
+}
+
+/* The elements of an accepted table, each with its place and the length of its variable part. */
+static void walk(const uint8_t *table, size_t length, size_t count)
+{
+    size_t at = ESA_SHORTEST; /* the first element stands behind the description */
+    for (size_t k = 0; k < count; k++) {
+        size_t id = esa_beside(esa_element(table, length, k));
+        size_t size = table[at + 1] + 256u * table[at + 2];
+        size_t part = esa_part_length(table, length, k);
+        printf("  element %zu at %zu: %s, %zu bytes, variable part %zu\n", k, at, esa_kind((unsigned)id), size, part);
+        at += size;
+    }
+    told("  one more", esa_element(table, length, count), "");
+}
+
+/* A table with a fan and its zone; without the zone it is refused. Gives the length, or 0 if the writer refuses. */
+static size_t build(uint8_t *buffer, size_t length)
+{
+    uint8_t description[ESA_NUMBERS] = { 2 };
+    description[6] = 1; /* SPWR */
+    esa_put32(description, 2, 7); /* serial number */
+    memset(description + 8, ESA_UNUSED_PIN, 3);
+
+    uint8_t fan[ESA_NUMBERS] = { 0, 0xFF, 0xFF, 0xFF, 1 }; /* no string, position unknown, zone 1 */
+    fan[5] = esa_pin(0, 5);
+    fan[6] = esa_pin(0, 6);
+    fan[7] = 2;
+    esa_put16(fan, 8, 300);
+    esa_put16(fan, 10, 1500);
+    fan[12] = 0x40;
+
+    const uint8_t nothing[ESA_NUMBERS] = { 0 };
+    const uint8_t zone[27] = { 1 }; /* all bytes after the header */
+
+    if (!told("started", esa_start(buffer, length, description), "bytes"))
+        return 0;
+    uint64_t answer = esa_append(buffer, length, ESA_PWM_FAN, fan, NULL, 0);
+    if (!told("fan appended", answer, "bytes"))
+        return 0;
+    told("is it a table", esa_check(buffer, esa_beside(answer)), "elements");
+    answer = esa_append(buffer, length, ESA_ZONE, nothing, zone, sizeof zone);
+    return told("zone appended", answer, "bytes") ? esa_beside(answer) : 0;
+}
+
+/* Writes a table again: the same table, but for its reserved places, which become zero. */
+static void again(const uint8_t *table, size_t length)
+{
+    uint8_t out[ESA_LONGEST];
+    if (!told("written again", esa_rewrite(table, length, out, sizeof out), "bytes"))
+        return;
+    for (size_t i = 0; i < length; i++)
+        if (out[i] != table[i])
+            printf("  byte %zu: %02X, now %02X\n", i, (unsigned)table[i], (unsigned)out[i]);
+}
+
+/* One byte more than the longest table tells a table from a file that is too long. Gives 0 if it cannot be read. */
+static int read_file(const char *name, uint8_t *bytes, size_t most, size_t *length)
+{
+    FILE *file = fopen(name, "rb");
+    if (!file)
+        return 0;
+    *length = fread(bytes, 1, most, file);
+    int good = !ferror(file);
+    fclose(file);
+    return good;
+}
+
+int main(int count, char **arguments)
+{
+    uint8_t table[ESA_LONGEST + 1];
+    size_t length = sizeof own_table;
+    memcpy(table, own_table, sizeof own_table);
+    if (count > 1 && !read_file(arguments[1], table, sizeof table, &length)) {
+        fprintf(stderr, "tour: cannot read %s\n", arguments[1]);
+        return 2;
+    }
+    printf("a table of %zu bytes\n", length);
+    uint64_t answer = esa_check(table, length);
+    int good = told("is it a table", answer, "elements");
+    if (good)
+        walk(table, length, esa_beside(answer));
+
+    printf("\na table of our own\n");
+    uint8_t buffer[100];
+    size_t written = build(buffer, sizeof buffer);
+    told("is it a table", esa_check(buffer, written), "elements");
+
+    printf("\nthe same with a reserved place in use\n");
+    buffer[12] = 0xA5;
+    again(buffer, written);
+    return good ? 0 : 1;
+}

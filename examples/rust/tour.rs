@@ -1,0 +1,255 @@
+//! A tour of the library from Rust: is a file a table, what stands in it, how a new one is written, and written again.
+//! tour [FILE]      without FILE it looks at a table of its own. On x86-64:
+//! rt staticlib esa && rustc --edition 2021 -L target/staticlib -l static=esa examples/rust/tour.rs
+
+use std::fmt::{self, Display};
+use std::process::ExitCode;
+
+/// The calls with Rust's own types. A slice is memory that may be read, one that is lent by `&mut` overlaps no other, and
+/// nobody else writes to either: so the borrow checker keeps what include/esa.h asks of a caller, and each call is safe.
+mod esa {
+    /// The longest table.
+    pub const LONGEST: usize = 4096;
+    pub const PWM_FAN: u8 = 0x03;
+    pub const ZONE: u8 = 0x0B;
+    pub const UNUSED_PIN: u8 = 0xFF;
+
+    /// The numbers of one record; include/esa.h says which stands where.
+    pub type Numbers = [u8; 32];
+
+    /// The number of the rule, and its place in the table.
+    #[derive(Clone, Copy, Debug, PartialEq, Eq)]
+    pub struct Refusal {
+        pub number: u8,
+        pub place: usize,
+    }
+
+    mod c {
+        extern "C" {
+            pub fn esa_check(table: *const u8, length: usize) -> u64;
+            pub fn esa_element(table: *const u8, length: usize, k: usize) -> u64;
+            pub fn esa_part_length(table: *const u8, length: usize, k: usize) -> usize;
+            pub fn esa_start(buffer: *mut u8, length: usize, numbers: &[u8; 32]) -> u64;
+            pub fn esa_append(
+                buffer: *mut u8,
+                length: usize,
+                id: u8,
+                numbers: &[u8; 32],
+                part: *const u8,
+                part_length: usize,
+            ) -> u64;
+            pub fn esa_rewrite(table: *const u8, length: usize, out: *mut u8, room: usize) -> u64;
+        }
+    }
+
+    /// What a call says of itself, or a refusal.
+    pub type Answer = Result<usize, Refusal>;
+
+    /// Bits 7-0 are the number, 0 for success; what stands beside it is above them.
+    fn unpacked(answer: u64) -> Answer {
+        let beside = (answer >> 8) as usize;
+        match (answer & 0xFF) as u8 {
+            0 => Ok(beside),
+            number => Err(Refusal {
+                number,
+                place: beside,
+            }),
+        }
+    }
+
+    /// The number of elements.
+    pub fn check(table: &[u8]) -> Answer {
+        unpacked(unsafe { c::esa_check(table.as_ptr(), table.len()) })
+    }
+
+    /// The identifier of element k, from 0.
+    pub fn element(table: &[u8], k: usize) -> Answer {
+        unpacked(unsafe { c::esa_element(table.as_ptr(), table.len(), k) })
+    }
+
+    /// The length of the variable part of element k; 0 where `element` refuses.
+    pub fn part_length(table: &[u8], k: usize) -> usize {
+        unsafe { c::esa_part_length(table.as_ptr(), table.len(), k) }
+    }
+
+    /// The length of the table that is started.
+    pub fn start(buffer: &mut [u8], description: &Numbers) -> Answer {
+        unpacked(unsafe { c::esa_start(buffer.as_mut_ptr(), buffer.len(), description) })
+    }
+
+    /// The new length.
+    pub fn append(buffer: &mut [u8], id: u8, numbers: &Numbers, part: &[u8]) -> Answer {
+        let (at, length) = (buffer.as_mut_ptr(), buffer.len());
+        unpacked(unsafe { c::esa_append(at, length, id, numbers, part.as_ptr(), part.len()) })
+    }
+
+    /// The table's length.
+    pub fn rewrite(table: &[u8], out: &mut [u8]) -> Answer {
+        let (at, room) = (out.as_mut_ptr(), out.len());
+        unpacked(unsafe { c::esa_rewrite(table.as_ptr(), table.len(), at, room) })
+    }
+}
+
+impl Display for esa::Refusal {
+    fn fmt(&self, to: &mut fmt::Formatter) -> fmt::Result {
+        let (number, place) = (self.number, self.place);
+        write!(to, "refused, {number} at {place}: {}", words(number))
+    }
+}
+
+/// A refusal as a sentence.
+fn words(number: u8) -> &'static str {
+    match number {
+        1 => "fewer than 16 bytes",
+        2 => "the revision is not 0.90",
+        3 => "the table's length is not that of the bytes, or not a length of a table",
+        4 => "the device type is not 1, 2 or 3",
+        5 => "more than 125 power units without SPWR",
+        6 => "an element is cut short, or its length is under 3 or past the end",
+        7 => "no kind of element has this identifier",
+        8 => "the length of an element is not that of its layout",
+        9 => "a reserved code, or a number that no rule allows there",
+        10 => "a pin that does not exist, is not permitted there, or stands out of order",
+        11 => "more than 96 elements or 12 zones",
+        12 => "a string or zone number a second time",
+        13 => "the zone of an element has no descriptor",
+        14 => "a string index has no string",
+        15 => "a pin is claimed a second time",
+        16 => "no room for it",
+        17 => "there is no such element",
+        25 => "a number is too large for its field",
+        _ => "a number that no call gives",
+    }
+}
+
+fn kind(id: usize) -> &'static str {
+    match id {
+        0x01 => "digital thermal sensor",
+        0x02 => "analogue thermal sensor",
+        0x03 => "PWM fan",
+        0x04 => "status LED",
+        0x08 => "current sensor",
+        0x09 => "external PWM controller",
+        0x0A => "external tachometer",
+        0x0B => "zone descriptor",
+        0x0C => "string",
+        0x0E => "RGB LED",
+        _ => "no element",
+    }
+}
+
+/// Prints an answer in words; `beside` says what a success gives.
+fn told(what: &str, answer: esa::Answer, beside: &str) -> esa::Answer {
+    match answer {
+        Ok(n) => println!("{what}: good, {n} {beside}"),
+        Err(refusal) => println!("{what}: {refusal}"),
+    }
+    answer
+}
+
+/// The elements of an accepted table, each with its place and the length of its variable part.
+fn walk(table: &[u8], count: usize) -> Result<(), esa::Refusal> {
+    let mut at = 16; // the first element stands behind the description
+    for k in 0..count {
+        let name = kind(esa::element(table, k)?);
+        let size = usize::from(u16::from_le_bytes([table[at + 1], table[at + 2]]));
+        let part = esa::part_length(table, k);
+        println!("  element {k} at {at}: {name}, {size} bytes, variable part {part}");
+        at += size;
+    }
+    let _ = told("  one more", esa::element(table, count), "");
+    Ok(())
+}
+
+/// A table with a fan and its zone; without the zone it is refused. Gives the length.
+fn build(buffer: &mut [u8]) -> esa::Answer {
+    let mut description: esa::Numbers = [0; 32];
+    description[0] = 2; // a computer case
+    description[2..6].copy_from_slice(&7u32.to_le_bytes()); // serial number
+    description[6] = 1; // SPWR
+    description[8..11].fill(esa::UNUSED_PIN);
+
+    let mut fan: esa::Numbers = [0; 32];
+    fan[..5].copy_from_slice(&[0, 0xFF, 0xFF, 0xFF, 1]); // no string, position unknown, zone 1
+    fan[5..8].copy_from_slice(&[0x05, 0x06, 2]); // PWM on P0.5, tachometer on P0.6, 2 pulses
+    fan[8..10].copy_from_slice(&300u16.to_le_bytes());
+    fan[10..12].copy_from_slice(&1500u16.to_le_bytes());
+    fan[12] = 0x40;
+
+    let mut zone = [0; 27]; // all bytes after the header
+    zone[0] = 1;
+
+    told("started", esa::start(buffer, &description), "bytes")?;
+    let length = told(
+        "fan appended",
+        esa::append(buffer, esa::PWM_FAN, &fan, &[]),
+        "bytes",
+    )?;
+    let _ = told("is it a table", esa::check(&buffer[..length]), "elements");
+    told(
+        "zone appended",
+        esa::append(buffer, esa::ZONE, &[0; 32], &zone),
+        "bytes",
+    )
+}
+
+/// Writes a table again: the same table, but for its reserved places, which become zero.
+fn again(table: &[u8]) -> Result<(), esa::Refusal> {
+    let mut out = [0; esa::LONGEST];
+    told("written again", esa::rewrite(table, &mut out), "bytes")?;
+    for (i, (old, new)) in table.iter().zip(out).enumerate() {
+        if *old != new {
+            println!("  byte {i}: {old:02X}, now {new:02X}");
+        }
+    }
+    Ok(())
+}
+
+/// A computer case with one fan in zone 1.
+fn own_table() -> Vec<u8> {
+    // revision 0.90, 62 bytes, type 2, no string, serial number 7, own power, no hardware revision pins
+    let description = [
+        0x01, 62, 0, 2, 0, 7, 0, 0, 0x80, 0xFF, 0xFF, 0xFF, 0, 0, 0, 0,
+    ];
+    // 16 bytes, position unknown, zone 1, PWM on P0.5, tachometer on P0.6, 2 pulses, 300 to 1,500 RPM
+    let fan = [
+        0x03, 16, 0, 0, 0xFF, 0xFF, 0xFF, 1, 0x05, 0x06, 2, 0x2C, 0x01, 0xDC, 0x05, 0x40,
+    ];
+    // 30 bytes, zone 1; the curve is all zeros
+    let zone = [0x0B, 30, 0, 1];
+    [&description[..], &fan, &zone, &[0; 26]].concat()
+}
+
+/// The whole tour; gives whether the table was accepted.
+fn tour(table: &[u8]) -> Result<bool, esa::Refusal> {
+    println!("a table of {} bytes", table.len());
+    let answer = told("is it a table", esa::check(table), "elements");
+    if let Ok(count) = answer {
+        walk(table, count)?;
+    }
+
+    println!("\na table of our own");
+    let mut buffer = [0; 100];
+    let length = build(&mut buffer)?;
+    told("is it a table", esa::check(&buffer[..length]), "elements")?;
+
+    println!("\nthe same with a reserved place in use");
+    buffer[12] = 0xA5;
+    again(&buffer[..length])?;
+    Ok(answer.is_ok())
+}
+
+fn main() -> ExitCode {
+    let table = match std::env::args_os().nth(1) {
+        None => Ok(own_table()),
+        Some(name) => std::fs::read(name),
+    };
+    match table.map(|bytes| tour(&bytes)) {
+        Ok(Ok(true)) => ExitCode::SUCCESS,
+        Ok(_) => ExitCode::from(1),
+        Err(why) => {
+            eprintln!("tour: {why}");
+            ExitCode::from(2)
+        }
+    }
+}

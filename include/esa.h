@@ -1,0 +1,191 @@
+/* The C face of the proved reader and writer of ESA configuration tables, revision 0.90 (target/staticlib/libesa.a, made by
+   'rt staticlib esa'; x86-64). C99, and C++. Each promise below is proved of the library for every input; docs/CALLS.md has
+   the theorem to each.
+
+   WHAT A CALLER OWES. Nothing proves the C around the library, so these three are yours to keep:
+   - Each pointer and the length behind it are memory that may be read, and of 'buffer' and 'out' also written, until the
+     call returns; 'numbers' is 32 bytes. With a length of 0 the pointer is not followed: NULL will do.
+   - The places lent to one call do not overlap.
+   - Nobody else writes to them before the call returns.
+   No other condition is asked: any bytes, any lengths and any numbers have an answer. No call keeps a pointer, allocates, or
+   has a state of its own, so calls from several threads on places of their own are fine. */
+#ifndef ESA_H
+#define ESA_H
+
+#include <stddef.h>
+#include <stdint.h>
+
+#ifdef __cplusplus
+extern "C" {
+#endif
+
+/* ANSWERS. One number: the number of the refusal in bits 7-0, 0 for success; and above them what stands beside it. Beside a
+   refusal that is its place: the offset of the element in the table, or 0. Beside 0 it is what each call says. */
+
+static inline unsigned esa_number(uint64_t answer)
+{
+    return (unsigned)(answer & 0xFF);
+}
+
+static inline size_t esa_beside(uint64_t answer)
+{
+    return (size_t)(answer >> 8);
+}
+
+/* The numbers, and after each its place. */
+enum esa_numbers {
+    ESA_GOOD = 0,
+    ESA_UNDER_16_BYTES = 1,    /* fewer than 16 bytes; 0 */
+    ESA_REVISION = 2,          /* byte 0 is not 01h; 0 */
+    ESA_TABLE_LENGTH = 3,      /* the table's length differs from the bytes lent, or is over 4,096; 0. Of append: the length
+                                  so far is under 16, over 4,096 or past the buffer; 0 */
+    ESA_DEVICE_TYPE = 4,       /* device type not 1, 2 or 3; 0 */
+    ESA_POWER = 5,             /* SPWR 0 and power units over 125; 0 */
+    ESA_ELEMENT_LENGTH = 6,    /* no room for a header, or an element length under 3 or past the end; element */
+    ESA_IDENTIFIER = 7,        /* not one of the ten identifiers; element. Of append: 0 */
+    ESA_LAYOUT = 8,            /* the length differs from the layout, or the blocks do not fill it; element */
+    ESA_CODE = 9,              /* a reserved code or a number that no rule allows in its field; element */
+    ESA_PIN = 10,              /* a pin that does not exist, is not permitted, or out of order; element, or 0 */
+    ESA_TOO_MANY = 11,         /* a 97th element, or a 13th zone; element */
+    ESA_TWICE = 12,            /* a string or zone number a second time; element */
+    ESA_NO_ZONE = 13,          /* the zone of an element has no descriptor; element */
+    ESA_NO_STRING = 14,        /* a string index that is not 0 and has no string; element, or 0 */
+    ESA_CLASH = 15,            /* a pin is claimed twice; element of the later claim, or 0 */
+    ESA_NO_ROOM = 16,          /* writer: the new length passes the buffer or 4,096; 0 */
+    ESA_PAST_THE_LAST = 17,    /* there is no element k; 0 */
+    ESA_TOO_LARGE = 25         /* writer: a number is too large for its field; 0 */
+};
+
+/* The same as a sentence. */
+static inline const char *esa_words(unsigned number)
+{
+    switch (number) {
+    case ESA_GOOD: return "good";
+    case ESA_UNDER_16_BYTES: return "fewer than 16 bytes";
+    case ESA_REVISION: return "the revision is not 0.90";
+    case ESA_TABLE_LENGTH: return "the table's length is not that of the bytes, or not a length of a table";
+    case ESA_DEVICE_TYPE: return "the device type is not 1, 2 or 3";
+    case ESA_POWER: return "more than 125 power units without SPWR";
+    case ESA_ELEMENT_LENGTH: return "an element is cut short, or its length is under 3 or past the end";
+    case ESA_IDENTIFIER: return "no kind of element has this identifier";
+    case ESA_LAYOUT: return "the length of an element is not that of its layout";
+    case ESA_CODE: return "a reserved code, or a number that no rule allows there";
+    case ESA_PIN: return "a pin that does not exist, is not permitted there, or stands out of order";
+    case ESA_TOO_MANY: return "more than 96 elements or 12 zones";
+    case ESA_TWICE: return "a string or zone number a second time";
+    case ESA_NO_ZONE: return "the zone of an element has no descriptor";
+    case ESA_NO_STRING: return "a string index has no string";
+    case ESA_CLASH: return "a pin is claimed a second time";
+    case ESA_NO_ROOM: return "no room for it";
+    case ESA_PAST_THE_LAST: return "there is no such element";
+    case ESA_TOO_LARGE: return "a number is too large for its field";
+    default: return "a number that no call gives";
+    }
+}
+
+/* READING. The table is read only; no byte of it can alter. Every call checks the whole table first. */
+
+/* Is it a table? 0, and beside it the number of elements, exactly when the bytes keep every rule; otherwise the first rule
+   that they break (1 to 15) and its place. */
+uint64_t esa_check(const uint8_t *table, size_t length);
+
+/* Of which kind is element k, counted from 0? 0, and beside it its identifier; the table's own refusal as esa_check gives
+   it; or 17 at 0 when the table has no element k. */
+uint64_t esa_element(const uint8_t *table, size_t length, size_t k);
+
+/* How long is the variable part of element k? These are the last bytes of the element: the blocks of 09h and 0Ah, all bytes
+   after the header of a string or a zone descriptor, none of the others. 0 also where esa_element refuses. */
+size_t esa_part_length(const uint8_t *table, size_t length, size_t k);
+
+/* WRITING. A table is started in a buffer and each element appended to it; bytes 1-2 of the buffer hold the length so far.
+   With a refusal no byte of the buffer alters. A table that is still being written may break rules over the whole of it (11
+   to 15): ask esa_check when it is done.
+
+   A record is handed over as 32 bytes, 'numbers': each number as wide as its bytes below, lowest byte first; the bytes that
+   a kind does not name are ignored.
+
+   description       0 device type, 1 string, 2-5 serial number, 6 SPWR (0 is no), 7 power units (4 mA each),
+                     8, 9, 10 hardware revision pins
+   all but 0Bh, 0Ch  0 string, 1 x, 2 y, 3 z (centimetres; FFh in all three: unknown), 4 zone, and then
+     01h             5 bus type, 6 kind of address (0 bus address, else chip select pin), 7 address, 8-9 LSB register,
+                     10-11 MSB register, 12-13 minimum value, 14 minimum temperature, 15-16 maximum value,
+                     17 maximum temperature
+     02h             5 thermal type, 6 pin, 7-8, 9-10, 11-12, 13-14, 15-16 counts at 0, 25, 50, 75, 100 degrees
+     03h             5 PWM pin, 6 tachometer pin, 7 PPR, 8-9 minimum RPM, 10-11 maximum RPM, 12 minimum duty cycle
+     04h             5 pin, 6 colour, 7 purpose of the first lamp; 8, 9, 10 of the second; 11, 12, 13 of the third
+     08h             5 pin, 6-7 IMIN, 8-9 IMAX (deciamps)
+     09h, 0Ah        5 bus type, 6 kind of address, 7 address
+     0Eh             5 red pin, 6 green pin, 7 blue pin
+   0Bh, 0Ch          none: their part is the whole record */
+enum { ESA_NUMBERS = 32 };
+
+/* Starts a table with the description in the numbers. 0, and beside it 16, the length, with the description in the first 16
+   bytes; or, in this order, 1 (a buffer under 16 bytes), 25, 4, 5, 10, all at 0. */
+uint64_t esa_start(uint8_t *buffer, size_t length, const uint8_t numbers[ESA_NUMBERS]);
+
+/* Appends the element of this identifier in the numbers, with its variable part. 0, and beside it the new length; only bytes
+   1-2 and those of the new element alter. Or, in this order, 7 at 0 (an identifier of no kind); 1 at 0 (a buffer under 16
+   bytes); 3 at 0; 25 at 0; 8, 9, 10 at the length so far; 16 at 0. A part beside a kind that has none is 8. */
+uint64_t esa_append(uint8_t *buffer, size_t length, uint8_t id, const uint8_t numbers[ESA_NUMBERS], const uint8_t *part,
+                    size_t part_length);
+
+/* Reads the records of a table and writes them again. 0, and beside it the table's length: the front of 'out' is then that
+   table with its reserved places at zero, and the bytes behind are as they were. Or the table's own refusal as esa_check
+   gives it, or 16 at 0 when 'room' is under the table's length; with either no byte of 'out' alters. */
+uint64_t esa_rewrite(const uint8_t *table, size_t length, uint8_t *out, size_t room);
+
+/* NAMES. The ten identifiers, the bounds, and how a pin and a number of two or four bytes are put. */
+enum esa_identifiers {
+    ESA_DIGITAL_SENSOR = 0x01,
+    ESA_ANALOGUE_SENSOR = 0x02,
+    ESA_PWM_FAN = 0x03,
+    ESA_STATUS_LED = 0x04,
+    ESA_CURRENT = 0x08,
+    ESA_PWM_CONTROLLER = 0x09,
+    ESA_TACHOMETER = 0x0A,
+    ESA_ZONE = 0x0B,
+    ESA_STRING = 0x0C,
+    ESA_RGB_LED = 0x0E
+};
+enum { ESA_SHORTEST = 16, ESA_LONGEST = 4096, ESA_UNUSED_PIN = 0xFF };
+
+static inline const char *esa_kind(unsigned id)
+{
+    switch (id) {
+    case ESA_DIGITAL_SENSOR: return "digital thermal sensor";
+    case ESA_ANALOGUE_SENSOR: return "analogue thermal sensor";
+    case ESA_PWM_FAN: return "PWM fan";
+    case ESA_STATUS_LED: return "status LED";
+    case ESA_CURRENT: return "current sensor";
+    case ESA_PWM_CONTROLLER: return "external PWM controller";
+    case ESA_TACHOMETER: return "external tachometer";
+    case ESA_ZONE: return "zone descriptor";
+    case ESA_STRING: return "string";
+    case ESA_RGB_LED: return "RGB LED";
+    default: return "no element";
+    }
+}
+
+/* P1.3 is esa_pin(1, 3). */
+static inline uint8_t esa_pin(unsigned port, unsigned pin)
+{
+    return (uint8_t)(port << 4 | pin);
+}
+
+static inline void esa_put16(uint8_t numbers[ESA_NUMBERS], size_t at, uint16_t value)
+{
+    numbers[at] = (uint8_t)(value & 0xFF);
+    numbers[at + 1] = (uint8_t)(value >> 8);
+}
+
+static inline void esa_put32(uint8_t numbers[ESA_NUMBERS], size_t at, uint32_t value)
+{
+    esa_put16(numbers, at, (uint16_t)(value & 0xFFFF));
+    esa_put16(numbers, at + 2, (uint16_t)(value >> 16));
+}
+
+#ifdef __cplusplus
+}
+#endif
+
+#endif
