@@ -1,0 +1,106 @@
+# Part of tests/esa: ./esa check on files of every sort.
+# shellcheck shell=sh disable=SC2015,SC2154
+
+zone_missing="13 at 32: the PWM fan at byte 32 names zone 1, and no zone descriptor declares it; add the zone descriptor or move the fan to a zone that exists"
+too_long="3 at 0: the file has more than 4,096 bytes, and no table is longer; this is another kind of file, or something was added behind the table"
+other_start="2 at 0: byte 0 is 00h, and a table of revision 0.90 starts with 01h; this is another kind of file, or its start was overwritten"
+empty="1 at 0: the file is empty, and a table has at least 16 bytes; copy the table again from where it came"
+no_file="cannot be read: there is no such file; look at its name"
+folder="cannot be read: it is a folder; name the tables in it"
+newline='
+'
+
+odd_files() {
+    mkdir box
+    cp "$tables/quiet-box.esa" good
+    cp "$tables/spring.esa" bad
+    : >empty
+    dd if=/dev/zero of=zeros bs=1048576 count=10 2>/dev/null
+    { printf '\001' && cat zeros; } >large
+    { cat good && printf '\000'; } >longer
+    ln -s nowhere dangling
+    try "an empty file" gives 1 "empty: $empty" check empty
+    try "10 MB of zeros" gives 1 "zeros: $other_start" check zeros
+    try "10 MB that start like a table" gives 1 "large: $too_long" check large
+    try "a byte too many" gives 1 "longer: 3 at 0: bytes 1-2 say that the table has 326 bytes, and the file has 327; copy it again, or mend bytes 1-2 if elements were added or taken out by hand" check longer
+    try "a file that is not there" gives 2 "missing: $no_file" check missing
+    try "an empty name" gives 2 ": $no_file" check ''
+    try "a folder" gives 2 "box: $folder" check box
+    try "a link to nowhere" gives 2 "dangling: cannot be read: it is a link to a file that is not there" check dangling
+    try "2 goes before 1, and every file has its line" gives 2 "good: ok, 15 elements
+missing: $no_file
+bad: $zone_missing
+box: $folder
+good: ok, 15 elements" check good missing bad box good
+}
+
+odd_names() {
+    # shellcheck disable=SC2016
+    for name in 'with  blanks ' '-n' '--' '-' '*' '$(false)' 'a\tb%s' "o'clock\"" 'R	1' "two${newline}lines" 'é'; do
+        cp good "./$name"
+        cp bad "./bad$name"
+        try "a good table named '$name'" gives 0 "$name: ok, 15 elements" check -- "$name"
+        try "a bad table named 'bad$name'" gives 1 "bad$name: $zone_missing" check "bad$name"
+    done
+    try "a name with a dash needs no --" gives 0 "-n: ok, 15 elements" check -n
+    long=$(printf '%04096d' 0)
+    try "a name of 4,096 bytes" gives 2 "$long: $no_file" check "$long"
+}
+
+# A file that opens and cannot be read; and, where root reads everything, as nobody one that may not be read.
+unreadable() {
+    if [ -r /proc/self/mem ]; then
+        try "a file whose reading fails" gives 2 "/proc/self/mem: cannot be read: reading it failed; try again, or copy it to another disk" check /proc/self/mem
+    else
+        not_tried "a file whose reading fails: there is no /proc/self/mem"
+    fi
+    cp good secret
+    chmod 000 secret
+    barred="cannot be read: you may not read it; look at its permissions"
+    if [ ! -r secret ]; then
+        try "a file without permission" gives 2 "secret: $barred" check secret
+    elif nobody "$esa" help >/dev/null 2>&1; then
+        nobody "$esa" check secret good >seen.out 2>&1
+        try "a file without permission, as nobody" [ "$(cat seen.out)" = "secret: $barred${newline}good: ok, 15 elements" ]
+    else
+        not_tried "a file without permission: this user may read every file, and cannot be nobody"
+    fi
+}
+
+nobody() { # COMMAND...
+    setpriv --reuid=65534 --regid=65534 --clear-groups --no-new-privs "$@"
+}
+
+forty_one() {
+    mkdir boxes
+    n=0
+    while [ $n -lt 41 ]; do
+        n=$((n + 1))
+        cp good boxes/$n
+    done
+    cp bad boxes/7
+    began=$(date +%s%N)
+    ran check boxes/*
+    took=$((($(date +%s%N) - began) / 1000000))
+    try "41 files, one of them bad: status" [ "$status" = 1 ]
+    try "41 files: a line each" [ "$(wc -l <seen.out)" -eq 41 ]
+    try "41 files: 40 good ones" [ "$(grep -c ': ok, 15 elements$' seen.out)" -eq 40 ]
+    try "41 files: the bad one" grep -qxF "boxes/7: $zone_missing" seen.out
+    try "41 files in under a second (it took $took ms)" [ $took -lt 1000 ]
+    printf '41 files in one check: %s ms\n' $took
+}
+
+elsewhere() {
+    ln -s "$esa" link-to-esa
+    status=0
+    (cd box && ../link-to-esa check ../good) >seen.out 2>seen.err || status=$?
+    try "through a link, from another folder" [ "$status $(cat seen.out)" = "0 ../good: ok, 15 elements" ]
+}
+
+checking() {
+    odd_files
+    odd_names
+    unreadable
+    forty_one
+    elsewhere
+}

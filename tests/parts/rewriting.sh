@@ -1,0 +1,99 @@
+# Part of tests/esa: ./esa rewrite writes OUT whole or not at all, and leaves nothing else behind.
+# shellcheck shell=sh disable=SC2015,SC2154
+
+silent() { # WORD...
+    ran "$@"
+    [ "$status" = 0 ] && [ ! -s seen.out ] && [ ! -s seen.err ] || show
+}
+
+same() { # FILE FILE
+    cmp -s -- "$1" "$2"
+}
+
+mode_of() { # FILE
+    # shellcheck disable=SC2012
+    ls -ld "$1" | cut -c 1-10
+}
+
+# The quiet box with a 1 in a reserved place.
+soiled() {
+    { dd if=good bs=1 count=12 && printf '\001' && dd if=good bs=1 skip=13; } 2>/dev/null
+}
+
+written() {
+    soiled >reserved
+    try "a table with a reserved place that is not zero is another" eval '! same reserved good'
+    try "rewrite to a new file" silent rewrite reserved new
+    try "reserved places are zero in it" same new good
+    try "the table itself is as it was" eval 'soiled | cmp -s - reserved'
+    cp bad over
+    chmod 640 over
+    try "rewrite over an old file" silent rewrite reserved over
+    try "the old file is the new table" same over good
+    try "it keeps its permissions" [ "$(mode_of over)" = -rw-r----- ]
+    cp reserved both
+    try "FILE may be OUT" silent rewrite both both
+    try "FILE that is OUT is rewritten" same both good
+    ln -s over to-over
+    cp bad over
+    try "rewrite to a link" silent rewrite good to-over
+    try "the link stays, and its file is written" eval '[ -L to-over ] && same over good'
+    try "rewrite with odd names" silent rewrite -- '-n' '-o ut*'
+    try "the odd name is written" same good '-o ut*'
+    try "rewrite into another folder" silent rewrite good box/new
+    try "the file in the other folder" same box/new good
+}
+
+refused() {
+    cp good out
+    try "a refused table" complains 1 "bad: $zone_missing" rewrite bad out
+    try "its OUT is as it was" same out good
+    try "a refused table and a new name" complains 1 "empty: $empty" rewrite empty never
+    try "no file of that name is made" [ ! -e never ]
+    cp bad both
+    try "a refused table that is its own OUT" complains 1 "both: $zone_missing" rewrite both both
+    try "it is as it was" same both bad
+    try "10 MB" complains 1 "large: $too_long" rewrite large out
+    try "its OUT is as it was, again" same out good
+}
+
+unwritable() {
+    try "a table that is not there" complains 2 "missing cannot be read: there is no such file" rewrite missing out
+    try "a table that is a folder" complains 2 "box cannot be read: it is a folder" rewrite box out
+    try "OUT that is a folder" complains 2 "box is a folder" rewrite good box
+    try "OUT that is a device" complains 2 "/dev/null is no ordinary file" rewrite good /dev/null
+    try "OUT in a folder that is not there" complains 2 "there is no folder ./nowhere" rewrite good nowhere/out
+    try "OUT in a folder where no file can be made" complains 2 "no file can be made in /proc" rewrite good /proc/out
+    try "OUT is as it was after all that" same out good
+    if [ -e /dev/full ] && ln -s /dev/full full; then
+        try "OUT that leads to a device" complains 2 "full is no ordinary file" rewrite good full
+    fi
+}
+
+# A rewrite that waits for its table is told to end.
+interrupted() {
+    mkfifo pipe
+    exec 8<>pipe
+    "$esa" rewrite pipe out 8>&- >seen.out 2>seen.err &
+    job=$!
+    n=0
+    while [ -z "$(find . -name '.esa*')" ] && [ $n -lt 50 ]; do
+        n=$((n + 1))
+        sleep 0.1
+    done
+    try "a file is written beside OUT first" [ -n "$(find . -name '.esa*')" ]
+    kill -TERM "$job"
+    exec 8>&-
+    status=0
+    wait "$job" || status=$?
+    try "a rewrite that is told to end does (its status is $status)" [ "$status" = 143 ]
+    try "OUT is as it was then" same out good
+}
+
+rewriting() {
+    written
+    refused
+    unwritable
+    interrupted
+    try "no file is left behind" [ -z "$(find . -name '.esa*')" ]
+}

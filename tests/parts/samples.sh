@@ -1,0 +1,59 @@
+# Part of tests/esa: the sample tables, held to the texts beside them.
+# shellcheck shell=sh disable=SC2015,SC2154
+
+hex_of() { # FILE
+    od -An -v -tx1 "$1" | tr -d ' \n' | tr a-f A-F
+}
+
+# The bytes in the lines 'PLACE: HEX  ; WHAT' of a text, whose places must add up.
+hex_in() { # TEXT
+    awk '
+        /^ *[0-9]+: [0-9A-F ]+  ; / {
+            place = hex = $0
+            sub(/:.*/, "", place)
+            sub(/^[^:]*: /, "", hex)
+            sub(/  ; .*/, "", hex)
+            gsub(/ /, "", hex)
+            if (place + 0 != n / 2) exit
+            n += length(hex)
+            printf "%s", hex
+        }' "$1"
+}
+
+same_bytes() { # NAME
+    hex=$(hex_in "$tables/$1.txt")
+    [ -n "$hex" ] && [ "$hex" = "$(hex_of "$tables/$1.esa")" ]
+}
+
+# What a text has under '$ COMMAND', up to an empty line or the end.
+under() { # COMMAND TEXT
+    COMMAND="\$ $1" awk '$0 == "" { on = 0 } on { print } $0 == ENVIRON["COMMAND"] { on = 1 }' "$2"
+}
+
+# A command prints, on either output, what the text has under it.
+as_the_text_says() { # COMMAND NAME STATUS
+    under "./esa $1 tables/$2.esa" "$tables/$2.txt" >"$work/wanted"
+    status=0
+    (cd "$root" && ./esa "$1" "tables/$2.esa") >"$work/seen.out" 2>&1 || status=$?
+    : >"$work/seen.err"
+    [ -s "$work/wanted" ] && [ "$status" = "$3" ] && cmp -s "$work/seen.out" "$work/wanted" || show
+}
+
+sample() { # NAME STATUS
+    try "$1.txt has the bytes of $1.esa" same_bytes "$1"
+    try "./esa check of $1 is as its text says" as_the_text_says check "$1" "$2"
+    try "./esa list of $1 is as its text says" as_the_text_says list "$1" "$2"
+}
+
+five_samples() {
+    [ "$(find "$tables" -type f | wc -l)" -eq 10 ]
+}
+
+samples() {
+    sample quiet-box 0
+    sample every-kind 0
+    sample spring 1
+    sample lamp 1
+    sample twice 1
+    try "five sample tables with a text each, and nothing else" five_samples
+}

@@ -1,0 +1,39 @@
+# Part of tests/esa: what is said of each table of sentences.tsv.
+# shellcheck shell=sh disable=SC2015,SC2154
+
+# Lines of hex as lines of octal escapes for printf.
+octal() {
+    awk '
+        function value(c) { return index("123456789ABCDEF", c) }
+        {
+            text = ""
+            for (i = 1; i < length($0); i += 2)
+                text = text sprintf("\\%03o", 16 * value(substr($0, i, 1)) + value(substr($0, i + 1, 1)))
+            print text
+        }'
+}
+
+# The tables as files, in the order of their lines.
+make_tables() { # FOLDER
+    mkdir "$1"
+    sed '/^#/d' "$parts/sentences.tsv" | cut -f 1 | octal >"$work/octal"
+    n=1000
+    while IFS= read -r bytes; do
+        n=$((n + 1))
+        # shellcheck disable=SC2059
+        printf "$bytes" >"$1/$n"
+    done <"$work/octal"
+}
+
+sentences() {
+    make_tables "$work/sentences"
+    ran check sentences/*
+    try "status 1 where some tables are refused" [ "$status" = 1 ]
+    n=1000
+    sed '/^#/d' "$parts/sentences.tsv" | cut -f 2 >"$work/said"
+    while IFS= read -r said; do
+        n=$((n + 1))
+        try "sentence: $said" [ "$(sed -n "$((n - 1000))p" "$work/seen.out")" = "sentences/$n: $said" ]
+    done <"$work/said"
+    try "a line for each table of sentences.tsv" [ "$(wc -l <"$work/seen.out")" -eq $((n - 1000)) ]
+}

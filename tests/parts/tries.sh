@@ -1,0 +1,57 @@
+# Part of tests/esa: how a thing is tried and counted.
+# shellcheck shell=sh disable=SC2015,SC2034,SC2154
+esa=$root/esa
+tables=$root/tables
+
+# Counts one thing. The command says whether it is right; it may print what it saw.
+try() { # WHAT COMMAND...
+    tried=$((tried + 1))
+    what=$1
+    shift
+    "$@" && return 0
+    wrong=$((wrong + 1))
+    printf 'wrong: %s\n' "$what"
+}
+
+not_tried() { # WHAT
+    printf 'not tried: %s\n' "$1"
+}
+
+# Runs ./esa in the working folder: its output is in seen.out and seen.err, its status in status.
+ran() { # WORD...
+    status=0
+    "$esa" "$@" >"$work/seen.out" 2>"$work/seen.err" </dev/null || status=$?
+}
+
+show() {
+    printf '  status %s\n' "$status"
+    sed 's/^/  out: /' "$work/seen.out"
+    sed 's/^/  err: /' "$work/seen.err"
+    return 1
+}
+
+# The status, and all of standard output.
+gives() { # STATUS TEXT WORD...
+    wanted=$1
+    printf '%s\n' "$2" >"$work/wanted"
+    shift 2
+    ran "$@"
+    [ "$status" = "$wanted" ] && cmp -s "$work/seen.out" "$work/wanted" || show
+}
+
+# The status, nothing on standard output, and these words on standard error.
+complains() { # STATUS TEXT WORD...
+    wanted=$1
+    text=$2
+    shift 2
+    ran "$@"
+    [ "$status" = "$wanted" ] && [ ! -s "$work/seen.out" ] && grep -qF -- "$text" "$work/seen.err" || show
+}
+
+# The programs that are missing are built once, before anything is tried.
+first_use() {
+    ran check "$tables/quiet-box.esa"
+    grep '^esa:\|^rt:' "$work/seen.err"
+    "$esa" rewrite "$tables/quiet-box.esa" "$work/first" && rm -f "$work/first"
+    [ ! -f "$root/crates/list/src/main.rt" ] || "$esa" list "$tables/quiet-box.esa" >/dev/null
+}

@@ -1,0 +1,41 @@
+# Part of tests/esa: help, why, and words that make no command.
+# shellcheck shell=sh disable=SC2015,SC2154
+
+helps() { # WORD...
+    ran "$@"
+    [ "$status" = 0 ] && [ ! -s seen.err ] && grep -q '^use: ./esa check FILE' seen.out || show
+}
+
+# The paragraph that the texts have, in lines of at most 78.
+tells_why() { # NUMBER
+    ran why "$1"
+    NUMBER=$1 awk -F '\t' '$1 == ENVIRON["NUMBER"] && $2 == "why" { print $3 }' "$root/tools/refusals/texts.tsv" >wanted
+    [ "$status" = 0 ] && [ -s wanted ] && [ "$(tr '\n' ' ' <seen.out)" = "$(cat wanted) " ] &&
+        [ "$(awk 'length($0) > 78' seen.out)" = '' ] || show
+}
+
+misused() {
+    try "no word at all" complains 2 "say what to do"
+    try "no word at all: how to use it" complains 2 "use: ./esa check FILE"
+    try "an unknown word" complains 2 "there is no command 'verify'" verify good
+    try "an empty word" complains 2 "there is no command ''" ''
+    try "check of nothing" complains 2 "check needs the name of a file" check
+    try "list of nothing" complains 2 "list needs the name of one file" list
+    try "list of two" complains 2 "list needs the name of one file" list good good
+    try "rewrite of one name" complains 2 "rewrite needs the name of a table and a name to write to" rewrite good
+    try "rewrite of three names" complains 2 "rewrite needs" rewrite good out out
+    try "why of nothing" complains 2 "why needs one number" why
+}
+
+words() {
+    try "help" helps help
+    try "--help" helps --help
+    try "check --help" helps check --help
+    misused
+    for number in 0 1 2 3 4 5 6 7 8 9 10 11 12 13 14 15 16 17 25; do
+        try "why $number" tells_why $number
+    done
+    for number in 18 24 26 013 1.5 -1 x ''; do
+        try "why '$number'" complains 2 "there is no answer $number; the numbers are 0, 1, 2, 3, 4, 5, 6, 7, 8, 9, 10, 11, 12, 13, 14, 15, 16, 17, 25" why -- "$number"
+    done
+}
