@@ -1,12 +1,9 @@
--- `main` ends: the arguments that are left.
+-- `main` ends: the measure is the number of arguments that are left.
 -- Assumes nothing.
-use Prim.Native.Nat.{_≤_, _-_}
-use native.Mathlib.Omega.{arith}
+use Prim.Native.Nat.{_-_}
 use borrow.Author.Needs.{needs}
 use Rattle.verdicts.proofs.main.Statement.{statement}
 use Rattle.verdicts.proofs.main.Tie as tie
-use Rattle.verdicts.proofs.main.Reads as reads
-use Rattle.verdicts.proofs.main.Lts as lts
 
 abbrev Inv-loop : tie.InvT-loop
 Inv-loop n i₀ i = Unit {0}
