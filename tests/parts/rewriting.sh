@@ -90,10 +90,19 @@ interrupted() {
     try "OUT is as it was then" same out good
 }
 
+# A refusal whose sentence nobody reads: its reader has gone before it is written.
+unheard() {
+    { "$esa" rewrite bad out 2>&1 || echo $? >unheard.status; } | :
+    try "a refusal that nobody reads ends (its status is $(cat unheard.status))" [ -s unheard.status ]
+    try "OUT is as it was after it" same out good
+    try "and no file is left behind by it" [ -z "$(find . -name '.esa*')" ]
+}
+
 rewriting() {
     written
     refused
     unwritable
+    unheard
     interrupted
     try "no file is left behind" [ -z "$(find . -name '.esa*')" ]
 }
