@@ -19,19 +19,26 @@ __attribute__((weak)) number esa_part_length(const byte *table, number length, n
 __attribute__((weak)) number esa_start(byte *buffer, number length, const byte *numbers);
 __attribute__((weak)) number esa_append(byte *buffer, number length, byte id, const byte *numbers, const byte *part,
                                         number part_length);
-
 __attribute__((weak)) number esa_rewrite(const byte *table, number length, byte *out, number room);
-enum { CHECK = 0, ELEMENT = 1, PART = 2, START = 3, APPEND = 4, REWRITE = 5 };
-/* exit status; TOUCHED: bytes in front of the buffer, the numbers or the part have changed */
+__attribute__((weak)) number esa_list(const byte *table, number length, byte *out);
+
+enum { CHECK = 0, ELEMENT = 1, PART = 2, START = 3, APPEND = 4, REWRITE = 5, LIST = 6 };
+/* exit status; TOUCHED: bytes in front of the buffer, the numbers, the part or the table have changed */
 enum { BROKEN_REQUEST = 3, NO_INPUT_OR_OUTPUT = 4, NO_MEMORY = 5, TOUCHED = 6 };
-enum { HEADER = 13, NUMBERS = 32, LONGEST = 70000, FRONT = 256, FRONT_BYTE = 0xC3, ROOM = 1 << 17, GUARD = 1 << 16 };
+enum { HEADER = 13, NUMBERS = 32, LISTING = 4096, LONGEST = 70000 };
+enum { FRONT = 256, FRONT_BYTE = 0xC3, ROOM = 1 << 17, GUARD = 1 << 16 };
 #define NO_SUCH_CALL (~0UL)
 
 static byte input[1 << 20];
 static byte output[1 << 16];
 static number waiting; /* bytes of output */
-static byte *table_end, *numbers_end, *part_end; /* of three guarded places */
+static byte *table_end, *numbers_end, *part_end, *text_end; /* of four guarded places */
 static byte front[FRONT];
+/* What a listing's buffer holds before the call: no byte of a text, and no zero. */
+static union {
+    byte bytes[LISTING];
+    number words[LISTING / 8];
+} pattern;
 
 static void flush(void)
 {
@@ -82,12 +89,13 @@ static number call(byte mode, const byte *table, number length, number k)
 static number write_call(byte mode, byte id, byte *buffer, number length, const byte *numbers, number part_length)
 {
     if (mode == START) return esa_start ? esa_start(buffer, length, numbers) : NO_SUCH_CALL;
-    if (mode == REWRITE) return esa_rewrite ? esa_rewrite(part_end - part_length, part_length, buffer, length) : NO_SUCH_CALL;
-    if (!esa_append) return NO_SUCH_CALL;
-    return esa_append(buffer, length, id, numbers, part_end - part_length, part_length);
+    const byte *part = part_end - part_length;
+    if (mode == REWRITE) return esa_rewrite ? esa_rewrite(part, part_length, buffer, length) : NO_SUCH_CALL;
+    return esa_append ? esa_append(buffer, length, id, numbers, part, part_length) : NO_SUCH_CALL;
 }
 
-/* A call of the writer: body is the buffer, the numbers and the part (of a rewriting, the table in the part's stead). The answer goes out, and then the buffer. */
+/* A call of the writer: body is the buffer, the numbers and the part (of a rewriting, the table in the part's stead). The
+   answer goes out, and then the buffer. */
 static void answer_writer(byte mode, byte id, const byte *body, number length, number part_length)
 {
     byte *buffer = table_end - length;
@@ -113,6 +121,35 @@ static void answer_reader(byte mode, const byte *body, number length, number k)
     put(&value, 8);
 }
 
+/* The number of bytes of the listing's buffer up to the last that is not as it was, or the answered length if that is more.
+   By words, as an emulator takes its time over memcmp. */
+static number altered(const byte *buffer, number answered)
+{
+    const number *words = (const number *)buffer;
+    number from = answered < LISTING ? answered : LISTING;
+    number end = LISTING;
+    while (end >= from + 8 && words[end / 8 - 1] == pattern.words[end / 8 - 1]) end -= 8;
+    while (end > from && buffer[end - 1] == pattern.bytes[end - 1]) end--;
+    return end;
+}
+
+/* The length goes out, packed as that of a part; then the number of bytes that altered tells of, and these bytes. The buffer
+   is the pattern again for the next call. */
+static void answer_list(const byte *body, number length)
+{
+    byte *buffer = text_end - LISTING;
+    byte *table = table_end - length;
+    memcpy(table, body, length);
+    number answered = esa_list ? esa_list(table, length, buffer) : 0;
+    if (memcmp(buffer - FRONT, front, FRONT) || memcmp(table, body, length)) _exit(TOUCHED);
+    number value = esa_list ? 256 * answered : NO_SUCH_CALL;
+    number count = altered(buffer, answered);
+    put(&value, 8);
+    put(&count, 8);
+    put(buffer, count);
+    memcpy(buffer, pattern.bytes, count);
+}
+
 /* Answers the whole requests among the bytes held, and gives the number of bytes that they took. */
 static number answer_all(number held)
 {
@@ -130,6 +167,7 @@ static number answer_all(number held)
         number size = HEADER + (number)length + (writes ? NUMBERS + part_length : 0);
         if (held - used < size) break;
         if (writes) answer_writer(mode, (byte)k, request + HEADER, length, part_length);
+        else if (mode == LIST) answer_list(request + HEADER, length);
         else answer_reader(mode, request + HEADER, length, k);
         used += size;
     }
@@ -142,6 +180,10 @@ int main(void)
     numbers_end = guarded_end();
     part_end = guarded_end();
     memset(front, FRONT_BYTE, FRONT);
+    text_end = guarded_end();
+    for (int i = 0; i < LISTING; i++) pattern.bytes[i] = (byte)(0x80 + i % 127);
+    memcpy(text_end - LISTING - FRONT, front, FRONT);
+    memcpy(text_end - LISTING, pattern.bytes, LISTING);
     number held = 0;
     for (;;) {
         long got = read(0, input + held, sizeof input - held);

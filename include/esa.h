@@ -1,14 +1,14 @@
 /* The C face of the proved reader and writer of ESA configuration tables, revision 0.90 (target/staticlib/libesa.a, made by
-   'rt staticlib esa'; x86-64). C99, and C++. Each promise below is proved of the library for every input; docs/CALLS.md has
-   the theorem to each.
+   'rt staticlib esa'; x86-64). C99, and C++. What each call below answers and leaves is proved of the library for every input;
+   docs/CALLS.md has the theorem to each.
 
    WHAT A CALLER OWES. Nothing proves the C around the library, so these three are yours to keep:
    - Each pointer and the length behind it are memory that may be read, and of 'buffer' and 'out' also written, until the
      call returns; 'numbers' is 32 bytes. With a length of 0 the pointer is not followed: NULL will do.
    - The places lent to one call do not overlap.
    - Nobody else writes to them before the call returns.
-   No other condition is asked: any bytes, any lengths and any numbers have an answer. No call keeps a pointer, allocates, or
-   has a state of its own, so calls from several threads on places of their own are fine. */
+   No other condition is asked: any bytes, any lengths and any numbers have an answer. As the code stands (this is no theorem)
+   no call keeps a pointer, allocates, or has a state of its own, so calls from several threads on places of their own are fine. */
 #ifndef ESA_H
 #define ESA_H
 
@@ -67,7 +67,7 @@ static inline const char *esa_words(unsigned number)
     case ESA_DEVICE_TYPE: return "the device type is not 1, 2 or 3";
     case ESA_POWER: return "more than 125 power units without SPWR";
     case ESA_ELEMENT_LENGTH: return "an element is cut short, or its length is under 3 or past the end";
-    case ESA_IDENTIFIER: return "no kind of element has this identifier";
+    case ESA_IDENTIFIER: return "the identifier is none of the ten that are taken";
     case ESA_LAYOUT: return "the length of an element is not that of its layout";
     case ESA_CODE: return "a reserved code, or a number that no rule allows there";
     case ESA_PIN: return "a pin that does not exist, is not permitted there, or stands out of order";
@@ -96,6 +96,12 @@ uint64_t esa_element(const uint8_t *table, size_t length, size_t k);
 /* How long is the variable part of element k? These are the last bytes of the element: the blocks of 09h and 0Ah, all bytes
    after the header of a string or a zone descriptor, none of the others. 0 also where esa_element refuses. */
 size_t esa_part_length(const uint8_t *table, size_t length, size_t k);
+
+/* The listing of a table, as text: one record a line, fields parted by tabs, each line ended by a line feed. It is put at the
+   front of 'out'; the answer is its length in bytes, and the bytes behind it are as they were. Of a refused table the text is
+   the one line R, number, place. Every listing fits into 'out', and none is ended by a zero. */
+enum { ESA_LISTING = 4096 };
+size_t esa_list(const uint8_t *table, size_t length, uint8_t out[ESA_LISTING]);
 
 /* WRITING. A table is started in a buffer and each element appended to it; bytes 1-2 of the buffer hold the length so far.
    With a refusal no byte of the buffer alters. A table that is still being written may break rules over the whole of it (11

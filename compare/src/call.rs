@@ -1,6 +1,7 @@
 //! The calls of the proved library: how each is asked for, and what the second program answers.
 
 use crate::answer::Answer;
+use crate::outcome::Outcome;
 use second::access::record_and_part;
 use std::fmt;
 
@@ -11,6 +12,8 @@ pub enum Call {
     Element(u64),
     /// Answers the length of element k's variable part; 0 with a refusal, whose part is empty.
     Part(u64),
+    /// Answers the length of the listing and gives its text.
+    List,
 }
 
 impl Call {
@@ -20,12 +23,22 @@ impl Call {
             Call::Check => 0,
             Call::Element(_) => 1,
             Call::Part(_) => 2,
+            Call::List => 6,
+        }
+    }
+
+    pub fn name(self) -> &'static str {
+        match self {
+            Call::Check => "esa_check",
+            Call::Element(_) => "esa_element",
+            Call::Part(_) => "esa_part_length",
+            Call::List => "esa_list",
         }
     }
 
     fn argument(self) -> u64 {
         match self {
-            Call::Check => 0,
+            Call::Check | Call::List => 0,
             Call::Element(k) | Call::Part(k) => k,
         }
     }
@@ -38,20 +51,40 @@ impl Call {
         to.extend_from_slice(table);
     }
 
-    /// The second program's answer.
-    pub fn second(self, table: &[u8]) -> Answer {
-        if self == Call::Check {
-            let verdict = second::check(table);
-            return Answer::of(verdict.number(), verdict.beside());
+    /// What the second program answers, and its text where there is one.
+    pub fn second(self, table: &[u8]) -> Outcome {
+        match self {
+            Call::Check => {
+                let verdict = second::check(table);
+                Answer::of(verdict.number(), verdict.beside()).into()
+            }
+            Call::Element(k) => element(table, k).into(),
+            Call::Part(k) => part(table, k).into(),
+            Call::List => {
+                let buffer = second::listing(table);
+                let answer = Answer::of(0, buffer.len());
+                Outcome { answer, buffer }
+            }
         }
-        // No table has so many elements that the greatest usize is one of them.
-        let k = usize::try_from(self.argument()).unwrap_or(usize::MAX);
-        match (record_and_part(table, k), self) {
-            (Err(_), Call::Part(_)) => Answer::of(0, 0),
-            (Err(refusal), _) => Answer::of(refusal.number, refusal.place),
-            (Ok((_, part)), Call::Part(_)) => Answer::of(0, part.len()),
-            (Ok((record, _)), _) => Answer::of(0, usize::from(record.identifier())),
-        }
+    }
+}
+
+/// No table has so many elements that the greatest usize is one of them.
+fn index(k: u64) -> usize {
+    usize::try_from(k).unwrap_or(usize::MAX)
+}
+
+fn element(table: &[u8], k: u64) -> Answer {
+    match record_and_part(table, index(k)) {
+        Err(refusal) => Answer::of(refusal.number, refusal.place),
+        Ok((record, _)) => Answer::of(0, usize::from(record.identifier())),
+    }
+}
+
+fn part(table: &[u8], k: u64) -> Answer {
+    match record_and_part(table, index(k)) {
+        Err(_) => Answer::of(0, 0),
+        Ok((_, part)) => Answer::of(0, part.len()),
     }
 }
 
@@ -61,6 +94,7 @@ impl fmt::Display for Call {
             Call::Check => to.write_str("check"),
             Call::Element(k) => write!(to, "element {k}"),
             Call::Part(k) => write!(to, "part of element {k}"),
+            Call::List => to.write_str("listing"),
         }
     }
 }

@@ -1,22 +1,21 @@
-//! Asks the driver and the second program the same and compares.
+//! Asks the driver and the second program the same of tables, and compares.
 
-use crate::answer::{Answer, NO_SUCH_CALL};
-use crate::batch::{Batch, Origin};
+use crate::answer::Answer;
 use crate::call::Call;
-use crate::driver::Driver;
+use crate::exchange::Exchange;
 use crate::known::Row;
 use crate::options::Options;
-use crate::tally::{hex, Tally};
+use crate::outcome::Outcome;
+use crate::question::{Origin, Question};
+use crate::tally::Tally;
+use std::rc::Rc;
 
 pub struct Comparison {
-    command: Vec<String>,
-    driver: Driver,
+    exchange: Exchange<Question, Tally>,
     /// Ask for elements and their variable parts too.
     elements: bool,
-    filling: Batch,
-    /// Sent, and not yet answered: the driver works on it while the next one is filled.
-    sent: Option<Batch>,
-    pub tally: Tally,
+    /// Ask for the listing too.
+    listing: bool,
 }
 
 /// Numbers that no table has, and that are small ones in their low bits.
@@ -38,32 +37,29 @@ fn places(check: Answer, length: usize) -> Vec<u64> {
 impl Comparison {
     pub fn start(options: &Options) -> Result<Comparison, String> {
         Ok(Comparison {
-            command: options.driver.clone(),
-            driver: Driver::start(&options.driver)?,
+            exchange: Exchange::start(&options.driver)?,
             elements: options.elements,
-            filling: Batch::default(),
-            sent: None,
-            tally: Tally::default(),
+            listing: options.listing,
         })
     }
 
     /// Compares all calls on one table.
     pub fn table(&mut self, origin: Origin, table: Vec<u8>) -> Result<(), String> {
+        let table: Rc<[u8]> = table.into();
         let check = Call::Check.second(&table);
-        let mut calls = Vec::new();
-        if self.elements {
-            for k in places(check, table.len()) {
-                for call in [Call::Element(k), Call::Part(k)] {
-                    calls.push((call, call.second(&table)));
-                }
+        let places = if self.elements {
+            places(check.answer, table.len())
+        } else {
+            Vec::new()
+        };
+        self.exchange.tally.tables += 1;
+        self.ask(origin, Call::Check, &table, check)?;
+        for k in places {
+            for call in [Call::Element(k), Call::Part(k)] {
+                self.ask(origin, call, &table, call.second(&table))?;
             }
         }
-        self.filling.table(origin, table);
-        self.filling.ask(Call::Check, check);
-        for (call, expected) in calls {
-            self.filling.ask(call, expected);
-        }
-        self.send_if(self.filling.is_full())
+        self.listing(origin, &table)
     }
 
     /// Holds both sides to an answer that the paper gives.
@@ -72,68 +68,48 @@ impl Comparison {
             return Ok(());
         }
         let origin = Origin::Known(row.name);
-        let second = row.call.second(&row.table);
+        let table: Rc<[u8]> = row.table.into();
+        let second = row.call.second(&table).answer;
         if second != row.answer {
-            let sides = format!("the second program answers {second}, not {}", row.answer);
-            self.tally.differ(origin, row.call, &sides, &row.table);
+            self.exchange.tally.differences.note(|| {
+                let (call, answer) = (row.call, row.answer);
+                format!("{origin}: {call}: the second program answers {second}, not {answer}")
+            });
         }
-        self.filling.table(origin, row.table);
-        self.filling.ask(row.call, row.answer);
-        self.send_if(self.filling.is_full())
+        self.exchange.tally.tables += 1;
+        self.ask(origin, row.call, &table, row.answer.into())?;
+        self.listing(origin, &table)
     }
 
-    fn send_if(&mut self, now: bool) -> Result<(), String> {
-        if !now {
+    fn listing(&mut self, origin: Origin, table: &Rc<[u8]>) -> Result<(), String> {
+        if !self.listing {
             return Ok(());
         }
-        let mut batch = std::mem::take(&mut self.filling);
-        self.driver.send(std::mem::take(&mut batch.requests));
-        let before = self.sent.replace(batch);
-        self.settle(before)
+        self.ask(origin, Call::List, table, Call::List.second(table))
     }
 
-    /// Waits for the answers to a batch.
-    fn settle(&mut self, batch: Option<Batch>) -> Result<(), String> {
-        let Some(batch) = batch else {
-            return Ok(());
+    fn ask(
+        &mut self,
+        origin: Origin,
+        call: Call,
+        table: &Rc<[u8]>,
+        expected: Outcome,
+    ) -> Result<(), String> {
+        let table = table.clone();
+        let question = Question {
+            origin,
+            call,
+            table,
         };
-        let answers = match self.driver.receive(batch.asked.len()) {
-            Ok(answers) => answers,
-            // The answers that the driver still held are lost, so that its last call is not known.
-            Err(why) => return Err(self.culprit(&batch).unwrap_or(why)),
-        };
-        if let Some(at) = answers.iter().position(|&answer| answer == NO_SUCH_CALL) {
-            return Err(format!(
-                "the archive lacks a call: {}",
-                batch.asked[at].call
-            ));
-        }
-        self.tally.add(&batch, &answers);
-        Ok(())
+        self.exchange.ask(question, expected)
     }
 
-    /// Asks a fresh driver one by one to find the call that ends it.
-    fn culprit(&self, batch: &Batch) -> Option<String> {
-        let mut driver = Driver::start(&self.command).ok()?;
-        for batch in [Some(batch), self.sent.as_ref()].into_iter().flatten() {
-            for asked in &batch.asked {
-                let (origin, table) = &batch.tables[asked.table];
-                let mut request = Vec::new();
-                asked.call.request(table, &mut request);
-                driver.send(request);
-                if let Err(why) = driver.receive(1) {
-                    return Some(format!("{origin}: {}: {why}: {}", asked.call, hex(table)));
-                }
-            }
-        }
-        None
+    /// So far, the calls that are not yet answered left out.
+    pub fn differences(&self) -> u64 {
+        self.exchange.tally.all_differences()
     }
 
-    pub fn finish(mut self) -> Result<Tally, String> {
-        self.send_if(!self.filling.asked.is_empty())?;
-        let last = self.sent.take();
-        self.settle(last)?;
-        self.driver.finish()?;
-        Ok(self.tally)
+    pub fn finish(self) -> Result<Tally, String> {
+        self.exchange.finish()
     }
 }

@@ -8,6 +8,8 @@ use std::thread::JoinHandle;
 
 /// As many sends may be unanswered at one time; one more might wait for ever.
 pub const MOST_UNANSWERED: usize = 2;
+/// The buffer that is lent for a listing.
+const LISTING_ROOM: usize = 4_096;
 
 pub struct Driver {
     child: Child,
@@ -48,21 +50,33 @@ impl Driver {
         let _ = self.requests.send(requests);
     }
 
-    /// The answers to so many requests.
-    pub fn receive(&mut self, count: usize) -> Result<Vec<Answer>, String> {
-        let mut answers = Vec::with_capacity(count);
-        let mut word = [0; 8];
-        for _ in 0..count {
-            self.receive_bytes(&mut word)?;
-            answers.push(Answer(u64::from_le_bytes(word)));
-        }
-        Ok(answers)
+    /// The answer to a request.
+    pub fn receive(&mut self) -> Result<Answer, String> {
+        self.receive_number().map(Answer)
     }
 
-    /// Bytes that follow an answer.
-    pub fn receive_bytes(&mut self, bytes: &mut [u8]) -> Result<(), String> {
-        let read = self.answers.read_exact(bytes);
-        read.map_err(|_| self.ended())
+    fn receive_number(&mut self) -> Result<u64, String> {
+        let mut word = [0; 8];
+        let read = self.answers.read_exact(&mut word);
+        read.map_err(|_| self.ended())?;
+        Ok(u64::from_le_bytes(word))
+    }
+
+    /// So many bytes that follow an answer.
+    pub fn receive_bytes(&mut self, count: usize) -> Result<Vec<u8>, String> {
+        let mut bytes = vec![0; count];
+        let read = self.answers.read_exact(&mut bytes);
+        read.map_err(|_| self.ended())?;
+        Ok(bytes)
+    }
+
+    /// The front of a listing's buffer, as far as a byte of it is altered: its length goes before it.
+    pub fn receive_altered(&mut self) -> Result<Vec<u8>, String> {
+        let count = self.receive_number()?;
+        match usize::try_from(count) {
+            Ok(count) if count <= LISTING_ROOM => self.receive_bytes(count),
+            _ => Err(format!("the driver tells of {count} bytes of a listing")),
+        }
     }
 
     fn ended(&mut self) -> String {

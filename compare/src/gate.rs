@@ -1,9 +1,9 @@
 //! The gate: known tables, named cases, and generated tables of fixed seeds.
 
-use crate::batch::Origin;
 use crate::comparison::Comparison;
 use crate::known;
 use crate::options::Options;
+use crate::question::Origin;
 use crate::tally::Tally;
 use second::generator::{self, raw};
 use second::random::Random;
@@ -56,5 +56,5 @@ fn judged(tally: &Tally, elements: bool) -> bool {
         good &= tally.all_came(1, (0..=15).chain([17]));
     }
     tally.print_sum();
-    good && tally.differences == 0
+    good && tally.all_differences() == 0
 }

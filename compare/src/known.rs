@@ -140,7 +140,7 @@ mod tests {
     fn the_second_program_gives_the_papers_answers() {
         for row in super::rows() {
             let (name, call) = (row.name, row.call);
-            assert_eq!(call.second(&row.table), row.answer, "{name}: {call}");
+            assert_eq!(call.second(&row.table).answer, row.answer, "{name}: {call}");
         }
     }
 }

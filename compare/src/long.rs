@@ -1,8 +1,8 @@
 //! A long run over tables of any sort.
 
-use crate::batch::Origin;
 use crate::comparison::Comparison;
 use crate::options::Options;
+use crate::question::Origin;
 use second::generator;
 use second::random::Random;
 use std::time::Instant;
@@ -16,7 +16,7 @@ pub fn long(options: &Options, seed: u64, count: u64) -> Result<bool, String> {
     let mut random = Random::new(seed);
     for at in 0..count {
         if at > 0 && at % STEP == 0 {
-            let differences = comparison.tally.differences;
+            let differences = comparison.differences();
             println!(
                 "{at} tables asked, {differences} differences{}",
                 pace(at, begin)
@@ -28,7 +28,7 @@ pub fn long(options: &Options, seed: u64, count: u64) -> Result<bool, String> {
     println!("seed {seed}{}", pace(tally.tables, begin));
     tally.print_answers();
     tally.print_sum();
-    Ok(tally.differences == 0)
+    Ok(tally.all_differences() == 0)
 }
 
 fn pace(tables: u64, begin: Instant) -> String {

@@ -2,14 +2,16 @@
 #![forbid(unsafe_code)]
 
 mod answer;
-mod batch;
 mod call;
 mod comparison;
 mod driver;
+mod exchange;
 mod gate;
 mod known;
 mod long;
 mod options;
+mod outcome;
+mod question;
 mod tally;
 mod writer;
 
@@ -17,8 +19,8 @@ use options::{Command, Options};
 use std::process::ExitCode;
 
 const USAGE: &str = "\
-use: compare gate [--elements] [--writer] --driver COMMAND...
-     compare long --seed S --count N [--elements] --driver COMMAND...
+use: compare gate [--elements] [--listing] [--writer] --driver COMMAND...
+     compare long --seed S --count N [--elements] [--listing] --driver COMMAND...
      compare writer --seed S --count N --driver COMMAND...
 ";
 

@@ -11,6 +11,7 @@ pub enum Command {
 pub struct Options {
     pub command: Command,
     pub elements: bool,
+    pub listing: bool,
     /// The gate: the writer's calls too.
     pub writer: bool,
     /// The driver's program and its arguments, at least one word.
@@ -23,6 +24,7 @@ struct Given {
     seed: Option<u64>,
     count: Option<u64>,
     elements: bool,
+    listing: bool,
     writer: bool,
     driver: Vec<String>,
 }
@@ -43,6 +45,7 @@ impl Given {
                 "--seed" => given.seed = number(word, words.next())?,
                 "--count" => given.count = number(word, words.next())?,
                 "--elements" => given.elements = true,
+                "--listing" => given.listing = true,
                 "--writer" => given.writer = true,
                 "--driver" => given.driver = words.by_ref().cloned().collect(),
                 _ => return Err(format!("'{word}' has no meaning here")),
@@ -67,12 +70,16 @@ impl Options {
         if given.writer && command != Command::Gate {
             return Err("'--writer' is for the gate alone".into());
         }
+        if (given.elements || given.listing) && matches!(command, Command::Writer { .. }) {
+            return Err("'--elements' and '--listing' are for tables".into());
+        }
         if given.driver.is_empty() {
             return Err("'--driver' and its command are missing".into());
         }
         Ok(Options {
             command,
             elements: given.elements,
+            listing: given.listing,
             writer: given.writer,
             driver: given.driver,
         })

@@ -1,50 +1,40 @@
 //! What was asked, what came back, and where the two sides differ.
 
-use crate::answer::Answer;
-use crate::batch::{Batch, Origin};
 use crate::call::Call;
+use crate::exchange::Takes;
+use crate::outcome::{hex, text, Differences, Outcome};
+use crate::question::Question;
 use second::histogram::Histogram;
 
-/// Differences that are shown; the others are only counted.
-const SHOWN: u64 = 5;
-
-/// By mode of the driver.
+/// By mode of the driver; a listing has no number and is only counted.
 const NAMES: [&str; 3] = ["check", "element", "part"];
 
 #[derive(Default)]
 pub struct Tally {
     pub tables: u64,
-    pub differences: u64,
+    pub differences: Differences,
+    pub listings: u64,
+    pub listing_differences: Differences,
     /// By mode: how often each number came, both sides agreeing.
     answers: [Histogram; 3],
 }
 
-pub fn hex(table: &[u8]) -> String {
-    table.iter().map(|byte| format!("{byte:02X}")).collect()
+impl Takes<Question> for Tally {
+    fn take(&mut self, asked: &Question, expected: &Outcome, proved: &Outcome) {
+        let (differences, shown): (_, fn(&[u8]) -> String) = match asked.call {
+            Call::List => (&mut self.listing_differences, text),
+            _ => (&mut self.differences, hex),
+        };
+        if proved != expected {
+            differences.note(|| format!("{asked}: {}", proved.against(expected, shown)));
+        } else if asked.call != Call::List {
+            self.answers[usize::from(asked.call.mode())].add(proved.answer.number());
+        }
+        self.listings += u64::from(asked.call == Call::List);
+    }
 }
 
 impl Tally {
-    /// Takes in the driver's answers to a batch.
-    pub fn add(&mut self, batch: &Batch, answers: &[Answer]) {
-        self.tables += batch.tables.len() as u64;
-        for (asked, &answer) in batch.asked.iter().zip(answers) {
-            if answer == asked.expected {
-                self.answers[usize::from(asked.call.mode())].add(answer.number());
-            } else {
-                let (origin, table) = &batch.tables[asked.table];
-                let sides = format!("the proved side answers {answer}, not {}", asked.expected);
-                self.differ(*origin, asked.call, &sides, table);
-            }
-        }
-    }
-
-    pub fn differ(&mut self, origin: Origin, call: Call, sides: &str, table: &[u8]) {
-        self.differences += 1;
-        if self.differences <= SHOWN {
-            println!("DIFFERENCE: {origin}: {call}: {sides}: {}", hex(table));
-        }
-    }
-
     /// One line for each mode that was asked for: number and count of each answer.
     pub fn print_answers(&self) {
         for (name, answers) in NAMES.iter().zip(&self.answers) {
@@ -70,8 +60,61 @@ impl Tally {
         missing.is_empty()
     }
 
-    /// The last line.
+    pub fn all_differences(&self) -> u64 {
+        self.differences.0 + self.listing_differences.0
+    }
+
+    /// The last line, or the last two.
     pub fn print_sum(&self) {
-        println!("{} tables, {} differences", self.tables, self.differences);
+        println!("{} tables, {} differences", self.tables, self.differences.0);
+        if self.listings > 0 {
+            let differences = self.listing_differences.0;
+            println!("{} listings, {differences} differences", self.listings);
+        }
+    }
+}
+
+/// The comparison can fail: whatever is altered in a listing is seen.
+#[cfg(test)]
+mod tests {
+    use super::*;
+    use crate::answer::Answer;
+    use crate::question::Origin;
+    use second::generator;
+    use second::random::Random;
+
+    fn counted(asked: &Question, proved: &Outcome) -> (u64, u64) {
+        let mut tally = Tally {
+            listing_differences: Differences::unshown(),
+            ..Tally::default()
+        };
+        tally.take(asked, &asked.call.second(&asked.table), proved);
+        let differences = tally.all_differences() - Differences::unshown().0;
+        (tally.listings, differences)
+    }
+
+    #[test]
+    fn an_altered_length_or_byte_of_a_listing_is_reported() {
+        let mut random = Random::new(3);
+        for at in 0..300 {
+            let asked = Question {
+                origin: Origin::Seeded { seed: 3, at },
+                call: Call::List,
+                table: generator::any(&mut random).into(),
+            };
+            let second = asked.call.second(&asked.table);
+            assert_eq!(counted(&asked, &second), (1, 0));
+            let mut longer = second.clone();
+            longer.answer = Answer(second.answer.0 + 256);
+            assert_eq!(counted(&asked, &longer), (1, 1));
+            let mut behind = second.clone();
+            behind.buffer.push(0);
+            assert_eq!(counted(&asked, &behind), (1, 1));
+            for at in (0..second.buffer.len()).step_by(1 + second.buffer.len() / 50) {
+                let mut altered = second.clone();
+                altered.buffer[at] ^= 1 << (at % 8);
+                assert_eq!(counted(&asked, &altered), (1, 1));
+            }
+        }
     }
 }

@@ -41,6 +41,13 @@ static void walk(const uint8_t *table, size_t length, size_t count)
     told("  one more", esa_element(table, length, count), "");
 }
 
+/* The listing: a line for the table and one for each element, or the refusal. */
+static void list(const uint8_t *table, size_t length)
+{
+    uint8_t text[ESA_LISTING];
+    fwrite(text, 1, esa_list(table, length, text), stdout);
+}
+
 /* A table with a fan and its zone; without the zone it is refused. Gives the length, or 0 if the writer refuses. */
 static size_t build(uint8_t *buffer, size_t length)
 {
@@ -107,6 +114,7 @@ int main(int count, char **arguments)
     int good = told("is it a table", answer, "elements");
     if (good)
         walk(table, length, esa_beside(answer));
+    list(table, length);
 
     printf("\na table of our own\n");
     uint8_t buffer[100];

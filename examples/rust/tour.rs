@@ -39,6 +39,7 @@ mod esa {
                 part_length: usize,
             ) -> u64;
             pub fn esa_rewrite(table: *const u8, length: usize, out: *mut u8, room: usize) -> u64;
+            pub fn esa_list(table: *const u8, length: usize, out: &mut [u8; 4096]) -> usize;
         }
     }
 
@@ -88,6 +89,13 @@ mod esa {
         let (at, room) = (out.as_mut_ptr(), out.len());
         unpacked(unsafe { c::esa_rewrite(table.as_ptr(), table.len(), at, room) })
     }
+
+    /// The listing: a line for the table and one for each element, or the refusal.
+    pub fn list(table: &[u8]) -> String {
+        let mut text = [0; 4096];
+        let length = unsafe { c::esa_list(table.as_ptr(), table.len(), &mut text) };
+        text[..length].iter().map(|&byte| char::from(byte)).collect()
+    }
 }
 
 impl Display for esa::Refusal {
@@ -106,7 +114,7 @@ fn words(number: u8) -> &'static str {
         4 => "the device type is not 1, 2 or 3",
         5 => "more than 125 power units without SPWR",
         6 => "an element is cut short, or its length is under 3 or past the end",
-        7 => "no kind of element has this identifier",
+        7 => "the identifier is none of the ten that are taken",
         8 => "the length of an element is not that of its layout",
         9 => "a reserved code, or a number that no rule allows there",
         10 => "a pin that does not exist, is not permitted there, or stands out of order",
@@ -227,6 +235,7 @@ fn tour(table: &[u8]) -> Result<bool, esa::Refusal> {
     if let Ok(count) = answer {
         walk(table, count)?;
     }
+    print!("{}", esa::list(table));
 
     println!("\na table of our own");
     let mut buffer = [0; 100];

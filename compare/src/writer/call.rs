@@ -2,7 +2,9 @@
 
 use super::numbers::{self, Numbers};
 use crate::answer::Answer;
-use crate::tally::hex;
+use crate::driver::Driver;
+use crate::exchange::Asked;
+use crate::outcome::{hex, Outcome};
 use second::answer::number;
 use second::{Refusal, Verdict};
 use std::fmt;
@@ -24,13 +26,6 @@ pub struct WriterCall {
     /// Of append alone; the table of a rewriting.
     pub part: Vec<u8>,
     /// As lent, before the call.
-    pub buffer: Vec<u8>,
-}
-
-/// The answer and the whole buffer after the call.
-#[derive(Clone, Debug, PartialEq, Eq)]
-pub struct Outcome {
-    pub answer: Answer,
     pub buffer: Vec<u8>,
 }
 
@@ -60,22 +55,6 @@ impl WriterCall {
             part: table,
             buffer,
         }
-    }
-
-    /// Adds the request: mode, length of the buffer, identifier + 256 x length of the part, then
-    /// buffer, numbers and part.
-    pub fn request(&self, to: &mut Vec<u8>) {
-        let (mode, id) = match self.does {
-            Does::Start => (3, 0),
-            Does::Append(id) => (4, id),
-            Does::Rewrite => (5, 0),
-        };
-        to.push(mode);
-        to.extend_from_slice(&(self.buffer.len() as u32).to_le_bytes());
-        to.extend_from_slice(&(u64::from(id) + 256 * self.part.len() as u64).to_le_bytes());
-        to.extend_from_slice(&self.buffer);
-        to.extend_from_slice(&self.numbers);
-        to.extend_from_slice(&self.part);
     }
 
     /// What the second program answers, and the buffer as it leaves it.
@@ -112,6 +91,38 @@ fn rewritten(table: &[u8], buffer: &mut [u8]) -> Result<usize, Refusal> {
     }
     buffer[..table.len()].copy_from_slice(&second::cleared(table));
     Ok(table.len())
+}
+
+impl Asked for WriterCall {
+    fn name(&self) -> &'static str {
+        match self.does {
+            Does::Start => "esa_start",
+            Does::Append(_) => "esa_append",
+            Does::Rewrite => "esa_rewrite",
+        }
+    }
+
+    /// Mode, length of the buffer, identifier + 256 x length of the part, then buffer, numbers and
+    /// part.
+    fn request(&self, to: &mut Vec<u8>) {
+        let (mode, id) = match self.does {
+            Does::Start => (3, 0),
+            Does::Append(id) => (4, id),
+            Does::Rewrite => (5, 0),
+        };
+        to.push(mode);
+        to.extend_from_slice(&(self.buffer.len() as u32).to_le_bytes());
+        to.extend_from_slice(&(u64::from(id) + 256 * self.part.len() as u64).to_le_bytes());
+        to.extend_from_slice(&self.buffer);
+        to.extend_from_slice(&self.numbers);
+        to.extend_from_slice(&self.part);
+    }
+
+    fn reply(&self, driver: &mut Driver) -> Result<Outcome, String> {
+        let answer = driver.receive()?;
+        let buffer = driver.receive_bytes(self.buffer.len())?;
+        Ok(Outcome { answer, buffer })
+    }
 }
 
 impl fmt::Display for WriterCall {

@@ -2,7 +2,6 @@
 
 mod call;
 mod codes;
-mod comparison;
 mod edges;
 mod numbers;
 mod parts;
@@ -12,8 +11,9 @@ mod samples;
 mod stream;
 mod tally;
 
+use crate::exchange::Exchange;
 use crate::options::Options;
-use comparison::Comparison;
+use call::WriterCall;
 use second::random::Random;
 use std::time::Instant;
 use stream::Stream;
@@ -26,6 +26,16 @@ const SEEDED: u64 = 60_000;
 const REWRITTEN: u64 = 3_000;
 /// Calls from one line of progress to the next.
 const STEP: u64 = 500_000;
+
+type Comparison = Exchange<WriterCall, Tally>;
+
+impl Comparison {
+    /// Compares one call; its answer may come later.
+    fn call(&mut self, call: WriterCall) -> Result<(), String> {
+        let second = call.second();
+        self.ask(call, second)
+    }
+}
 
 /// Every call at the edges, and calls of a fixed seed. Every answer must come at least once.
 pub fn gate(options: &Options) -> Result<bool, String> {
@@ -56,7 +66,7 @@ pub fn long(options: &Options, seed: u64, count: u64) -> Result<bool, String> {
     let mut stream = Stream::new(seed);
     for at in 0..count {
         if at > 0 && at % STEP == 0 {
-            let differences = comparison.tally.differences;
+            let differences = comparison.tally.differences.0;
             println!("{at} writer calls asked, {differences} differences");
         }
         comparison.call(stream.call())?;
@@ -73,5 +83,5 @@ pub fn long(options: &Options, seed: u64, count: u64) -> Result<bool, String> {
 
 fn summed(tally: &Tally) -> bool {
     tally.print_sum();
-    tally.differences == 0
+    tally.differences.0 == 0
 }

@@ -1,71 +1,39 @@
 //! What was asked of the writer, what came back, and where the two sides differ.
 
-use super::call::{Does, Outcome, WriterCall};
-use crate::tally::hex;
+use super::call::{Does, WriterCall};
+use crate::exchange::Takes;
+use crate::outcome::{hex, Differences, Outcome};
 use second::histogram::Histogram;
-
-/// Differences that are shown; the others are only counted.
-const SHOWN: u64 = 5;
 
 #[derive(Default)]
 pub struct Tally {
     pub calls: u64,
-    pub differences: u64,
+    pub differences: Differences,
     pub starts: Histogram,
     pub appends: Histogram,
     pub rewritings: Histogram,
 }
 
-/// How the proved side's outcome differs from the second program's; `None` when answer and every
-/// byte are the same.
-fn difference(proved: &Outcome, second: &Outcome) -> Option<String> {
-    if proved == second {
-        return None;
+impl Takes<WriterCall> for Tally {
+    fn take(&mut self, call: &WriterCall, expected: &Outcome, proved: &Outcome) {
+        let at = self.calls;
+        self.calls += 1;
+        if proved != expected {
+            let sides = || proved.against(expected, hex);
+            self.differences
+                .note(|| format!("writer call {at}: {call}: {}", sides()));
+            return;
+        }
+        let answers = match call.does {
+            Does::Start => &mut self.starts,
+            Does::Append(_) => &mut self.appends,
+            Does::Rewrite => &mut self.rewritings,
+        };
+        answers.add(proved.answer.number());
     }
-    let first = proved
-        .buffer
-        .iter()
-        .zip(&second.buffer)
-        .position(|(a, b)| a != b);
-    let bytes = match first {
-        None => "the same bytes".to_string(),
-        Some(at) => format!(
-            "from byte {at} on '{}', not '{}'",
-            hex(&proved.buffer[at..]),
-            hex(&second.buffer[at..])
-        ),
-    };
-    Some(format!(
-        "the proved side answers {}, the second program {}; {bytes}",
-        proved.answer, second.answer
-    ))
 }
 
 impl Tally {
-    /// Takes in what both sides did with one call.
-    pub fn add(&mut self, call: &WriterCall, proved: &Outcome, second: &Outcome) {
-        self.calls += 1;
-        match difference(proved, second) {
-            Some(sides) => {
-                self.differences += 1;
-                if self.differences <= SHOWN {
-                    println!(
-                        "DIFFERENCE: writer call {}: {call}: {sides}",
-                        self.calls - 1
-                    );
-                }
-            }
-            None => {
-                let answers = match call.does {
-                    Does::Start => &mut self.starts,
-                    Does::Append(_) => &mut self.appends,
-                    Does::Rewrite => &mut self.rewritings,
-                };
-                answers.add(second.answer.number());
-            }
-        }
-    }
-
     pub fn print_answers(&self) {
         for (name, answers) in [
             ("start", &self.starts),
@@ -104,7 +72,7 @@ impl Tally {
     pub fn print_sum(&self) {
         println!(
             "{} writer calls, {} differences",
-            self.calls, self.differences
+            self.calls, self.differences.0
         );
     }
 }
@@ -118,11 +86,11 @@ mod tests {
 
     fn counted(call: &WriterCall, proved: &Outcome) -> (u64, u64) {
         let mut tally = Tally {
-            differences: SHOWN, // shown no more, only counted
+            differences: Differences::unshown(),
             ..Tally::default()
         };
-        tally.add(call, proved, &call.second());
-        (tally.calls, tally.differences - SHOWN)
+        tally.take(call, &call.second(), proved);
+        (tally.calls, tally.differences.0 - Differences::unshown().0)
     }
 
     #[test]

@@ -1,10 +1,15 @@
-// An element's bytes as a case of the element enum, where its variable part starts, and whether its position is known.
+// An element's bytes as a case of the element enum, where its variable part starts, and what it says of itself: its identifier,
+// position, own pins and zone.
 ghost use mathlib.Core.Path.{_≡_};
 ghost use mathlib.Core.Option.{some};
 ghost use Rattle.format.specs.Records.{Record, elementOf, unknownPosition};
 ghost use Rattle.format.specs.Layout.{idOf};
 ghost use Rattle.format.specs.Decode.{decode};
+ghost use Rattle.format.specs.Slots.{byte};
 ghost use Rattle.elements.specs.Parts.{partStart};
+ghost use Rattle.elements.specs.Own.{three as threeOf, selectOf, ownPins, zoneOf};
+use flags::wide;
+use format::records::Address;
 use format::records::Element;
 use format::records::Placement;
 
@@ -63,4 +68,88 @@ pub fn position_unknown(p: Placement) -> bool
     ensures { λ r. ⌜ r ≡ unknownPosition p ⌝ }
 {
     (p.x.0 == 255) & (p.y.0 == 255) & (p.z.0 == 255)
+}
+
+// An element's own pins in field order, FFh where there is none.
+pub struct OwnPins {
+    pub one: u8,
+    pub two: u8,
+    pub three: u8,
+}
+
+fn select_of(a: Address) -> u8
+    ensures { λ r. ⌜ r ≡ selectOf a ⌝ }
+{
+    match a {
+        Address::Bus(_) => 255,
+        Address::Select(p) => p.0,
+    }
+}
+
+fn own(one: u8, two: u8, three: u8) -> OwnPins
+    ensures { λ r. ⌜ r ≡ threeOf one two three ⌝ }
+{
+    OwnPins { one, two, three }
+}
+
+// A device's own pin: its chip select, if it has one.
+fn selected(a: Address) -> OwnPins
+    ensures { λ r. ⌜ r ≡ threeOf (selectOf a) 0xff 0xff ⌝ }
+{
+    own(select_of(a), 255, 255)
+}
+
+// The pins of an element in field order; a chip select is one, shared pins are not.
+pub fn own_pins(e: Element) -> OwnPins
+    ensures { λ r. ⌜ r ≡ ownPins e ⌝ }
+{
+    match e {
+        Element::Digital(d) => {
+            let a = d.address;
+            selected(a)
+        }
+        Element::Analogue(a) => own(a.pin.0, 255, 255),
+        Element::Fan(f) => own(f.pwm.0, f.tachometer.0, 255),
+        Element::Led(l) => own(l.one.pin.0, l.two.pin.0, l.three.pin.0),
+        Element::Current(c) => own(c.pin.0, 255, 255),
+        Element::Controller(d) => {
+            let a = d.address;
+            selected(a)
+        }
+        Element::Tachometer(d) => {
+            let a = d.address;
+            selected(a)
+        }
+        Element::Zone => own(255, 255, 255),
+        Element::Text => own(255, 255, 255),
+        Element::Rgb(r) => own(r.red.0, r.green.0, r.blue.0),
+    }
+}
+
+// A zone descriptor's own number, from its part.
+fn number_of(part: &[u8]) -> usize
+    ensures { λ r. ⌜ r ≡ byte (now (part .entry)) 0 ⌝ }
+{
+    if part.len() == 0 {
+        return 0;
+    }
+    wide(part[0])
+}
+
+// The zone of an element, of a zone descriptor its own number; 256 of a string, which has none.
+pub fn zone_of(e: Element, part: &[u8]) -> usize
+    ensures { λ r. ⌜ r ≡ zoneOf e (now (part .entry)) ⌝ }
+{
+    match e {
+        Element::Digital(d) => wide(d.placement.zone),
+        Element::Analogue(a) => wide(a.placement.zone),
+        Element::Fan(f) => wide(f.placement.zone),
+        Element::Led(l) => wide(l.placement.zone),
+        Element::Current(c) => wide(c.placement.zone),
+        Element::Controller(d) => wide(d.placement.zone),
+        Element::Tachometer(d) => wide(d.placement.zone),
+        Element::Zone => number_of(part),
+        Element::Text => 256,
+        Element::Rgb(r) => wide(r.placement.zone),
+    }
 }

@@ -21,7 +21,7 @@ use Rattle.format.specs.declared.answers.Written.{Written}
 use Rattle.format.specs.declared.answers.Written.the-variants.{Length, Refused}
 use Rattle.writer.specs.Calls.{Started, Appended}
 use Rattle.writer.proofs.Answering.{at-most}
-use Rattle.writer.proofs.Demand2.{fits-length}
+use Rattle.format.proofs.Lengths.{fits-length}
 use Rattle.reader.proofs.Bounds.{value-bound}
 use Rattle.rewriting.specs.Again.{Rewritten, done, no-room, refused}
 use Rattle.numbers.specs.From.{descriptionFrom, elementFrom}

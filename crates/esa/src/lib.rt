@@ -3,6 +3,7 @@
 ghost use mathlib.Core.Path.{_≡_};
 ghost use Prim.Native.Nat.{_≤_};
 ghost use Rattle.format.specs.Answers.{valueOf, placeOfAsked, valueOfWritten};
+ghost use Rattle.listing.specs.Lines.{Listed};
 ghost use Rattle.esa.specs.Face.{packed, Checked, packedAsked, AskedFor, PartFor};
 ghost use Rattle.esa.specs.Writing.{packedWritten, StartedFor, AppendedFor, RewrittenFor};
 use format::answers::Answer;
@@ -91,4 +92,12 @@ pub extern "C" fn esa_rewrite(table: &[u8], out: &mut [u8]) -> u64
     ensures { λ r. ⌜ RewrittenFor (now (table .entry)) (now (out .entry)) r (now (out .exit)) ⌝ }
 {
     pack_written(rewriting::rewrite(table, out))
+}
+
+// The listing of a table at the front of the buffer. The answer is its length in bytes.
+#[no_mangle]
+pub extern "C" fn esa_list(table: &[u8], out: &mut [u8; 4096]) -> usize
+    ensures { λ r. ⌜ Listed (now (table .entry)) (now (out .entry)) r (now (out .exit)) ⌝ }
+{
+    listing::list(table, out)
 }

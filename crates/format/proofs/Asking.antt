@@ -21,7 +21,7 @@ use Rattle.format.specs.declared.answers.Asked.the-variants.{Element, Re
 use Rattle.format.proofs.Theorem.{meets, only, one-list, accepts-passed}
 
 -- an accepted table has no refusal, and one list of records
-never-both : (b : List ℕ) {j p : ℕ} (d : Fields) (rs : List Record) → Bytes b → Accepts b d rs → Verdict b (Refused j p) → ⊥
+pub never-both : (b : List ℕ) {j p : ℕ} (d : Fields) (rs : List Record) → Bytes b → Accepts b d rs → Verdict b (Refused j p) → ⊥
 never-both b {j} {p} d rs small a v =
     let x = only b _ small (accepted d rs a) in
     let y = only b (Refused j p) small v in

@@ -8,6 +8,7 @@ pub mod Passing
 pub mod Opening
 pub mod Theorem
 pub mod Written
+pub mod Lengths
 pub mod Asking
 pub mod KnownTables
 pub mod Demand3

@@ -1,8 +1,9 @@
 // The rows of 'Known tables' that are not starred, one a line: the table in capital hex, number, place or number of elements,
-// with tabs. Table A and fan F are written out as document 01 has them, A with its length mended. tools/known holds what is
-// printed to the second program.
+// with tabs; below the first, of whose listing document 01 has a line, that listing. Table A and fan F are written out as the
+// document has them, A with its length mended. tools/known holds what is printed to the second program.
 use format::answers::Answer;
 use libc::STDOUT_FILENO;
+use sending::send;
 
 // Of a digit from 0 to 15; no other is asked for.
 fn digit(d: u8) -> u8 {
@@ -39,9 +40,16 @@ fn row(table: &[u8]) {
     }
 }
 
+fn row_and_listing(table: &[u8]) {
+    row(table);
+    let mut out = io::buffer();
+    let length = listing::list(table, &mut out);
+    send(length, &out);
+}
+
 fn main() {
-    // A, F, zone 1. F's line of the listing goes below it, as soon as the crate `listing` prints one.
-    row(
+    // A, F, zone 1
+    row_and_listing(
         b"\x01\x3E\x00\x02\x00\x07\x00\x00\x80\xFF\xFF\xFF\x00\x00\x00\x00\
         \x03\x10\x00\x00\xFF\xFF\xFF\x01\x05\x06\x02\x2C\x01\xDC\x05\x40\
         \x0B\x1E\x00\x01\x00\x00\0\0\0\0\0\0\0\0\0\0\0\0\0\0\0\0\0\0\0\0\0\0\0\0",

@@ -35,7 +35,7 @@ pub fn fixed_length(e: Element) -> usize
 }
 
 // The new bytes from a place on.
-fn copy_into(buf: &mut [u8], at: usize, new: &[u8])
+pub fn copy_into(buf: &mut [u8], at: usize, new: &[u8])
     requires { ⌜ at + length (now new) ≤ length (now buf) ⌝ }
     ensures { λ _. ⌜ now (buf .exit) ≡ overwritten at (now (new .entry)) (now (buf .entry)) ⌝ }
 {

@@ -1,29 +1,23 @@
 -- The walk to element k: so many elements lie behind, and the rest of them is still to come.
 -- Assumes nothing.
-use Prim.Native.Nat.{ℕ, zero, suc, _+_, _≤_, _<_}
+use Prim.Native.Nat.{ℕ, _+_, _≤_, _<_}
 use native.Mathlib.Omega.{arith}
-use native.Mathlib.Numerals.{add-one}
 use mathlib.Core.Path.{_≡_, refl, sym, _∙_, ap}
-use mathlib.Core.Bool.{true}
 use mathlib.Core.List.{List, [], _∷_, _++_, append-nil, append-assoc}
-use mathlib.Core.Option.{Option, none, some}
+use mathlib.Core.Option.{some}
 use lib.ListN.{length, drop, take, length-drop, length-append}
-use Rattle.format.specs.Slots.{Slot, Fits}
+use Rattle.format.specs.Slots.{Fits}
 use Rattle.format.specs.Records.{Record}
 use Rattle.format.specs.Layout.{layout, layouts, placeAfter}
 use Rattle.format.specs.Table.{PassKept}
 use Rattle.format.specs.Verdict.{stated}
 use Rattle.format.specs.Reader.{elementsOf, through}
 use Rattle.format.specs.Asked.{nth}
+use Rattle.format.proofs.Lengths.{snoc-length}
 use Rattle.format.proofs.Slots.{starts-length}
 use Rattle.format.proofs.Kept.{unbroken-kind}
 use Rattle.places.specs.Walks.{Walkable, Located}
 use Rattle.places.proofs.Search.{came, kept-shaped, same-list, Head, head}
-
-layouts-snoc : (rs : List Record) (r : Record) → length (layouts (rs ++ r ∷ [])) ≡ length (layouts rs) + length (layout r)
-layouts-snoc [] r = length-append (layout r) [] ∙ omega arith
-layouts-snoc (x ∷ rs) r =
-    omega (arith, length-append (layout x) (layouts (rs ++ r ∷ [])), length-append (layout x) (layouts rs), layouts-snoc rs r)
 
 take-part : (done todo : List Record) → take (length done) (done ++ todo) ≡ done
 take-part [] todo = refl
@@ -97,7 +91,7 @@ module _ (t : List ℕ) (k at i : ℕ) (l : Locate t k at i) where
         whole = l .whole;
         parts = l .parts ∙ ap (λ (m : List Record). l .done ++ m) (g .same) ∙ sym (append-assoc (l .done) (g .first ∷ []) (g .others));
         count = length-append (l .done) (g .first ∷ []) ∙ ap (λ (n : ℕ). n + 1) (l .count);
-        place = omega (arith, l .place, g .size, layouts-snoc (l .done) (g .first));
+        place = omega (arith, l .place, g .size, snoc-length (l .done) (g .first));
         fits = g .next;
         kept = g .later;
         within = g .within;

@@ -3,6 +3,7 @@
 use format::answers::Written;
 use libc::STDIN_FILENO;
 use libc::STDOUT_FILENO;
+use sending::send;
 
 // R, number, place.
 fn refuse(number: u8, place: usize) {
@@ -11,14 +12,6 @@ fn refuse(number: u8, place: usize) {
     io::write_all(STDOUT_FILENO, &[b'\t']);
     io::print_decimal(STDOUT_FILENO, place as u64);
     io::write_all(STDOUT_FILENO, &[b'\n']);
-}
-
-// The first n bytes of the buffer.
-fn send(n: usize, out: &[u8]) {
-    if n <= 4096 {
-        let count = io::count(n as isize, out);
-        io::write_all(STDOUT_FILENO, &out[..count]);
-    }
 }
 
 // The table written again, or the refusal.

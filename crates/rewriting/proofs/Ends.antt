@@ -2,16 +2,15 @@
 -- Assumes nothing.
 use Prim.Native.Nat.{ℕ, _+_, _<_, _≤_}
 use native.Mathlib.Omega.{arith}
-use mathlib.Core.Path.{_≡_, refl, sym, _∙_, ap, subst}
-use mathlib.Core.Bool.{true}
-use mathlib.Core.List.{List, [], _∷_, _++_}
+use mathlib.Core.Path.{_≡_, sym, _∙_, ap, subst}
+use mathlib.Core.List.{List, _++_}
 use lib.ListN.{length, take, drop, length-append}
 use lib.Seq.{take-length}
 use Rattle.format.specs.Slots.{Bytes}
 use Rattle.format.specs.Records.{Record}
 use Rattle.format.specs.Layout.{opening, layouts, table}
 use Rattle.format.specs.Cleared.{cleared}
-use Rattle.format.specs.Verdict.{Accepts, Verdict, accepted}
+use Rattle.format.specs.Verdict.{Verdict}
 use Rattle.format.specs.Asked.{Describes, described}
 use Rattle.format.specs.Writing.{startLeaves}
 use Rattle.format.specs.declared.records.Description.{Description}
@@ -21,40 +20,28 @@ use Rattle.format.specs.declared.answers.Described.{Described}
 use Rattle.format.specs.declared.answers.Described.the-variants.{Description as Fields, Refused as NotDescribed}
 use Rattle.format.specs.declared.answers.Written.{Written}
 use Rattle.format.specs.declared.answers.Written.the-variants.{Length, Refused}
-use Rattle.format.proofs.Asking.{describes-unique}
+use Rattle.reader.proofs.Each.{TheList, the-list, never-undescribed, description-is}
+use Rattle.format.proofs.Lengths.{fits-length}
 use Rattle.format.proofs.Written.{written-again}
 use Rattle.writer.specs.Calls.{Started}
 use Rattle.writer.specs.Runs.{standing}
 use Rattle.writer.proofs.Assembled.{roomy-split}
-use Rattle.writer.proofs.Demand2.{fits-length, opening-held, starts}
+use Rattle.writer.proofs.Demand2.{opening-held, starts}
 use Rattle.rewriting.specs.Again.{Rewritten, done, no-room, refused, refusedAgain, Midway}
-
--- the one list of an accepted table
-pub record Listed (b : List ℕ) (n : ℕ) : Type 0 where
-  pub d : Description
-  pub rs : List Record
-  pub accepts : Accepts b d rs
-  pub count : length rs ≡ n
-
-pub listed : (b : List ℕ) (n : ℕ) → Verdict b (Accepted n) → Listed b n
-listed b n (accepted d rs a) = record { d = d; rs = rs; accepts = a; count = refl }
 
 pub handed-on : (b c : List ℕ) (a : Answer) (j p : ℕ) → Verdict b a → a ≡ RefusedTable j p → Rewritten b c (refusedAgain a) c
 handed-on b c a j p v e =
     subst (λ (x : Answer). Rewritten b c (refusedAgain x) c) (sym e) (refused (subst (λ (x : Answer). Verdict b x) e v))
 
 pub too-short : (b c : List ℕ) (n : ℕ) → Verdict b (Accepted n) → length c < length b → Rewritten b c (Refused 16 0) c
-too-short b c n v h = let l = listed b n v in no-room (l .d) (l .rs) (l .accepts) h
+too-short b c n v h = let l = the-list b n v in no-room (l .d) (l .rs) (l .accepts) h
 
 module _ (b c : List ℕ) (n : ℕ) (small : Bytes b) (v : Verdict b (Accepted n)) where
-  list : Listed b n
-  list = listed b n v
+  list : TheList b n
+  list = the-list b n v
 
-  pub never-undescribed : (a : Described) (j p : ℕ) → Describes b a → a ≡ NotDescribed j p → ⊥
-  never-undescribed a j p s e =
-      let q = describes-unique b a (Fields (list .d)) small s (described (list .d) (list .rs) (list .accepts)) in
-      let z : _≡_ {A = ℕ} 0 1 = cc in
-      absurd (omega arith)
+  pub undescribed-never : (a : Described) (j p : ℕ) → Describes b a → a ≡ NotDescribed j p → ⊥
+  undescribed-never = never-undescribed b small (list .d) (list .rs) (list .accepts)
 
   pub begun :
       (a : Described) (d : Description) (w : Written) (after : List ℕ)
@@ -64,8 +51,7 @@ module _ (b c : List ℕ) (n : ℕ) (small : Bytes b) (v : Verdict b (Accepted n
       → Started c d w after
       → Midway b c n 0 after
   begun a d w after s e long st =
-      let q = describes-unique b a (Fields (list .d)) small s (described (list .d) (list .rs) (list .accepts)) in
-      let same : d ≡ list .d = cc in
+      let same : d ≡ list .d = description-is b small (list .d) (list .rs) (list .accepts) a d s e in
       let call : Started c (list .d) w after = subst (λ (x : Description). Started c x w after) same st in
       let k = list .accepts .keeps in
       let m = 16 + length (layouts (list .rs)) in

@@ -2,25 +2,17 @@
 -- Assumes nothing.
 use Prim.Native.Nat.{ℕ}
 use native.Mathlib.Omega.{arith}
-use mathlib.Core.Path.{_≡_, refl, ap, _∙_}
+use mathlib.Core.Path.{_≡_, refl}
 use mathlib.Core.List.{List, _++_}
 use lib.ListN.{length, drop}
 use Rattle.format.specs.Slots.{Bytes}
-use Rattle.format.specs.Records.{Record}
 use Rattle.format.specs.Layout.{table}
 use Rattle.format.specs.Cleared.{cleared}
-use Rattle.format.specs.Verdict.{Accepts, Verdict, accepted}
-use Rattle.format.specs.declared.records.Description.{Description}
-use Rattle.format.specs.declared.answers.Answer.the-variants.{Accepted, Refused as RefusedTable}
+use Rattle.format.specs.declared.answers.Answer.the-variants.{Refused as RefusedTable}
 use Rattle.format.specs.declared.answers.Written.{Written}
+use Rattle.format.proofs.Asking.{never-both}
 use Rattle.format.proofs.Demand3.{unique, only-one-list}
 use Rattle.rewriting.specs.Again.{Rewritten, done, no-room, refused}
-
-never-both : (b : List ℕ) (d : Description) (rs : List Record) (k p : ℕ) → Bytes b → Accepts b d rs → Verdict b (RefusedTable k p) → ⊥
-never-both b d rs k p small a v =
-    let q = unique b (Accepted (length rs)) (RefusedTable k p) small (accepted d rs a) v in
-    let z : _≡_ {A = ℕ} 0 1 = cc in
-    omega arith
 
 pub only-rewrite :
     (b c : List ℕ) (r r′ : Written) (after after′ : List ℕ)
@@ -33,12 +25,12 @@ only-rewrite b c r r′ after after′ small (done d rs a h) (done d′ rs′ a�
     let e : cleared b (table d rs) ++ drop (length b) c ≡ cleared b (table d′ rs′) ++ drop (length b) c = cc in
     (refl, e)
 only-rewrite b c r r′ after after′ small (done d rs a h) (no-room d′ rs′ a′ h′) = absurd (omega (arith, h, h′))
-only-rewrite b c r r′ after after′ small (done d rs a h) (refused {k = k} {p = p} v) = absurd (never-both b d rs k p small a v)
+only-rewrite b c r r′ after after′ small (done d rs a h) (refused v) = absurd (never-both b d rs small a v)
 only-rewrite b c r r′ after after′ small (no-room d rs a h) (done d′ rs′ a′ h′) = absurd (omega (arith, h, h′))
 only-rewrite b c r r′ after after′ small (no-room d rs a h) (no-room d′ rs′ a′ h′) = (refl, refl)
-only-rewrite b c r r′ after after′ small (no-room d rs a h) (refused {k = k} {p = p} v) = absurd (never-both b d rs k p small a v)
-only-rewrite b c r r′ after after′ small (refused {k = k} {p = p} v) (done d rs a h) = absurd (never-both b d rs k p small a v)
-only-rewrite b c r r′ after after′ small (refused {k = k} {p = p} v) (no-room d rs a h) = absurd (never-both b d rs k p small a v)
+only-rewrite b c r r′ after after′ small (no-room d rs a h) (refused v) = absurd (never-both b d rs small a v)
+only-rewrite b c r r′ after after′ small (refused v) (done d rs a h) = absurd (never-both b d rs small a v)
+only-rewrite b c r r′ after after′ small (refused v) (no-room d rs a h) = absurd (never-both b d rs small a v)
 only-rewrite b c r r′ after after′ small (refused {k = k} {p = p} v) (refused {k = k′} {p = p′} v′) =
     let q = unique b (RefusedTable k p) (RefusedTable k′ p′) small v v′ in
     (cc, refl)

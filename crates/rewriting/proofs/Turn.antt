@@ -1,66 +1,36 @@
 -- One turn of the rewriting: element k of the one list is read, and appended behind the first k.
 -- Assumes nothing.
-use Prim.Native.Nat.{ℕ, zero, suc, _+_, _<_, _≤_}
+use Prim.Native.Nat.{ℕ, suc, _+_, _<_, _≤_}
 use native.Mathlib.Omega.{arith}
 use native.Mathlib.Numerals.{add-one}
 use mathlib.Core.Path.{_≡_, refl, sym, _∙_, ap, subst}
-use mathlib.Core.Bool.{true}
 use mathlib.Core.List.{List, [], _∷_, _++_, append-assoc}
-use mathlib.Core.Option.{none, some}
 use lib.ListN.{length, take, drop, length-append}
-use Rattle.format.specs.Slots.{written, Bytes}
+use Rattle.format.specs.Slots.{written}
 use Rattle.format.specs.Records.{Record, elementOf}
-use Rattle.format.specs.Layout.{opening, part, layout, layouts, table}
+use Rattle.format.specs.Layout.{opening, part, layouts, table}
 use Rattle.format.specs.Table.{Keeps}
-use Rattle.format.specs.Verdict.{Accepts, Verdict}
-use Rattle.format.specs.Asked.{nth, Gives, given, Describes, described}
-use Rattle.format.specs.Writing.{appendAnswer, appendLeaves}
-use Rattle.format.specs.declared.records.Description.{Description}
+use Rattle.format.specs.Writing.{appendLeaves}
 use Rattle.format.specs.declared.records.Element.{Element}
 use Rattle.format.specs.declared.answers.Asked.{Asked}
 use Rattle.format.specs.declared.answers.Asked.the-variants.{Element as Given, Refused as NotGiven}
 use Rattle.format.specs.declared.answers.Written.{Written}
 use Rattle.format.specs.declared.answers.Written.the-variants.{Length}
-use Rattle.format.proofs.Asking.{gives-unique}
+use Rattle.format.proofs.Lengths.{fits-length, layouts-append}
 use Rattle.reader.specs.Answered.{GivesElement, GivesPart}
+use Rattle.reader.proofs.Each.{Between, between, never-refused, element-is, part-is}
 use Rattle.writer.specs.Calls.{Appended}
 use Rattle.writer.specs.Runs.{standing}
-use Rattle.writer.proofs.Demand2.{fits-length}
-use Rattle.writer.proofs.Standing.{answers-length, leaves-standing, layouts-append}
+use Rattle.writer.proofs.Standing.{answers-length, leaves-standing}
 use Rattle.writer.proofs.Refusals.{passed-at, layout-roomy}
 use Rattle.rewriting.specs.Again.{Midway}
-
--- record k of a list, between those before and those after it
-record Between (rs : List Record) (k : ℕ) : Type 0 where
-  r : Record
-  is : nth rs k ≡ some r
-  split : rs ≡ take k rs ++ r ∷ drop (suc k) rs
-  next : take (suc k) rs ≡ take k rs ++ r ∷ []
-
-between : (rs : List Record) (k : ℕ) → k < length rs → Between rs k
-between [] k h = absurd (omega (arith, h))
-between (x ∷ rs) zero h = record { r = x; is = refl; split = refl; next = refl }
-between (x ∷ rs) (suc k) h =
-    let m = between rs k (omega (arith, h)) in
-    record {
-      r = m .r;
-      is = m .is;
-      split = ap (λ (l : List Record). x ∷ l) (m .split);
-      next = ap (λ (l : List Record). x ∷ l) (m .next);
-    }
 
 module _ (b c : List ℕ) (n k : ℕ) (out : List ℕ) (w : Midway b c n k out) (h : k < n) where
   here : Between (w .rs) k
   here = between (w .rs) k (omega (arith, h, w .count))
 
-  gives : Gives b k (Given (elementOf (here .r))) (written (part (here .r)))
-  gives = given (w .d) (w .rs) (w .accepts) (here .is)
-
-  pub never-refused : (a : Asked) (j p : ℕ) → GivesElement b k a → a ≡ NotGiven j p → ⊥
-  never-refused a j p g e =
-      let q = gives-unique b k a (Given (elementOf (here .r))) (g .beside) (written (part (here .r))) (w .bytes) (g .gives) gives .0 in
-      let z : _≡_ {A = ℕ} 0 1 = cc in
-      absurd (omega arith)
+  pub refused-never : (a : Asked) (j p : ℕ) → GivesElement b k a → a ≡ NotGiven j p → ⊥
+  refused-never = never-refused b (w .bytes) (w .d) (w .rs) (w .accepts) k here
 
   kept : Keeps (w .d) (take k (w .rs) ++ here .r ∷ drop (suc k) (w .rs))
   kept = subst (λ (l : List Record). Keeps (w .d) l) (here .split) (w .accepts .keeps)
@@ -89,10 +59,8 @@ module _ (b c : List ℕ) (n k : ℕ) (out : List ℕ) (w : Midway b c n k out) 
   turned a e p answer after g q gp done =
       let r = here .r in
       let before = take k (w .rs) in
-      let same = gives-unique b k a (Given (elementOf r)) (g .beside) (written (part r)) (w .bytes) (g .gives) gives .0 in
-      let e-is : e ≡ elementOf r = cc in
-      let p-is : p ≡ written (part r) =
-      gives-unique b k (gp .beside) (Given (elementOf r)) p (written (part r)) (w .bytes) (gp .gives) gives .1 in
+      let e-is : e ≡ elementOf r = element-is b (w .bytes) (w .d) (w .rs) (w .accepts) k here a e g q in
+      let p-is : p ≡ written (part r) = part-is b (w .bytes) (w .d) (w .rs) (w .accepts) k here p gp in
       let call : Appended (standing (w .d) before c) (elementOf r) (written (part r)) answer after =
       subst (λ (l : List ℕ). Appended l (elementOf r) (written (part r)) answer after) (w .stands)
       (subst (λ (x : Element). Appended out x (written (part r)) answer after) e-is

@@ -9,7 +9,7 @@ use mathlib.Core.List.{List, [], _∷_, _++_}
 use mathlib.Core.Option.{none}
 use lib.ListN.{length, drop, length-append}
 use borrow.Author.Tests.{le-leb}
-use Rattle.format.specs.Slots.{Slot, Fits, whole, word, allRoomy}
+use Rattle.format.specs.Slots.{whole, word, allRoomy}
 use Rattle.format.specs.Records.{Record}
 use Rattle.format.specs.Layout.{opening, layouts, table}
 use Rattle.format.specs.Cleared.{cleared}
@@ -20,7 +20,7 @@ use Rattle.format.specs.Writing.{startAnswer, startLeaves}
 use Rattle.format.specs.declared.records.Description.{Description}
 use Rattle.format.specs.declared.answers.Written.{Written}
 use Rattle.format.specs.declared.answers.Written.the-variants.{Length}
-use Rattle.format.proofs.Slots.{starts-count}
+use Rattle.format.proofs.Lengths.{fits-length}
 use Rattle.format.proofs.Written.{written-again}
 use Rattle.writer.specs.Calls.{Started}
 use Rattle.writer.specs.Runs.{standing, Appends, AllDone}
@@ -35,9 +35,6 @@ pub starts :
     (d : Description) (c : List ℕ) → 16 ≤ length c → descriptionHeld d ≡ true → descriptionBreaks d ≡ none → startAnswer c d ≡ Length 16
 unfolding startAnswer
 starts d c long h k = rw (le-leb 16 (length c) long, h, k) refl
-
-pub fits-length : (c : List ℕ) (ss : List Slot) → Fits c ss → length c ≡ length ss
-fits-length c ss h = omega (arith, starts-count c ss [] h)
 
 -- 'into a buffer long enough': the table's bytes, and the buffer's own behind them
 pub record Again (b c : List ℕ) (d : Description) (rs : List Record) (w : Written) (ws : List Written) (after : List ℕ) : Type 0 where

@@ -3,9 +3,9 @@
 -- Assumes nothing.
 use Prim.Native.Nat.{ℕ, _+_}
 use mathlib.Core.Path.{_≡_, refl, sym, _∙_, ap, subst}
-use mathlib.Core.Bool.{Bool, true, false, _&&_}
+use mathlib.Core.Bool.{Bool, true, false}
 use mathlib.Core.List.{List, [], _∷_, _++_, append-nil, append-assoc}
-use mathlib.Core.Option.{Option, none, some}
+use mathlib.Core.Option.{none}
 use lib.ListN.{length}
 use lib.Dec.{leb}
 use Rattle.format.specs.Slots.{Slot, written, allRoomy}
@@ -14,14 +14,12 @@ use Rattle.format.specs.Layout.{opening, fixed, part, layout, layouts}
 use Rattle.format.specs.Pins.{among}
 use Rattle.format.specs.Rules.{firstBroken, ownRules, held}
 use Rattle.format.specs.Table.{elementBreaks, PassKept, Keeps}
-use Rattle.format.specs.Verdict.{stated}
-use Rattle.format.specs.Writing.{assembledBreaks, partBreaks, orRefused, unlessBrokenAt, hasRoom, lengthStands, newLength, appendAnswer}
+use Rattle.format.specs.Writing.{assembledBreaks, partBreaks, orRefused, hasRoom, lengthStands, newLength, appendAnswer}
 use Rattle.format.specs.declared.records.Description.{Description}
-use Rattle.format.specs.declared.records.Element.{Element}
 use Rattle.format.specs.declared.answers.Written.{Written}
 use Rattle.format.specs.declared.answers.Written.the-variants.{Length, Refused}
 use Rattle.writer.proofs.Assembled.{roomy-split, body-roomy, kept-break, assembles}
-use Rattle.writer.proofs.Standing.{layouts-append}
+use Rattle.format.proofs.Lengths.{layouts-append}
 use Rattle.writer.proofs.Answering.{good, unbroken}
 
 -- a record in the middle of a list that keeps the rules

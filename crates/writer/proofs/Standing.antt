@@ -18,6 +18,7 @@ use Rattle.format.specs.Writing.{elementSlots, newLength, appendAnswer, appendL
 use Rattle.format.specs.declared.records.Description.{Description}
 use Rattle.format.specs.declared.answers.Written.{Written}
 use Rattle.format.specs.declared.answers.Written.the-variants.{Length}
+use Rattle.format.proofs.Lengths.{layouts-append, layouts-snoc}
 use Rattle.format.proofs.Written.{length-written}
 use Rattle.laying.proofs.Laws.{written-append}
 use Rattle.writer.proofs.Assembled.{roomy-split, body-roomy, kept-break, slots-written, slots-length}
@@ -33,10 +34,6 @@ standing-length d rs c h =
 
 standing-stated : (d : Description) (rs : List Record) (c : List ℕ) → stated (standing d rs c) ≡ 16 + length (layouts rs)
 standing-stated d rs c = omega arith
-
-layouts-snoc : (rs : List Record) (r : Record) → layouts (rs ++ r ∷ []) ≡ layouts rs ++ layout r
-layouts-snoc [] r = append-nil (layout r)
-layouts-snoc (x ∷ rs) r = ap (λ (l : List Slot). layout x ++ l) (layouts-snoc rs r) ∙ sym (append-assoc (layout x) (layouts rs) (layout r))
 
 -- one element overwritten behind the table, and the new length in bytes 1-2
 behind : (w x c : List ℕ) (m : ℕ) → length w ≡ m → overwritten m x (w ++ c) ≡ w ++ (x ++ drop (length x) c)
@@ -112,10 +109,6 @@ answers-length d rs r c h k long top =
     rw (le-leb 16 (length b) (omega (arith, lb, g, long)), le-leb 16 (stated b) (omega (arith, s)), le-leb (stated b) 4096 (omega (arith, s, g, top)), le-leb (stated b) (length b) (omega (arith, s, lb, g, long)), q .0, kept-break rs r h (q .1), new, le-leb (16 + length (layouts (rs ++ r ∷ []))) (length b) (omega (arith, lb, long)), le-leb (16 + length (layouts (rs ++ r ∷ []))) 4096 top) refl
 
 -- all records of the list, each in turn
-pub layouts-append : (rs ss : List Record) → layouts (rs ++ ss) ≡ layouts rs ++ layouts ss
-layouts-append [] ss = refl
-layouts-append (r ∷ rs) ss = ap (λ (l : List Slot). layout r ++ l) (layouts-append rs ss) ∙ sym (append-assoc (layout r) (layouts rs) (layouts ss))
-
 rejoin : (before : List Record) (r : Record) (rs : List Record) → before ++ r ∷ rs ≡ (before ++ r ∷ []) ++ rs
 rejoin before r rs = sym (append-assoc before (r ∷ []) rs)
 

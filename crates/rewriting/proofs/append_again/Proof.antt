@@ -1,13 +1,13 @@
 -- `append_again` meets its contract: element k of the one list is never refused, and append puts it behind the first k.
 -- Assumes nothing.
 use borrow.Author.Needs.{needs}
-use Rattle.rewriting.proofs.Turn.{never-refused, turned}
+use Rattle.rewriting.proofs.Turn.{refused-never, turned}
 use Rattle.rewriting.proofs.append_again.Statement.{statement}
 use Rattle.rewriting.proofs.append_again.Tie as tie
 
 returns : tie.Need-returns
 returns c =
-    λ x n w h. absurd (never-refused _ x n _ _ w h _ _ _ (c .before .before .element .ensures) (c .enum-told .given .1))
+    λ x n w h. absurd (refused-never _ x n _ _ w h _ _ _ (c .before .before .element .ensures) (c .enum-told .given .1))
 
 returns-2 : tie.Need-returns-2
 returns-2 c =

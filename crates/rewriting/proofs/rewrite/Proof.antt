@@ -8,7 +8,7 @@ use lib.ListN.{length}
 use borrow.Author.Needs.{needs}
 use denote.Ref.{now}
 use Rattle.rewriting.specs.Again.{Midway}
-use Rattle.rewriting.proofs.Ends.{handed-on, too-short, never-undescribed, begun, ended}
+use Rattle.rewriting.proofs.Ends.{handed-on, too-short, undescribed-never, begun, ended}
 use Rattle.rewriting.proofs.rewrite.Statement.{statement}
 use Rattle.rewriting.proofs.rewrite.Tie as tie
 
@@ -32,7 +32,7 @@ returns-3 : tie.Need-returns-3 Inv-loop μ-loop
 returns-3 c =
     let an = c .before .before .before .before .before in
     let ck = an .before .before in
-    absurd (never-undescribed _ [] _ (λ i. omega (arith, ck .before .before .shared-slice-known .given i)) (rw (an .answer .given .1) at (ck .check .ensures)) _ _ _ (c .before .before .description .ensures) (c .enum-told2 .given .1))
+    absurd (undescribed-never _ [] _ (λ i. omega (arith, ck .before .before .shared-slice-known .given i)) (rw (an .answer .given .1) at (ck .check .ensures)) _ _ _ (c .before .before .description .ensures) (c .enum-told2 .given .1))
 
 loop-holds : tie.Need-loop-holds Inv-loop μ-loop
 loop-holds c = (omega arith, refl, λ x m. m)

@@ -1,0 +1,58 @@
+//! One call on one table.
+
+use crate::call::Call;
+use crate::driver::Driver;
+use crate::exchange::Asked;
+use crate::outcome::{hex, Outcome};
+use std::fmt;
+use std::rc::Rc;
+
+/// Where a table comes from, so that it can be made again.
+#[derive(Clone, Copy, Debug)]
+pub enum Origin {
+    Known(&'static str),
+    Case(&'static str),
+    Seeded { seed: u64, at: u64 },
+}
+
+impl fmt::Display for Origin {
+    fn fmt(&self, to: &mut fmt::Formatter) -> fmt::Result {
+        match self {
+            Origin::Known(name) => write!(to, "known table '{name}'"),
+            Origin::Case(name) => write!(to, "case '{name}'"),
+            Origin::Seeded { seed, at } => write!(to, "seed {seed}, table {at}"),
+        }
+    }
+}
+
+pub struct Question {
+    pub origin: Origin,
+    pub call: Call,
+    /// Shared by all calls on it.
+    pub table: Rc<[u8]>,
+}
+
+impl Asked for Question {
+    fn name(&self) -> &'static str {
+        self.call.name()
+    }
+
+    fn request(&self, to: &mut Vec<u8>) {
+        self.call.request(&self.table, to);
+    }
+
+    fn reply(&self, driver: &mut Driver) -> Result<Outcome, String> {
+        let answer = driver.receive()?;
+        let buffer = match self.call {
+            Call::List => driver.receive_altered()?,
+            _ => Vec::new(),
+        };
+        Ok(Outcome { answer, buffer })
+    }
+}
+
+impl fmt::Display for Question {
+    fn fmt(&self, to: &mut fmt::Formatter) -> fmt::Result {
+        write!(to, "{}: {}: {}", self.origin, self.call, hex(&self.table))
+    }
+}

@@ -1,0 +1,42 @@
+-- No second outcome keeps the words of `list`: there is only one list of records and only one verdict, so only one text.
+-- Assumes nothing.
+use Prim.Native.Nat.{ℕ}
+use mathlib.Core.Path.{_≡_, sym, _∙_, ap, subst}
+use mathlib.Core.List.{List, _++_}
+use lib.ListN.{take, drop, take-append-drop}
+use Rattle.format.specs.Slots.{Bytes}
+use Rattle.format.specs.declared.answers.Answer.the-variants.{Refused}
+use Rattle.format.proofs.Asking.{never-both}
+use Rattle.format.proofs.Demand3.{unique, only-one-list}
+use Rattle.spelling.specs.Spelling.{Put}
+use Rattle.listing.specs.Lines.{Listing, listed, refused, Listed}
+
+pub only-text : (b s t : List ℕ) → Bytes b → Listing b s → Listing b t → s ≡ t
+only-text b s t small (listed d rs a) (listed d′ rs′ a′) =
+    let same = only-one-list b d d′ rs rs′ small a a′ in
+    cc
+only-text b s t small (listed d rs a) (refused v) = absurd (never-both b d rs small a v)
+only-text b s t small (refused v) (listed d rs a) = absurd (never-both b d rs small a v)
+only-text b s t small (refused {k = k} {p = p} v) (refused {k = k′} {p = p′} v′) =
+    let q = unique b (Refused k p) (Refused k′ p′) small v v′ in
+    cc
+
+put-one-way : (c s : List ℕ) (n n′ : ℕ) (after after′ : List ℕ) → Put c 0 s n after → Put c 0 s n′ after′ → (n ≡ n′) × (after ≡ after′)
+put-one-way c s n n′ after after′ p q =
+    let same : n ≡ n′ = p .ends ∙ sym (q .ends) in
+    let front : take n after ≡ take n after′ = p .front ∙ sym (q .front) ∙ ap (λ (m : ℕ). take m after′) (sym same) in
+    let rest : drop n after ≡ drop n after′ =
+    p .rest ∙ ap (λ (m : ℕ). drop m c) same ∙ sym (q .rest) ∙ ap (λ (m : ℕ). drop m after′) (sym same) in (
+      same,
+      sym (take-append-drop n after) ∙ ap (λ (l : List ℕ). l ++ drop n after) front ∙ ap (λ (l : List ℕ). take n after′ ++ l) rest ∙ take-append-drop n after′,
+    )
+
+pub only-list :
+    (b c : List ℕ) (n n′ : ℕ) (after after′ : List ℕ)
+    → Bytes b
+    → Listed b c n after
+    → Listed b c n′ after′
+    → (n ≡ n′) × (after ≡ after′)
+only-list b c n n′ after after′ small l m =
+    let same = only-text b (l .text) (m .text) small (l .is) (m .is) in
+    put-one-way c (m .text) n n′ after after′ (subst (λ (s : List ℕ). Put c 0 s n after) same (l .put)) (m .put)

@@ -1,0 +1,62 @@
+# Part of tests/files: how an input is held to the second program.
+# shellcheck shell=sh disable=SC2154
+
+# The programs that are missing or old are built, and the commands that run them are known.
+ready() {
+    cargo build --release --offline --quiet --manifest-path "$root/second/Cargo.toml" || die "the second program does not build"
+    second=$root/second/target/release/second
+    timeout 900 "$root/esa" list "$root/tables/quiet-box.esa" >/dev/null || die "the program list does not run"
+    timeout 900 "$root/esa" rewrite "$root/tables/quiet-box.esa" "$work/first" || die "the program rewrite does not run"
+    list=$("$root/tools/as-rt" "$root/target/bin/list") || exit 2
+    rewrite=$("$root/tools/as-rt" "$root/target/bin/rewrite") || exit 2
+}
+
+# Runs a program on standard input: its output and its status go to files. It never needs 20 s: then the status is 124.
+runs() { # PROGRAM COMMAND
+    status=0
+    eval "timeout 20 $2" >"$work/$1" 2>"$work/$1.err" || status=$?
+    echo "$status" >"$work/$1.status"
+}
+
+wanted() { # FILE
+    "$second" list <"$1" >"$work/list.wanted" || die "the second program cannot list $1"
+    "$second" rewrite <"$1" >"$work/rewrite.wanted" || die "the second program cannot rewrite $1"
+}
+
+# Status 0, the bytes that are wanted, and nothing on standard error.
+same() { # NAME PROGRAM
+    read -r status <"$work/$2.status"
+    if [ "$status" = 0 ] && cmp -s "$work/$2" "$work/$2.wanted" && [ ! -s "$work/$2.err" ]; then return 0; fi
+    printf 'wrong: %s: %s has status %s and says\n' "$1" "$2" "$status"
+    cat "$work/$2" "$work/$2.err" | od -c | sed -n '1,8p'
+    return 1
+}
+
+# Counts the input, after both programs have run on it.
+judge() { # NAME
+    files=$((files + 1))
+    right=yes
+    for program in list rewrite; do
+        same "$1" $program || right=no
+    done
+    [ $right = yes ] || wrong=$((wrong + 1))
+}
+
+# A file, to both programs at once.
+hold() { # NAME FILE
+    runs list "$list" <"$2" &
+    runs rewrite "$rewrite" <"$2"
+    wanted "$2"
+    wait
+    judge "$1"
+}
+
+# The bytes of a file, through a pipe that a command fills.
+hold_piped() { # NAME FILE COMMAND...
+    name=$1 file=$2
+    shift 2
+    "$@" 2>/dev/null | runs list "$list"
+    "$@" 2>/dev/null | runs rewrite "$rewrite"
+    wanted "$file"
+    judge "$name"
+}
