@@ -21,11 +21,19 @@ __attribute__((weak)) number esa_append(byte *buffer, number length, byte id, co
                                         number part_length);
 __attribute__((weak)) number esa_rewrite(const byte *table, number length, byte *out, number room);
 __attribute__((weak)) number esa_list(const byte *table, number length, byte *out);
+__attribute__((weak)) number esa_describe(const byte *table, number length, byte *numbers);
+__attribute__((weak)) number esa_fields(const byte *table, number length, number k, byte *numbers);
+__attribute__((weak)) number esa_part(const byte *table, number length, number k);
+__attribute__((weak)) number esa_text(const byte *table, number length, number k);
+__attribute__((weak)) number esa_block(const byte *part, number length, number j);
+__attribute__((weak)) number esa_pair(const byte *part, number length, number j, number i);
+__attribute__((weak)) number esa_entries(const byte *part, number length, number w);
+__attribute__((weak)) number esa_entry(const byte *part, number length, number w, number i);
 
-enum { CHECK = 0, ELEMENT = 1, PART = 2, START = 3, APPEND = 4, REWRITE = 5, LIST = 6 };
+enum { CHECK = 0, ELEMENT = 1, PART = 2, START = 3, APPEND = 4, REWRITE = 5, LIST = 6, READINGS = 7 };
 /* exit status; TOUCHED: bytes in front of the buffer, the numbers, the part or the table have changed */
 enum { BROKEN_REQUEST = 3, NO_INPUT_OR_OUTPUT = 4, NO_MEMORY = 5, TOUCHED = 6 };
-enum { HEADER = 13, NUMBERS = 32, LISTING = 4096, LONGEST = 70000 };
+enum { HEADER = 13, NUMBERS = 32, LISTING = 4096, LONGEST = 70000, READING = 17, MOST_READINGS = 1 << 15 };
 enum { FRONT = 256, FRONT_BYTE = 0xC3, ROOM = 1 << 17, GUARD = 1 << 16 };
 #define NO_SUCH_CALL (~0UL)
 
@@ -34,7 +42,7 @@ static byte output[1 << 16];
 static number waiting; /* bytes of output */
 static byte *table_end, *numbers_end, *part_end, *text_end; /* of four guarded places */
 static byte front[FRONT];
-/* What a listing's buffer holds before the call: no byte of a text, and no zero. */
+/* What a listing's buffer, and the numbers of a reading, hold before the call: no byte of a text, and no zero. */
 static union {
     byte bytes[LISTING];
     number words[LISTING / 8];
@@ -150,6 +158,43 @@ static void answer_list(const byte *body, number length)
     memcpy(buffer, pattern.bytes, count);
 }
 
+/* One call of those that read. Those with numbers write them to 'numbers'. */
+static number reading(byte which, const byte *lent, number length, number a, number b, byte *numbers)
+{
+    switch (which) {
+    case 0: return esa_describe ? esa_describe(lent, length, numbers) : NO_SUCH_CALL;
+    case 1: return esa_fields ? esa_fields(lent, length, a, numbers) : NO_SUCH_CALL;
+    case 2: return esa_part ? esa_part(lent, length, a) : NO_SUCH_CALL;
+    case 3: return esa_text ? esa_text(lent, length, a) : NO_SUCH_CALL;
+    case 4: return esa_block ? esa_block(lent, length, a) : NO_SUCH_CALL;
+    case 5: return esa_pair ? esa_pair(lent, length, a, b) : NO_SUCH_CALL;
+    case 6: return esa_entries ? esa_entries(lent, length, a) : NO_SUCH_CALL;
+    case 7: return esa_entry ? esa_entry(lent, length, a, b) : NO_SUCH_CALL;
+    default: return NO_SUCH_CALL;
+    }
+}
+
+/* Many calls on the same bytes, a table or a part. The answer to each goes out, and after those of esa_describe and
+   esa_fields the numbers, which hold the pattern before each call. */
+static void answer_readings(const byte *body, number length, number count)
+{
+    byte *lent = table_end - length;
+    byte *numbers = numbers_end - NUMBERS;
+    memcpy(lent, body, length);
+    memcpy(numbers - FRONT, front, FRONT);
+    for (number at = 0; at < count; at++) {
+        const byte *asked = body + length + at * READING;
+        number a, b;
+        memcpy(&a, asked + 1, 8);
+        memcpy(&b, asked + 9, 8);
+        memcpy(numbers, pattern.bytes, NUMBERS);
+        number value = reading(asked[0], lent, length, a, b, numbers);
+        put(&value, 8);
+        if (asked[0] <= 1) put(numbers, NUMBERS);
+    }
+    if (memcmp(numbers - FRONT, front, FRONT) || memcmp(lent, body, length)) _exit(TOUCHED);
+}
+
 /* Answers the whole requests among the bytes held, and gives the number of bytes that they took. */
 static number answer_all(number held)
 {
@@ -163,11 +208,13 @@ static number answer_all(number held)
         memcpy(&length, request + 1, 4);
         memcpy(&k, request + 5, 8);
         number part_length = writes ? k >> 8 : 0;
-        if (length > LONGEST || part_length > LONGEST) _exit(BROKEN_REQUEST);
-        number size = HEADER + (number)length + (writes ? NUMBERS + part_length : 0);
+        number readings = mode == READINGS ? k : 0;
+        if (length > LONGEST || part_length > LONGEST || readings > MOST_READINGS) _exit(BROKEN_REQUEST);
+        number size = HEADER + (number)length + (writes ? NUMBERS + part_length : readings * READING);
         if (held - used < size) break;
         if (writes) answer_writer(mode, (byte)k, request + HEADER, length, part_length);
         else if (mode == LIST) answer_list(request + HEADER, length);
+        else if (mode == READINGS) answer_readings(request + HEADER, length, readings);
         else answer_reader(mode, request + HEADER, length, k);
         used += size;
     }

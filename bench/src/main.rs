@@ -1,37 +1,42 @@
-//! The time of the proved reader and writer beside the second program's, in one process: see the README.
+//! The time of the proved library beside the second program's, in one process: see the README.
 
+mod checking;
 mod corpora;
 mod growth;
+mod putting;
 mod rounds;
 mod sides;
 mod writing;
 
-use corpora::Corpus;
-use sides::{ours, second};
 use std::process::ExitCode;
 
+/// What can be measured, by its name: prints and gives the number of differences.
+const PARTS: [(&str, fn() -> usize); 5] = [
+    ("check", checking::report),
+    ("growth", growth::report),
+    ("writing", writing::report),
+    ("listing", putting::listing),
+    ("rewriting", putting::rewriting),
+];
+
 fn main() -> ExitCode {
-    println!("Median time for one table, rounds of both sides in turn.\n");
-    println!("| Corpus | ours, ns | second's, ns | ratio | differences |");
-    println!("|---|---|---|---|---|");
-    let differences: usize = corpora::all().iter().map(report).sum();
-    let differences = differences + growth::report() + writing::report();
+    let asked: Vec<String> = std::env::args().skip(1).collect();
+    let known = |name: &String| PARTS.iter().any(|(part, _)| part == name);
+    if let Some(name) = asked.iter().find(|name| !known(name)) {
+        let parts = PARTS.map(|(part, _)| part).join(", ");
+        eprintln!("bench: there is no part '{name}'; there are {parts}");
+        return ExitCode::from(2);
+    }
+    println!("Median time for one table, rounds of both sides in turn.");
+    let differences: usize = PARTS
+        .iter()
+        .filter(|(part, _)| asked.is_empty() || asked.iter().any(|name| name == part))
+        .map(|(_, report)| report())
+        .sum();
     if differences == 0 {
         ExitCode::SUCCESS
     } else {
         println!("\nThe two sides give different answers: {differences} differences");
         ExitCode::from(1)
     }
-}
-
-/// Prints one corpus and gives the number of its differences.
-fn report(corpus: &Corpus) -> usize {
-    let differences = sides::differences(&corpus.tables);
-    let [our_time, second_time] = rounds::medians([ours, second], &corpus.tables);
-    println!(
-        "| {} | {our_time:.1} | {second_time:.1} | {:.2} | {differences} |",
-        corpus.name,
-        our_time / second_time
-    );
-    differences
 }

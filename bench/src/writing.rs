@@ -1,20 +1,15 @@
 //! The two writers: an accepted table, its records taken apart beforehand, is written anew in a
 //! buffer of 4,096 bytes.
 
-/// The form of a record's numbers, as the comparison has it.
-#[allow(dead_code)]
-#[path = "../../compare/src/writer/numbers.rs"]
-mod numbers;
-
 use crate::rounds;
 use ::second::access::walk;
 use ::second::answer::MOST_ELEMENTS;
 use ::second::element::{read_description, read_element};
 use ::second::generator;
+use ::second::numbers::{put_description, put_element, Numbers};
 use ::second::random::Random;
 use ::second::record::{Description, Element};
 use ::second::{cleared, Refusal};
-use numbers::{put_description, put_element, Numbers};
 use std::cell::RefCell;
 
 extern "C" {

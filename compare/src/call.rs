@@ -2,7 +2,6 @@
 
 use crate::answer::Answer;
 use crate::outcome::Outcome;
-use second::access::record_and_part;
 use std::fmt;
 
 #[derive(Clone, Copy, Debug, PartialEq, Eq)]
@@ -69,23 +68,18 @@ impl Call {
     }
 }
 
-/// No table has so many elements that the greatest usize is one of them.
-fn index(k: u64) -> usize {
+/// No table has so many elements, and no part so many blocks, that the greatest usize is one of them.
+pub fn index(k: u64) -> usize {
     usize::try_from(k).unwrap_or(usize::MAX)
 }
 
 fn element(table: &[u8], k: u64) -> Answer {
-    match record_and_part(table, index(k)) {
-        Err(refusal) => Answer::of(refusal.number, refusal.place),
-        Ok((record, _)) => Answer::of(0, usize::from(record.identifier())),
-    }
+    let element = second::element(table, index(k));
+    Answer::from(element.map(|record| usize::from(record.identifier())))
 }
 
 fn part(table: &[u8], k: u64) -> Answer {
-    match record_and_part(table, index(k)) {
-        Err(_) => Answer::of(0, 0),
-        Ok((_, part)) => Answer::of(0, part.len()),
-    }
+    Answer::of(0, second::part(table, index(k)).len())
 }
 
 impl fmt::Display for Call {

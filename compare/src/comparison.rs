@@ -3,6 +3,7 @@
 use crate::answer::Answer;
 use crate::call::Call;
 use crate::exchange::Exchange;
+use crate::fields::Fields;
 use crate::known::Row;
 use crate::options::Options;
 use crate::outcome::Outcome;
@@ -16,10 +17,12 @@ pub struct Comparison {
     elements: bool,
     /// Ask for the listing too.
     listing: bool,
+    /// Ask for every field of every element too.
+    fields: Option<Fields>,
 }
 
 /// Numbers that no table has, and that are small ones in their low bits.
-const HUGE: [u64; 4] = [u64::MAX, 1 << 63, 1 << 32, (1 << 16) + 1];
+pub const HUGE: [u64; 4] = [u64::MAX, 1 << 63, 1 << 32, (1 << 16) + 1];
 
 /// First, middle, last, one too many and far too many; of a refused table the first and the last.
 fn places(check: Answer, length: usize) -> Vec<u64> {
@@ -38,6 +41,10 @@ impl Comparison {
     pub fn start(options: &Options) -> Result<Comparison, String> {
         Ok(Comparison {
             exchange: Exchange::start(&options.driver)?,
+            fields: match options.fields {
+                true => Some(Fields::start(&options.driver)?),
+                false => None,
+            },
             elements: options.elements,
             listing: options.listing,
         })
@@ -59,7 +66,8 @@ impl Comparison {
                 self.ask(origin, call, &table, call.second(&table))?;
             }
         }
-        self.listing(origin, &table)
+        self.listing(origin, &table)?;
+        self.fields(origin, &table)
     }
 
     /// Holds both sides to an answer that the paper gives.
@@ -78,7 +86,20 @@ impl Comparison {
         }
         self.exchange.tally.tables += 1;
         self.ask(origin, row.call, &table, row.answer.into())?;
-        self.listing(origin, &table)
+        self.listing(origin, &table)?;
+        self.fields(origin, &table)
+    }
+
+    /// Compares the calls on parts at their edges.
+    pub fn part_edges(&mut self) -> Result<(), String> {
+        self.fields.as_mut().map_or(Ok(()), Fields::part_edges)
+    }
+
+    fn fields(&mut self, origin: Origin, table: &Rc<[u8]>) -> Result<(), String> {
+        let Some(fields) = &mut self.fields else {
+            return Ok(());
+        };
+        fields.table(origin, table)
     }
 
     fn listing(&mut self, origin: Origin, table: &Rc<[u8]>) -> Result<(), String> {
@@ -106,10 +127,13 @@ impl Comparison {
 
     /// So far, the calls that are not yet answered left out.
     pub fn differences(&self) -> u64 {
-        self.exchange.tally.all_differences()
+        let fields = self.fields.as_ref().map_or(0, Fields::differences);
+        self.exchange.tally.all_differences() + fields
     }
 
     pub fn finish(self) -> Result<Tally, String> {
-        self.exchange.finish()
+        let mut tally = self.exchange.finish()?;
+        tally.fields = self.fields.map(Fields::finish).transpose()?;
+        Ok(tally)
     }
 }

@@ -1,29 +1,31 @@
 //! Calls that go to the driver in batches: it works on one batch while the next is made.
 
-use crate::answer::NO_SUCH_CALL;
 use crate::driver::Driver;
-use crate::outcome::Outcome;
 use std::fmt;
 
-/// One call: how it is asked for, and how the driver's reply is read. It is shown with its input.
-pub trait Asked: fmt::Display {
-    /// As the C face names it.
-    fn name(&self) -> &'static str;
+/// One call, or several on the same bytes: how it is asked for, and how the driver's reply is read. It is
+/// shown with its input.
+pub trait Asked: fmt::Display + Sized {
+    type Reply;
     fn request(&self, to: &mut Vec<u8>);
-    fn reply(&self, driver: &mut Driver) -> Result<Outcome, String>;
+    fn reply(&self, driver: &mut Driver) -> Result<Self::Reply, String>;
+    /// The call that the archive lacks, as the C face names it, when the reply says so.
+    fn lacking(&self, proved: &Self::Reply) -> Option<&'static str>;
+    /// The same, call by call.
+    fn one_by_one(&self) -> Vec<Self>;
 }
 
 /// Takes in what was expected of a call and what the proved side did.
-pub trait Takes<A> {
-    fn take(&mut self, asked: &A, expected: &Outcome, proved: &Outcome);
+pub trait Takes<A: Asked> {
+    fn take(&mut self, asked: &A, expected: &A::Reply, proved: &A::Reply);
 }
 
-struct Batch<A> {
-    asked: Vec<(A, Outcome)>,
+struct Batch<A: Asked> {
+    asked: Vec<(A, A::Reply)>,
     requests: Vec<u8>,
 }
 
-impl<A> Batch<A> {
+impl<A: Asked> Batch<A> {
     /// A batch of so many bytes is large enough to keep both processes busy.
     const ENOUGH: usize = 1 << 18;
 
@@ -35,7 +37,7 @@ impl<A> Batch<A> {
     }
 }
 
-pub struct Exchange<A, T> {
+pub struct Exchange<A: Asked, T> {
     command: Vec<String>,
     driver: Driver,
     filling: Batch<A>,
@@ -56,7 +58,7 @@ impl<A: Asked, T: Takes<A> + Default> Exchange<A, T> {
     }
 
     /// Asks for one call; its reply may come later.
-    pub fn ask(&mut self, asked: A, expected: Outcome) -> Result<(), String> {
+    pub fn ask(&mut self, asked: A, expected: A::Reply) -> Result<(), String> {
         asked.request(&mut self.filling.requests);
         self.filling.asked.push((asked, expected));
         if self.filling.requests.len() >= Batch::<A>::ENOUGH {
@@ -81,8 +83,8 @@ impl<A: Asked, T: Takes<A> + Default> Exchange<A, T> {
                 // The replies that the driver still held are lost, so that its last call is not known.
                 Err(why) => return Err(self.culprit(&batch).unwrap_or(why)),
             };
-            if proved.answer == NO_SUCH_CALL {
-                return Err(format!("the archive lacks {}", asked.name()));
+            if let Some(name) = asked.lacking(&proved) {
+                return Err(format!("the archive lacks {name}"));
             }
             self.tally.take(asked, expected, &proved);
         }
@@ -92,7 +94,8 @@ impl<A: Asked, T: Takes<A> + Default> Exchange<A, T> {
     /// Asks a fresh driver one by one to find the call that ends it.
     fn culprit(&self, batch: &Batch<A>) -> Option<String> {
         let mut driver = Driver::start(&self.command).ok()?;
-        for (asked, _) in batch.asked.iter().chain(&self.sent.asked) {
+        let all = batch.asked.iter().chain(&self.sent.asked);
+        for asked in all.flat_map(|(asked, _)| asked.one_by_one()) {
             let mut request = Vec::new();
             asked.request(&mut request);
             driver.send(request);

@@ -1,6 +1,7 @@
 //! The gate: known tables, named cases, and generated tables of fixed seeds.
 
 use crate::comparison::Comparison;
+use crate::fields;
 use crate::known;
 use crate::options::Options;
 use crate::question::Origin;
@@ -22,6 +23,7 @@ pub fn gate(options: &Options) -> Result<bool, String> {
     for (name, table) in oversized() {
         comparison.table(Origin::Case(name), table)?;
     }
+    comparison.part_edges()?;
     for seed in SEEDS {
         let mut random = Random::new(seed);
         for at in 0..TABLES_OF_A_SEED {
@@ -55,6 +57,7 @@ fn judged(tally: &Tally, elements: bool) -> bool {
     if elements {
         good &= tally.all_came(1, (0..=15).chain([17]));
     }
+    good &= tally.fields.as_ref().is_none_or(fields::Tally::all_came);
     tally.print_sum();
     good && tally.all_differences() == 0
 }

@@ -2,15 +2,18 @@
 #![forbid(unsafe_code)]
 
 mod answer;
+mod answers;
 mod call;
 mod comparison;
 mod driver;
 mod exchange;
+mod fields;
 mod gate;
 mod known;
 mod long;
 mod options;
 mod outcome;
+mod progress;
 mod question;
 mod tally;
 mod writer;
@@ -19,8 +22,8 @@ use options::{Command, Options};
 use std::process::ExitCode;
 
 const USAGE: &str = "\
-use: compare gate [--elements] [--listing] [--writer] --driver COMMAND...
-     compare long --seed S --count N [--elements] [--listing] --driver COMMAND...
+use: compare gate [--elements] [--listing] [--fields] [--writer] --driver COMMAND...
+     compare long --seed S --count N [--elements] [--listing] [--fields] --driver COMMAND...
      compare writer --seed S --count N --driver COMMAND...
 ";
 

@@ -12,6 +12,7 @@ pub struct Options {
     pub command: Command,
     pub elements: bool,
     pub listing: bool,
+    pub fields: bool,
     /// The gate: the writer's calls too.
     pub writer: bool,
     /// The driver's program and its arguments, at least one word.
@@ -25,6 +26,7 @@ struct Given {
     count: Option<u64>,
     elements: bool,
     listing: bool,
+    fields: bool,
     writer: bool,
     driver: Vec<String>,
 }
@@ -46,6 +48,7 @@ impl Given {
                 "--count" => given.count = number(word, words.next())?,
                 "--elements" => given.elements = true,
                 "--listing" => given.listing = true,
+                "--fields" => given.fields = true,
                 "--writer" => given.writer = true,
                 "--driver" => given.driver = words.by_ref().cloned().collect(),
                 _ => return Err(format!("'{word}' has no meaning here")),
@@ -70,8 +73,9 @@ impl Options {
         if given.writer && command != Command::Gate {
             return Err("'--writer' is for the gate alone".into());
         }
-        if (given.elements || given.listing) && matches!(command, Command::Writer { .. }) {
-            return Err("'--elements' and '--listing' are for tables".into());
+        let of_tables = given.elements || given.listing || given.fields;
+        if of_tables && matches!(command, Command::Writer { .. }) {
+            return Err("'--elements', '--listing' and '--fields' are for tables".into());
         }
         if given.driver.is_empty() {
             return Err("'--driver' and its command are missing".into());
@@ -80,6 +84,7 @@ impl Options {
             command,
             elements: given.elements,
             listing: given.listing,
+            fields: given.fields,
             writer: given.writer,
             driver: given.driver,
         })

@@ -25,6 +25,7 @@ impl fmt::Display for Origin {
     }
 }
 
+#[derive(Clone)]
 pub struct Question {
     pub origin: Origin,
     pub call: Call,
@@ -33,9 +34,7 @@ pub struct Question {
 }
 
 impl Asked for Question {
-    fn name(&self) -> &'static str {
-        self.call.name()
-    }
+    type Reply = Outcome;
 
     fn request(&self, to: &mut Vec<u8>) {
         self.call.request(&self.table, to);
@@ -48,6 +47,14 @@ impl Asked for Question {
             _ => Vec::new(),
         };
         Ok(Outcome { answer, buffer })
+    }
+
+    fn lacking(&self, proved: &Outcome) -> Option<&'static str> {
+        proved.answer.lacking(self.call.name())
+    }
+
+    fn one_by_one(&self) -> Vec<Question> {
+        vec![self.clone()]
     }
 }
 

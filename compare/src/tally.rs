@@ -1,7 +1,9 @@
 //! What was asked, what came back, and where the two sides differ.
 
+use crate::answers;
 use crate::call::Call;
 use crate::exchange::Takes;
+use crate::fields;
 use crate::outcome::{hex, text, Differences, Outcome};
 use crate::question::Question;
 use second::histogram::Histogram;
@@ -15,6 +17,8 @@ pub struct Tally {
     pub differences: Differences,
     pub listings: u64,
     pub listing_differences: Differences,
+    /// Of the fields, where they were asked for, once all is over.
+    pub fields: Option<fields::Tally>,
     /// By mode: how often each number came, both sides agreeing.
     answers: [Histogram; 3],
 }
@@ -41,35 +45,35 @@ impl Tally {
             if answers.total() == 0 {
                 continue;
             }
-            let counts: Vec<String> = (0..=25)
-                .filter(|&number| answers.of(number) > 0)
-                .map(|number| format!("{number}: {}", answers.of(number)))
-                .collect();
-            println!("answers of {name}: {}", counts.join(", "));
+            answers::print(name, answers);
+        }
+        if let Some(fields) = &self.fields {
+            fields.print_answers();
         }
     }
 
     /// Prints the answers of this mode that should have come and did not; true when all came.
     pub fn all_came(&self, mode: usize, numbers: impl Iterator<Item = u8>) -> bool {
-        let missing: Vec<u8> = numbers
-            .filter(|&number| self.answers[mode].of(number) == 0)
-            .collect();
-        if !missing.is_empty() {
-            println!("answers of {} that never came: {missing:?}", NAMES[mode]);
-        }
-        missing.is_empty()
+        answers::all_came(NAMES[mode], &self.answers[mode], numbers)
     }
 
     pub fn all_differences(&self) -> u64 {
-        self.differences.0 + self.listing_differences.0
+        let fields = self
+            .fields
+            .as_ref()
+            .map_or(0, |fields| fields.differences.0);
+        self.differences.0 + self.listing_differences.0 + fields
     }
 
-    /// The last line, or the last two.
+    /// The last line, or the last three.
     pub fn print_sum(&self) {
         println!("{} tables, {} differences", self.tables, self.differences.0);
         if self.listings > 0 {
             let differences = self.listing_differences.0;
             println!("{} listings, {differences} differences", self.listings);
+        }
+        if let Some(fields) = &self.fields {
+            fields.print_sum();
         }
     }
 }

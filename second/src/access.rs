@@ -1,6 +1,6 @@
 //! Asking a table for its description or one element. The whole table is checked first.
 
-use crate::answer::{number, Refusal, Verdict, DESCRIPTION_LENGTH};
+use crate::answer::{number, Refusal, DESCRIPTION_LENGTH};
 use crate::element::{read_description, read_element, word};
 use crate::reader::check;
 use crate::record::{Description, Element};
@@ -38,11 +38,13 @@ pub fn part(table: &[u8], k: usize) -> &[u8] {
 
 /// Record and variable part of element k together.
 pub fn record_and_part(table: &[u8], k: usize) -> Result<(Element, &[u8]), Refusal> {
-    if let Verdict::Refused { number, place } = check(table) {
-        return Err(Refusal::at(number, place));
-    }
-    walk(table)
-        .nth(k)
-        .and_then(|(_, bytes)| read_element(bytes))
-        .ok_or(Refusal::at(number::PAST_LAST, 0))
+    let (_, bytes) = bytes_of(table, k)?;
+    read_element(bytes).ok_or(Refusal::at(number::PAST_LAST, 0))
+}
+
+/// Where element k starts, and its bytes.
+pub fn bytes_of(table: &[u8], k: usize) -> Result<(usize, &[u8]), Refusal> {
+    check(table).into_result()?;
+    let found = walk(table).nth(k);
+    found.ok_or(Refusal::at(number::PAST_LAST, 0))
 }

@@ -1,4 +1,4 @@
-//! The variable parts of 09h and 0Ah, taken apart into lists.
+//! The blocks in the variable parts of 09h and 0Ah. They are lent: nothing is copied.
 
 use crate::units::HundredRpm;
 
@@ -9,51 +9,87 @@ pub struct RegisterPair {
     pub data: u16,
 }
 
-/// 000, Table 22.
-#[derive(Clone, Debug, PartialEq, Eq)]
-pub struct SpeedBlock {
-    pub speed: HundredRpm,
-    pub pairs: Vec<RegisterPair>,
-}
+/// ENTRIES register pairs, as their bytes.
+#[derive(Clone, Copy, Debug, PartialEq, Eq)]
+pub struct Pairs<'p>(&'p [u8]);
 
-/// So many pairs from the front, and the rest; `None` when there are too few bytes.
-fn take_pairs(bytes: &[u8], entries: u8) -> Option<(Vec<RegisterPair>, &[u8])> {
-    let length = 4 * usize::from(entries);
-    if bytes.len() < length {
-        return None;
+impl<'p> Pairs<'p> {
+    /// So many pairs from the front, and the rest; `None` when there are too few bytes.
+    fn cut(bytes: &'p [u8], entries: u8) -> Option<(Pairs<'p>, &'p [u8])> {
+        let (pairs, rest) = bytes.split_at_checked(4 * usize::from(entries))?;
+        Some((Pairs(pairs), rest))
     }
-    let (taken, rest) = bytes.split_at(length);
-    let pairs = taken
-        .chunks(4)
-        .map(|pair| RegisterPair {
+
+    pub fn entries(self) -> u8 {
+        (self.0.len() / 4) as u8
+    }
+
+    pub fn get(self, i: usize) -> Option<RegisterPair> {
+        let pair = self.0.chunks_exact(4).nth(i)?;
+        Some(RegisterPair {
             address: u16::from_le_bytes([pair[0], pair[1]]),
             data: u16::from_le_bytes([pair[2], pair[3]]),
         })
-        .collect();
-    Some((pairs, rest))
-}
-
-/// All speed blocks of a part of 09h; `None` when they do not fill it exactly.
-pub fn speed_blocks(part: &[u8]) -> Option<Vec<SpeedBlock>> {
-    let mut blocks = Vec::new();
-    let mut rest = part;
-    while !rest.is_empty() {
-        if rest.len() < 2 {
-            return None;
-        }
-        let speed = HundredRpm(rest[0]);
-        let (pairs, after) = take_pairs(&rest[2..], rest[1])?;
-        blocks.push(SpeedBlock { speed, pairs });
-        rest = after;
     }
-    Some(blocks)
 }
 
-/// The two blocks of a part of 0Ah; `None` when they do not fill it exactly.
-pub fn register_blocks(part: &[u8]) -> Option<(Vec<RegisterPair>, Vec<RegisterPair>)> {
-    let first = *part.first()?;
-    let (initialisation, rest) = take_pairs(&part[1..], first)?;
-    let second = *rest.first()?;
-    let (status, rest) = take_pairs(&rest[1..], second)?;
-    rest.is_empty().then_some((initialisation, status))
+/// 000, Table 22.
+#[derive(Clone, Copy, Debug, PartialEq, Eq)]
+pub struct SpeedBlock<'p> {
+    pub speed: HundredRpm,
+    pub pairs: Pairs<'p>,
+}
+
+/// The speed blocks of any bytes, from the front and as far as they stand whole.
+#[derive(Clone, Copy, Debug)]
+pub struct SpeedBlocks<'p> {
+    /// What no block was cut from so far.
+    pub rest: &'p [u8],
+}
+
+impl<'p> Iterator for SpeedBlocks<'p> {
+    type Item = SpeedBlock<'p>;
+
+    fn next(&mut self) -> Option<SpeedBlock<'p>> {
+        let (&[speed, entries], rest) = self.rest.split_first_chunk()?;
+        let (pairs, rest) = Pairs::cut(rest, entries)?;
+        self.rest = rest;
+        let speed = HundredRpm(speed);
+        Some(SpeedBlock { speed, pairs })
+    }
+}
+
+/// Speed block j of any bytes; `None` unless it and all before it stand whole there.
+pub fn speed_block(part: &[u8], j: usize) -> Option<SpeedBlock<'_>> {
+    SpeedBlocks { rest: part }.nth(j)
+}
+
+/// The number of speed blocks of a part of 09h; `None` when they do not fill it exactly.
+pub fn count_speed_blocks(part: &[u8]) -> Option<usize> {
+    let mut blocks = SpeedBlocks { rest: part };
+    let count = blocks.by_ref().count();
+    blocks.rest.is_empty().then_some(count)
+}
+
+/// One block of 0Ah, ENTRIES and its pairs, from the front, and the rest.
+fn cut_register_block(bytes: &[u8]) -> Option<(Pairs<'_>, &[u8])> {
+    let (&entries, rest) = bytes.split_first()?;
+    Pairs::cut(rest, entries)
+}
+
+/// Block w of 0Ah out of any bytes, 0 for initialisation and 1 for status; `None` for any other, and
+/// unless it and the one before it stand whole there.
+pub fn register_block(part: &[u8], w: usize) -> Option<Pairs<'_>> {
+    let (first, rest) = cut_register_block(part)?;
+    match w {
+        0 => Some(first),
+        1 => cut_register_block(rest).map(|(second, _)| second),
+        _ => None,
+    }
+}
+
+/// Two blocks of 0Ah fill the part exactly.
+pub fn register_blocks_fill(part: &[u8]) -> bool {
+    let second = cut_register_block(part).and_then(|(_, rest)| cut_register_block(rest));
+    second.is_some_and(|(_, rest)| rest.is_empty())
 }

@@ -1,4 +1,5 @@
-//! An accepted table written again from its records, and the same end reached on the bytes.
+//! An accepted table with its reserved places at zero, in a lent buffer: a copy, and one walk over it; and
+//! the same end reached from its records.
 
 use crate::access::walk;
 use crate::answer::{number, Refusal};
@@ -6,10 +7,25 @@ use crate::element::{id, read_description, read_element};
 use crate::reader::check;
 use crate::writer::{append, start};
 
-/// Writes the records of an accepted table into `out` by start and append, and gives the length;
-/// or the reader's refusal; or 16 when `out` is shorter than the table. Reserved places come out
-/// zero. A refusal changes no byte of `out`.
+/// Puts the accepted table at the front of `out`, its reserved places at zero, and gives its length;
+/// or the reader's refusal; or 16 when `out` is shorter than the table. A refusal changes no byte of
+/// `out`.
+///
+/// An entry point for benchmarks, and never inlined for that reason.
+#[inline(never)]
 pub fn rewrite(table: &[u8], out: &mut [u8]) -> Result<usize, Refusal> {
+    check(table).into_result()?;
+    let Some(out) = out.get_mut(..table.len()) else {
+        return Err(Refusal::at(number::NO_ROOM, 0));
+    };
+    out.copy_from_slice(table);
+    clear(out);
+    Ok(table.len())
+}
+
+/// The same from the table's records, by start and append. No place is cleared: the layout has zeros there.
+#[inline(never)]
+pub fn rewrite_by_records(table: &[u8], out: &mut [u8]) -> Result<usize, Refusal> {
     check(table).into_result()?;
     if out.len() < table.len() {
         return Err(Refusal::at(number::NO_ROOM, 0));
@@ -22,35 +38,37 @@ pub fn rewrite(table: &[u8], out: &mut [u8]) -> Result<usize, Refusal> {
     Ok(length)
 }
 
-/// The accepted table with its reserved places set to zero on the bytes, without records. Only for
-/// tables that the reader accepts.
+/// A copy of the accepted table, its reserved places at zero. Only for tables that the reader accepts.
 pub fn cleared(table: &[u8]) -> Vec<u8> {
     let mut bytes = table.to_vec();
-    bytes[12..16].fill(0);
-    let mut at = 16;
-    while at < bytes.len() {
-        let length = usize::from(bytes[at + 1]) + 256 * usize::from(bytes[at + 2]);
-        clear_element(&mut bytes[at..at + length]);
-        at += length;
-    }
+    clear(&mut bytes);
     bytes
 }
 
-/// The complete list of reserved places; strings and zones have none.
-fn clear_element(e: &mut [u8]) {
-    match e[0] {
-        id::DIGITAL_SENSOR | id::CONTROLLER | id::TACHOMETER => {
-            e[8] &= 0x0F;
-            if e[8] < 3 {
-                e[9] &= 0xFE;
-            }
-            e[10] = 0;
-            if e[0] == id::TACHOMETER {
-                e[11] = 0;
-            }
+fn clear(table: &mut [u8]) {
+    table[12..16].fill(0);
+    let mut place = 16;
+    // A kind with reserved places has 14 bytes or more, and none of them behind byte 11.
+    while let Some(e) = table[place..].first_chunk_mut::<12>() {
+        place += usize::from(u16::from_le_bytes([e[1], e[2]]));
+        let under_spi = usize::from(e[8] & 0x0F == 3);
+        let kept = KEPT[usize::from(e[0] & 0x0F)][under_spi];
+        for (byte, mask) in e[8..].iter_mut().zip(kept) {
+            *byte &= mask;
         }
-        id::ANALOGUE_SENSOR => e[8] &= 0x0F,
-        id::CURRENT => e[9] = 0,
-        _ => (),
     }
+}
+
+/// What stays of bytes 8 to 11, by identifier; first under another bus than SPI, then under SPI. It is
+/// looked up and not branched on, as the kind is hard to foretell. Strings and zones keep all.
+static KEPT: [[[u8; 4]; 2]; 16] = kept();
+
+const fn kept() -> [[[u8; 4]; 2]; 16] {
+    let mut kept = [[[0xFF; 4]; 2]; 16];
+    kept[id::DIGITAL_SENSOR as usize] = [[0x0F, 0xFE, 0, 0xFF], [0x0F, 0xFF, 0, 0xFF]];
+    kept[id::CONTROLLER as usize] = kept[id::DIGITAL_SENSOR as usize];
+    kept[id::TACHOMETER as usize] = [[0x0F, 0xFE, 0, 0], [0x0F, 0xFF, 0, 0]];
+    kept[id::ANALOGUE_SENSOR as usize] = [[0x0F, 0xFF, 0xFF, 0xFF]; 2];
+    kept[id::CURRENT as usize] = [[0xFF, 0, 0xFF, 0xFF]; 2];
+    kept
 }

@@ -2,7 +2,7 @@
 //!
 //! The plain reader and the writer stand on these; the fast reader does not use them.
 
-use crate::blocks::{register_blocks, speed_blocks};
+use crate::blocks::{count_speed_blocks, register_blocks_fill, SpeedBlocks};
 use crate::pins::{Pin, ALL, ANALOGUE, CHIP_SELECT, FAN_LIST, STATUS_LED};
 use crate::record::*;
 
@@ -44,9 +44,9 @@ pub fn part_fits(element: &Element, part: &[u8]) -> bool {
     match element {
         // The default block is one of the one to six.
         Element::Controller(_) => {
-            speed_blocks(part).is_some_and(|blocks| (1..=6).contains(&blocks.len()))
+            count_speed_blocks(part).is_some_and(|count| (1..=6).contains(&count))
         }
-        Element::Tachometer(_) => register_blocks(part).is_some(),
+        Element::Tachometer(_) => register_blocks_fill(part),
         // Number and locale are fixed, the text is open (Table 29).
         Element::Text(_) => part.len() >= 3,
         Element::Zone(_) => part.len() == 27,
@@ -67,8 +67,9 @@ pub fn codes_good(element: &Element, part: &[u8]) -> bool {
         }
         Element::Fan(e) => e.tachometer.is_used() || e.pulses_per_revolution == 0,
         Element::StatusLed(e) => e.lights.iter().all(light_good),
-        Element::Controller(_) => speed_blocks(part)
-            .is_some_and(|blocks| blocks.iter().all(|block| !block.pairs.is_empty())),
+        Element::Controller(_) => {
+            SpeedBlocks { rest: part }.all(|block| block.pairs.entries() != 0)
+        }
         Element::Text(_) => part.first() != Some(&0),
         _ => true,
     }
@@ -113,9 +114,6 @@ pub fn pins_good(element: &Element) -> bool {
 
 /// All on the fan list, in strictly rising order of it; gaps are allowed.
 fn rising(pins: &[Pin]) -> bool {
-    let places: Option<Vec<usize>> = pins
-        .iter()
-        .map(|pin| FAN_LIST.iter().position(|listed| listed == pin))
-        .collect();
-    places.is_some_and(|places| places.windows(2).all(|two| two[0] < two[1]))
+    let mut left = FAN_LIST.iter();
+    pins.iter().all(|pin| left.any(|listed| listed == pin))
 }

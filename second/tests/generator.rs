@@ -55,7 +55,7 @@ fn valid_tables_use_all_that_is_permitted() {
             }
             seen.extend(pins_of(e));
             if e[0] == 0x09 {
-                let blocks = second::blocks::speed_blocks(&e[11..]).unwrap().len();
+                let blocks = second::blocks::count_speed_blocks(&e[11..]).unwrap();
                 seen.insert(("blocks", blocks as u8));
             }
         }
@@ -114,7 +114,7 @@ fn controller_tables_have_4096_bytes_and_one_zone() {
         kinds.retain(|&kind| kind != 0x09);
         assert_eq!(kinds, [0x0B]);
         for (_, bytes) in walk(&table).filter(|(_, bytes)| bytes[0] == 0x09) {
-            blocks_seen.insert(second::blocks::speed_blocks(&bytes[11..]).unwrap().len());
+            blocks_seen.insert(second::blocks::count_speed_blocks(&bytes[11..]).unwrap());
         }
         different.insert(table);
     }
@@ -146,4 +146,17 @@ fn the_same_seed_gives_the_same_tables() {
     };
     assert_eq!(fingerprint(1), 0xEDF2_8B08_B7FB_BE05);
     assert_eq!(fingerprint(2), 0x906B_DC3E_381A_392E);
+}
+
+#[test]
+fn mixed_tables_have_as_many_elements_as_asked_for() {
+    let mut random = Random::new(17);
+    for elements in 1..=96 {
+        for _ in 0..20 {
+            let table = generator::mixed_of(&mut random, elements);
+            assert_eq!(second::check(&table), Verdict::Accepted(elements));
+            let kinds: HashSet<u8> = kinds(&table).into_iter().collect();
+            assert_eq!(kinds.len() == 10, elements >= 10, "{elements}: {kinds:?}");
+        }
+    }
 }

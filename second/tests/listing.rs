@@ -4,6 +4,10 @@ mod common;
 
 use common::{changed, with, zoned};
 use second::generator::raw::{self, Parts};
+use second::generator::{any, mixed, targeted, valid};
+use second::listing::LISTING;
+use second::plain;
+use second::random::Random;
 
 fn text(table: &[u8]) -> String {
     String::from_utf8(second::listing(table)).unwrap()
@@ -84,4 +88,35 @@ fn zone_numbers_and_strings() {
     assert_eq!(lines[3], "E\t76\t04\t0\t-");
     assert_eq!(lines[4], "E\t90\t0C\t-\t-");
     assert_eq!(lines.len(), 5);
+}
+
+/// The fast listing is the plain one, and leaves the rest of its buffer.
+#[track_caller]
+fn same(table: &[u8]) -> usize {
+    let mut out = [0xA5; LISTING];
+    let length = second::list(table, &mut out);
+    assert_eq!(out[..length], plain::listing(table), "{table:02X?}");
+    assert_eq!(second::listing(table), out[..length]);
+    assert!(out[length..].iter().all(|&byte| byte == 0xA5));
+    length
+}
+
+#[test]
+fn fast_and_plain_are_the_same() {
+    let mut random = Random::new(31);
+    for _ in 0..20_000 {
+        same(&any(&mut random));
+        same(&valid(&mut random));
+    }
+    for (_, table) in targeted() {
+        same(table);
+    }
+}
+
+#[test]
+fn the_longest_lines_have_room() {
+    let mut random = Random::new(32);
+    for _ in 0..300 {
+        assert!(same(&mixed(&mut random)) <= 47 + 96 * 29);
+    }
 }

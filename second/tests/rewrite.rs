@@ -5,7 +5,13 @@ mod common;
 use common::zoned;
 use second::generator::{self, raw};
 use second::random::Random;
-use second::{cleared, rewrite, Refusal, Verdict};
+use second::{cleared, rewrite, rewrite_by_records, Refusal, Verdict};
+
+/// From the records: what it answers, and a buffer that is three bytes longer than the table.
+fn by_records(table: &[u8]) -> (Result<usize, Refusal>, Vec<u8>) {
+    let mut out = vec![0xA5; table.len() + 3];
+    (rewrite_by_records(table, &mut out), out)
+}
 
 #[test]
 fn rewritten_is_cleared_and_twice_is_once() {
@@ -15,6 +21,7 @@ fn rewritten_is_cleared_and_twice_is_once() {
         let table = generator::valid(&mut random);
         let mut out = vec![0xA5; table.len() + 3];
         assert_eq!(rewrite(&table, &mut out), Ok(table.len()));
+        assert_eq!(by_records(&table), (Ok(table.len()), out.clone()));
         assert_eq!(&out[table.len()..], &[0xA5; 3]);
         out.truncate(table.len());
         assert_eq!(out, cleared(&table));
@@ -35,6 +42,7 @@ fn accepted_targeted_tables_too() {
             let mut out = vec![0xA5; table.len()];
             assert_eq!(rewrite(table, &mut out), Ok(table.len()), "{name}");
             assert_eq!(out, cleared(table), "{name}");
+            assert_eq!(by_records(table).1[..table.len()], out, "{name}");
             accepted += 1;
         }
     }
@@ -47,10 +55,13 @@ fn refusals_change_nothing() {
     for length in 0..table.len() {
         let mut out = vec![0xA5; length];
         assert_eq!(rewrite(&table, &mut out), Err(Refusal::at(16, 0)));
+        let again = rewrite_by_records(&table, &mut out);
+        assert_eq!(again, Err(Refusal::at(16, 0)));
         assert!(out.iter().all(|&byte| byte == 0xA5));
     }
     let refused = raw::table(&[raw::fan(1, 5, 6)]);
     let mut out = vec![0xA5; refused.len()];
     assert_eq!(rewrite(&refused, &mut out), Err(Refusal::at(13, 16)));
+    assert_eq!(by_records(&refused).0, Err(Refusal::at(13, 16)));
     assert!(out.iter().all(|&byte| byte == 0xA5));
 }

@@ -1,12 +1,12 @@
 //! One call of the writer: how it is asked for, and what the second program does.
 
-use super::numbers::{self, Numbers};
 use crate::answer::Answer;
 use crate::driver::Driver;
 use crate::exchange::Asked;
 use crate::outcome::{hex, Outcome};
 use second::answer::number;
-use second::{Refusal, Verdict};
+use second::numbers::{self, Numbers};
+use second::Refusal;
 use std::fmt;
 
 /// What the call is asked to do; the driver's modes 3, 4 and 5.
@@ -60,11 +60,7 @@ impl WriterCall {
     /// What the second program answers, and the buffer as it leaves it.
     pub fn second(&self) -> Outcome {
         let mut buffer = self.buffer.clone();
-        let result = self.run_second(&mut buffer);
-        let answer = match result {
-            Ok(length) => Answer::of(0, length),
-            Err(Refusal { number, place }) => Answer::of(number, place),
-        };
+        let answer = Answer::from(self.run_second(&mut buffer));
         Outcome { answer, buffer }
     }
 
@@ -72,7 +68,7 @@ impl WriterCall {
     fn run_second(&self, buffer: &mut [u8]) -> Result<usize, Refusal> {
         let id = match self.does {
             Does::Start => return second::start(buffer, &numbers::description(&self.numbers)),
-            Does::Rewrite => return rewritten(&self.part, buffer),
+            Does::Rewrite => return second::rewrite(&self.part, buffer),
             Does::Append(id) => id,
         };
         let element = numbers::element(id, &self.numbers);
@@ -81,26 +77,8 @@ impl WriterCall {
     }
 }
 
-/// An accepted table with its reserved places at zero; the table's refusal, or 16 at 0 without room.
-fn rewritten(table: &[u8], buffer: &mut [u8]) -> Result<usize, Refusal> {
-    if let Verdict::Refused { number, place } = second::check(table) {
-        return Err(Refusal::at(number, place));
-    }
-    if buffer.len() < table.len() {
-        return Err(Refusal::at(number::NO_ROOM, 0));
-    }
-    buffer[..table.len()].copy_from_slice(&second::cleared(table));
-    Ok(table.len())
-}
-
 impl Asked for WriterCall {
-    fn name(&self) -> &'static str {
-        match self.does {
-            Does::Start => "esa_start",
-            Does::Append(_) => "esa_append",
-            Does::Rewrite => "esa_rewrite",
-        }
-    }
+    type Reply = Outcome;
 
     /// Mode, length of the buffer, identifier + 256 x length of the part, then buffer, numbers and
     /// part.
@@ -122,6 +100,18 @@ impl Asked for WriterCall {
         let answer = driver.receive()?;
         let buffer = driver.receive_bytes(self.buffer.len())?;
         Ok(Outcome { answer, buffer })
+    }
+
+    fn lacking(&self, proved: &Outcome) -> Option<&'static str> {
+        proved.answer.lacking(match self.does {
+            Does::Start => "esa_start",
+            Does::Append(_) => "esa_append",
+            Does::Rewrite => "esa_rewrite",
+        })
+    }
+
+    fn one_by_one(&self) -> Vec<WriterCall> {
+        vec![self.clone()]
     }
 }
 

@@ -1,9 +1,9 @@
 //! Calls at the edges of numbers, codes and pins: 25, 4, 5, 9 and 10.
 
 use super::call::WriterCall;
-use super::numbers::{used, Numbers, OF_DESCRIPTION};
 use super::samples::{description, elements, junk, Sample, Sink};
 use second::element::id;
+use second::numbers::{used, Numbers, OF_DESCRIPTION};
 
 /// Pins that exist, their neighbours, and bytes that look like "unused".
 const PINS: [u8; 36] = [

@@ -3,7 +3,6 @@
 mod call;
 mod codes;
 mod edges;
-mod numbers;
 mod parts;
 mod rewritings;
 mod runs;
@@ -13,9 +12,9 @@ mod tally;
 
 use crate::exchange::Exchange;
 use crate::options::Options;
+use crate::progress::Progress;
 use call::WriterCall;
 use second::random::Random;
-use std::time::Instant;
 use stream::Stream;
 use tally::Tally;
 
@@ -24,8 +23,6 @@ const SEED: u64 = 2_026;
 const SEEDED: u64 = 60_000;
 /// Tables that the gate writes again, each into three buffers or four.
 const REWRITTEN: u64 = 3_000;
-/// Calls from one line of progress to the next.
-const STEP: u64 = 500_000;
 
 type Comparison = Exchange<WriterCall, Tally>;
 
@@ -61,22 +58,15 @@ pub fn gate(options: &Options) -> Result<bool, String> {
 
 /// So many calls of one seed.
 pub fn long(options: &Options, seed: u64, count: u64) -> Result<bool, String> {
-    let begin = Instant::now();
+    let progress = Progress::start("writer calls", seed);
     let mut comparison = Comparison::start(&options.driver)?;
     let mut stream = Stream::new(seed);
     for at in 0..count {
-        if at > 0 && at % STEP == 0 {
-            let differences = comparison.tally.differences.0;
-            println!("{at} writer calls asked, {differences} differences");
-        }
+        progress.step(at, comparison.tally.differences.0);
         comparison.call(stream.call())?;
     }
     let tally = comparison.finish()?;
-    let seconds = begin.elapsed().as_secs_f64();
-    println!(
-        "seed {seed}, {seconds:.0} s, {:.0} calls a second",
-        tally.calls as f64 / seconds
-    );
+    progress.end(tally.calls);
     tally.print_answers();
     Ok(summed(&tally))
 }

@@ -1,10 +1,10 @@
 //! Whole tables: started, and every element of an accepted table appended in order.
 
 use super::call::WriterCall;
-use super::numbers::{put_description, put_element, Numbers};
 use second::access::walk;
 use second::element::{read_description, read_element};
 use second::generator::{mixed, valid};
+use second::numbers::{put_description, put_element, Numbers};
 use second::random::Random;
 
 /// Numbers of junk, for what a record does not use.

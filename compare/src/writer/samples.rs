@@ -1,9 +1,9 @@
 //! Good records to start from, and buffers of junk.
 
 use super::call::WriterCall;
-use super::numbers::{put_description, put_element, Numbers};
 use second::element::{fixed_length, read_description, read_element};
 use second::generator::raw;
+use second::numbers::{put_description, put_element, Numbers};
 
 /// Where calls go to; it may stop the work.
 pub type Sink<'s> = &'s mut dyn FnMut(WriterCall) -> Result<(), String>;

@@ -1,11 +1,11 @@
 //! Seeded calls without end: the second program's own, random numbers, bent records, whole runs, rewritings.
 
 use super::call::{Does, WriterCall};
-use super::numbers::{put_description, put_element};
 use super::rewritings;
 use super::runs::{self, noise};
 use second::element::{fixed_length, id};
 use second::generator::{writer_call, What};
+use second::numbers::{put_description, put_element};
 use second::random::Random;
 use std::collections::VecDeque;
 

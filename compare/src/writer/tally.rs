@@ -1,6 +1,7 @@
 //! What was asked of the writer, what came back, and where the two sides differ.
 
 use super::call::{Does, WriterCall};
+use crate::answers;
 use crate::exchange::Takes;
 use crate::outcome::{hex, Differences, Outcome};
 use second::histogram::Histogram;
@@ -40,32 +41,17 @@ impl Tally {
             ("append", &self.appends),
             ("rewrite", &self.rewritings),
         ] {
-            let counts: Vec<String> = (0..=25)
-                .filter(|&number| answers.of(number) > 0)
-                .map(|number| format!("{number}: {}", answers.of(number)))
-                .collect();
-            println!("answers of {name}: {}", counts.join(", "));
+            answers::print(name, answers);
         }
     }
 
     /// Prints the answers of the three calls that should have come and did not; true when all came.
     pub fn all_came(&self) -> bool {
-        const STARTS: [u8; 6] = [0, 1, 4, 5, 10, 25];
-        const APPENDS: [u8; 9] = [0, 1, 3, 7, 8, 9, 10, 16, 25];
-        const REWRITINGS: [u8; 17] = [0, 1, 2, 3, 4, 5, 6, 7, 8, 9, 10, 11, 12, 13, 14, 15, 16];
-        let wanted = [
-            ("start", &self.starts, &STARTS[..]),
-            ("append", &self.appends, &APPENDS[..]),
-            ("rewrite", &self.rewritings, &REWRITINGS[..]),
-        ];
-        let mut all = true;
-        for (name, answers, numbers) in wanted {
-            for number in numbers.iter().filter(|&&number| answers.of(number) == 0) {
-                println!("answer of {name} that never came: {number}");
-                all = false;
-            }
-        }
-        all
+        let starts = answers::all_came("start", &self.starts, [0, 1, 4, 5, 10, 25]);
+        let of_append = [0, 1, 3, 7, 8, 9, 10, 16, 25];
+        let appends = answers::all_came("append", &self.appends, of_append);
+        let rewritings = answers::all_came("rewrite", &self.rewritings, 0..=16);
+        starts && appends && rewritings
     }
 
     /// The last line.

@@ -39,7 +39,8 @@ fn read(arguments: &[String]) -> Result<(u64, u64), String> {
     Ok((options.number("seed")?, options.number("count")?))
 }
 
-/// Fast against plain; rewritten against cleared, and once more; the listing's shape.
+/// Fast against plain, of readers and listings; rewritten against written from its records, and once
+/// more; the listing's shape.
 fn compare(table: &[u8], fast: Verdict) -> Result<(), &'static str> {
     if plain::check(table) != fast {
         return Err("the fast and the plain reader differ");
@@ -51,13 +52,18 @@ fn compare(table: &[u8], fast: Verdict) -> Result<(), &'static str> {
             if (refusal.number, refusal.place) == (number, place) => {}
         _ => return Err("reader and rewriter differ"),
     }
-    let text = String::from_utf8(second::listing(table)).map_err(|_| "the listing is no text")?;
+    let text = second::listing(table);
+    if text != plain::listing(table) {
+        return Err("the fast and the plain listing differ");
+    }
+    let text = String::from_utf8(text).map_err(|_| "the listing is no text")?;
     let Verdict::Accepted(count) = fast else {
         let only = format!("R\t{}\t{}\n", fast.number(), fast.beside());
         return (text == only).then_some(()).ok_or("the R line is wrong");
     };
-    if out != second::cleared(table) {
-        return Err("rewritten and cleared differ");
+    let mut records = vec![0x5A; out.len()];
+    if second::rewrite_by_records(table, &mut records).is_err() || records != out {
+        return Err("rewritten and written from its records differ");
     }
     let mut again = vec![0x5A; out.len()];
     if second::rewrite(&out, &mut again).is_err() || again != out {

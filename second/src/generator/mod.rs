@@ -18,7 +18,7 @@ pub use damaged::{mutated, truncated};
 pub use faults::double_faults;
 pub use noise::{random_bytes, structured};
 pub use targeted::{targeted, Case};
-pub use valid::{controllers, mixed, valid, valid_parts};
+pub use valid::{controllers, mixed, mixed_of, valid, valid_parts};
 
 /// A table of any sort.
 pub fn any(random: &mut Random) -> Vec<u8> {

@@ -75,6 +75,22 @@ pub fn mixed(random: &mut Random) -> Vec<u8> {
     build(random, &plan).bytes()
 }
 
+/// An accepted table of so many elements, 1 to 96: all kinds from 10 on, some 42 bytes to each.
+pub fn mixed_of(random: &mut Random, elements: usize) -> Vec<u8> {
+    let zones = 1 + (elements - 1) / 12;
+    let strings = elements / 8;
+    let plan = Plan {
+        zones,
+        strings,
+        devices: elements - zones - strings,
+        forced: HARDEST_FIRST.to_vec(),
+        kinds: DEVICES.to_vec(),
+        limit: 16 + 42 * elements,
+        exact: strings > 0,
+    };
+    build(random, &plan).bytes()
+}
+
 fn plan(random: &mut Random) -> Plan {
     let elements = match random.below(10) {
         0 => 0,

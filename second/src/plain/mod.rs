@@ -1,9 +1,11 @@
 //! The plain reader: the same rules as the fast one, with lists and no cleverness.
 //!
 //! Everything is decoded to records first; numbers are looked up in lists; claims are compared
-//! pairwise. It exists to be held against the fast reader.
+//! pairwise. Its listing is put together of pieces of text. It exists to be held against the fast reader
+//! and the fast listing.
 
 mod claims;
+mod listing;
 
 use crate::answer::{
     number, Refusal, Verdict, DESCRIPTION_LENGTH, LARGEST_TABLE, MOST_ELEMENTS, MOST_ZONES,
@@ -14,6 +16,7 @@ use crate::rules;
 use claims::{check_claims, claims};
 
 pub use claims::own_pins;
+pub use listing::listing;
 
 /// One element as found: where it starts, its record and its variable part.
 #[derive(Clone, Debug)]

@@ -1,10 +1,10 @@
 //! A record's numbers as the 32 bytes of the C face, both ways. Bytes that a record does not use may
 //! be anything.
 
-use second::element::id;
-use second::pins::Pin;
-use second::record::*;
-use second::units::{Centimetres, Deciamps, DegreesCentigrade, FourMilliamps, Rpm};
+use crate::element::id;
+use crate::pins::Pin;
+use crate::record::*;
+use crate::units::{Centimetres, Deciamps, DegreesCentigrade, FourMilliamps, Rpm};
 
 pub type Numbers = [u8; 32];
 
@@ -136,6 +136,8 @@ fn put_truth(truth: bool, at: &mut u8) {
     *at = if truth { (*at).max(1) } else { 0 };
 }
 
+/// Puts the element's numbers over what stands in `n`. A string and a zone have none that append takes:
+/// their part is the whole record.
 pub fn put_element(record: &Element, n: &mut Numbers) {
     if let Some(common) = record.common() {
         let Position { x, y, z } = common.position;
@@ -150,26 +152,20 @@ pub fn put_element(record: &Element, n: &mut Numbers) {
         put_truth(select, &mut n[6]);
         n[7] = address;
     }
-    let low_first =
-        |words: &[u16]| -> Vec<u8> { words.iter().flat_map(|w| w.to_le_bytes()).collect() };
     match record {
         Element::DigitalSensor(e) => {
-            n[8..14].copy_from_slice(&low_first(&[
-                e.lsb_register,
-                e.msb_register,
-                e.minimum_value,
-            ]));
+            put_words(8, &[e.lsb_register, e.msb_register, e.minimum_value], n);
             n[14] = e.minimum_temp.0;
-            n[15..17].copy_from_slice(&e.maximum_value.to_le_bytes());
+            put_words(15, &[e.maximum_value], n);
             n[17] = e.maximum_temp.0;
         }
         Element::AnalogueSensor(e) => {
             n[5..7].copy_from_slice(&[e.thermal_type, e.pin.0]);
-            n[7..17].copy_from_slice(&low_first(&e.calibration));
+            put_words(7, &e.calibration, n);
         }
         Element::Fan(e) => {
             n[5..8].copy_from_slice(&[e.pwm.0, e.tachometer.0, e.pulses_per_revolution]);
-            n[8..12].copy_from_slice(&low_first(&[e.minimum_rpm.0, e.maximum_rpm.0]));
+            put_words(8, &[e.minimum_rpm.0, e.maximum_rpm.0], n);
             n[12] = e.minimum_duty;
         }
         Element::StatusLed(e) => {
@@ -179,18 +175,26 @@ pub fn put_element(record: &Element, n: &mut Numbers) {
         }
         Element::Current(e) => {
             n[5] = e.pin.0;
-            n[6..10].copy_from_slice(&low_first(&[e.at_minimum.0, e.at_maximum.0]));
+            put_words(6, &[e.at_minimum.0, e.at_maximum.0], n);
         }
         Element::RgbLed(e) => n[5..8].copy_from_slice(&[e.red.0, e.green.0, e.blue.0]),
         Element::Controller(_) | Element::Tachometer(_) | Element::Zone(_) | Element::Text(_) => (),
     }
 }
 
+/// Numbers of two bytes, end to end from this byte on.
+fn put_words(at: usize, words: &[u16], n: &mut Numbers) {
+    for (step, word) in words.iter().enumerate() {
+        let at = at + 2 * step;
+        n[at..at + 2].copy_from_slice(&word.to_le_bytes());
+    }
+}
+
 #[cfg(test)]
 mod tests {
     use super::*;
-    use second::generator::{writer_call, What};
-    use second::random::Random;
+    use crate::generator::{writer_call, What};
+    use crate::random::Random;
 
     #[test]
     fn numbers_give_their_record_back() {
