@@ -7,7 +7,7 @@ BEGIN {
     print "use mathlib.Core.Bool.{true}"
     print "use mathlib.Core.List.{[], _∷_}"
     print "use Rattle.format.specs.Rules.{descriptionRules, ownRules}"
-    print "use Rattle.format.specs.Numbers.{rulesAgainst}"
+    print "use Rattle.format.specs.ZonesAndStrings.{rulesAgainst}"
     print "use Rattle.format.specs.Decode.{decode}"
     print "use Rattle.format.specs.Reader.{verdictOf, pass, step}"
     print "use Rattle.format.specs.Rows as rows"

@@ -6,7 +6,11 @@ too_long="3 at 0: the file has more than 4,096 bytes, and no table is longer; th
 other_start="2 at 0: byte 0 is 00h, and a table of revision 0.90 starts with 01h; this is another kind of file, or its start was overwritten"
 empty="1 at 0: the file is empty, and a table has at least 16 bytes; copy the table again from where it came"
 no_file="cannot be read: there is no such file; look at its name"
+no_option="cannot be read: there is no such file, and there are no options; './esa help' tells how to use it"
+no_input="cannot be read: there is no such file, and standard input is not read; name a table"
 folder="cannot be read: it is a folder; name the tables in it"
+barred="cannot be read: you may not read it; look at its permissions"
+failed="cannot be read: reading it failed; try again, or copy it to another disk"
 newline='
 '
 
@@ -24,7 +28,9 @@ odd_files() {
     try "10 MB that start like a table" gives 1 "large: $too_long" check large
     try "a byte too many" gives 1 "longer: 3 at 0: bytes 1-2 say that the table has 326 bytes, and the file has 327; copy it again, or mend bytes 1-2 if elements were added or taken out by hand" check longer
     try "a file that is not there" gives 2 "missing: $no_file" check missing
-    try "an empty name" gives 2 ": $no_file" check ''
+    try "an empty name" gives 2 ": cannot be read: its name is empty; name a table" check ''
+    try "an option that is none" gives 2 "--all: $no_option" check --all
+    try "a dash for standard input" gives 2 "-: $no_input" check -
     try "a folder" gives 2 "box: $folder" check box
     try "a link to nowhere" gives 2 "dangling: cannot be read: it is a link to a file that is not there" check dangling
     try "2 goes before 1, and every file has its line" gives 2 "good: ok, 15 elements
@@ -47,24 +53,37 @@ odd_names() {
     try "a name of 4,096 bytes" gives 2 "$long: $no_file" check "$long"
 }
 
-# A file that opens and cannot be read; and, where root reads everything, as nobody one that may not be read.
-unreadable() {
-    if [ -r /proc/self/mem ]; then
-        try "a file whose reading fails" gives 2 "/proc/self/mem: cannot be read: reading it failed; try again, or copy it to another disk" check /proc/self/mem
-    else
+# A file that opens and whose reading fails: no command takes it for an empty table.
+failing() {
+    if [ ! -r /proc/self/mem ]; then
         not_tried "a file whose reading fails: there is no /proc/self/mem"
+        return
     fi
+    try "a file whose reading fails" gives 2 "/proc/self/mem: $failed" check /proc/self/mem
+    try "list of a file whose reading fails" complains 2 "esa: /proc/self/mem $failed" list /proc/self/mem
+    try "rewrite of a file whose reading fails" complains 2 "esa: /proc/self/mem $failed" rewrite /proc/self/mem never
+    try "nothing is written of it" [ ! -e never ]
+}
+
+# A file that may not be read: as nobody, where this user reads everything.
+unreadable() {
     cp good secret
     chmod 000 secret
-    barred="cannot be read: you may not read it; look at its permissions"
-    if [ ! -r secret ]; then
-        try "a file without permission" gives 2 "secret: $barred" check secret
-    elif nobody "$esa" help >/dev/null 2>&1; then
-        nobody "$esa" check secret good >seen.out 2>&1
-        try "a file without permission, as nobody" [ "$(cat seen.out)" = "secret: $barred${newline}good: ok, 15 elements" ]
-    else
+    as=''
+    [ ! -r secret ] || as=nobody
+    if [ -n "$as" ] && ! nobody "$esa" help >/dev/null 2>&1; then
         not_tried "a file without permission: this user may read every file, and cannot be nobody"
+        return
     fi
+    $as "$esa" check secret good >seen.out 2>&1
+    try "a file without permission" [ "$? $(cat seen.out)" = "2 secret: $barred${newline}good: ok, 15 elements" ]
+    for command in 'list secret' 'rewrite secret never'; do
+        # shellcheck disable=SC2086
+        $as "$esa" $command >seen.out 2>&1
+        try "$command without permission" [ "$? $(cat seen.out)" = "2 esa: secret $barred" ]
+    done
+    $as "$esa" rewrite good secret >seen.out 2>&1
+    try "rewrite to a file without permission" [ "$? $(cat seen.out)" = "2 esa: secret cannot be written: you may not change it; look at its permissions" ]
 }
 
 nobody() { # COMMAND...
@@ -97,10 +116,22 @@ elsewhere() {
     try "through a link, from another folder" [ "$status $(cat seen.out)" = "0 ../good: ok, 15 elements" ]
 }
 
+# A program that stands needs no kit, where it is not run under the kit's emulator.
+without_rt() {
+    if [ "$(uname -m)" != x86_64 ] || PATH=/usr/bin:/bin command -v rt >/dev/null; then
+        not_tried "a check without rt on the path"
+        return
+    fi
+    PATH=/usr/bin:/bin "$esa" check good >seen.out 2>&1
+    try "a check without rt on the path" [ "$? $(cat seen.out)" = "0 good: ok, 15 elements" ]
+}
+
 checking() {
     odd_files
     odd_names
+    failing
     unreadable
     forty_one
     elsewhere
+    without_rt
 }

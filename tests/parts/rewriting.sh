@@ -58,15 +58,21 @@ refused() {
 }
 
 unwritable() {
-    try "a table that is not there" complains 2 "missing cannot be read: there is no such file" rewrite missing out
-    try "a table that is a folder" complains 2 "box cannot be read: it is a folder" rewrite box out
-    try "OUT that is a folder" complains 2 "box is a folder" rewrite good box
-    try "OUT that is a device" complains 2 "/dev/null is no ordinary file" rewrite good /dev/null
-    try "OUT in a folder that is not there" complains 2 "there is no folder ./nowhere" rewrite good nowhere/out
-    try "OUT in a folder where no file can be made" complains 2 "no file can be made in /proc" rewrite good /proc/out
+    try "a table that is not there" complains 2 "esa: missing $no_file" rewrite missing out
+    try "a table that is a folder" complains 2 "esa: box is a folder; rewrite takes one table, so name a file in it" rewrite box out
+    try "a table that is an option" complains 2 "esa: --all $no_option" rewrite --all out
+    try "a table that is a dash" complains 2 "esa: - $no_input" rewrite - out
+    try "OUT that is a folder" complains 2 "esa: box is a folder; name the file to write to" rewrite good box
+    try "OUT that is a device" complains 2 "esa: /dev/null is no ordinary file; name another file to write to" rewrite good /dev/null
+    try "OUT that is a link to nowhere at all" complains 2 "esa: lost is a link to nowhere; name the file to write to" rewrite good lost
+    try "OUT in a folder that is not there" complains 2 "esa: nowhere/out cannot be written: there is no folder ./nowhere; make it first" rewrite good nowhere/out
+    try "OUT in a folder where no file can be made" complains 2 "esa: /proc/out cannot be written: no file can be made in /proc; look at its permissions" rewrite good /proc/out
+    try "OUT that is an option" complains 2 "esa: there is no option '--force'; if it is the name to write to, put ./ before it" rewrite good --force
+    try "OUT that is a dash" complains 2 "esa: rewrite does not write to standard output; name a file to write to" rewrite good -
+    try "no file with a dash is made" eval '[ ! -e ./--force ] && [ ! -e ./- ]'
     try "OUT is as it was after all that" same out good
     if [ -e /dev/full ] && ln -s /dev/full full; then
-        try "OUT that leads to a device" complains 2 "full is no ordinary file" rewrite good full
+        try "OUT that leads to a device" complains 2 "esa: full is no ordinary file; name another file to write to" rewrite good full
     fi
 }
 
@@ -99,6 +105,7 @@ unheard() {
 }
 
 rewriting() {
+    ln -s nowhere/at/all lost
     written
     refused
     unwritable

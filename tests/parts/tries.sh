@@ -39,13 +39,13 @@ gives() { # STATUS TEXT WORD...
     [ "$status" = "$wanted" ] && cmp -s "$work/seen.out" "$work/wanted" || show
 }
 
-# The status, nothing on standard output, and these words on standard error.
-complains() { # STATUS TEXT WORD...
+# The status, nothing on standard output, and this whole line on standard error.
+complains() { # STATUS LINE WORD...
     wanted=$1
-    text=$2
+    line=$2
     shift 2
     ran "$@"
-    [ "$status" = "$wanted" ] && [ ! -s "$work/seen.out" ] && grep -qF -- "$text" "$work/seen.err" || show
+    [ "$status" = "$wanted" ] && [ ! -s "$work/seen.out" ] && grep -qxF -- "$line" "$work/seen.err" || show
 }
 
 # The programs that are missing are built once, before anything is tried.

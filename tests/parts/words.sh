@@ -1,6 +1,8 @@
 # Part of tests/esa: help, why, and words that make no command.
 # shellcheck shell=sh disable=SC2015,SC2154
 
+numbers="the numbers are 0, 1, 2, 3, 4, 5, 6, 7, 8, 9, 10, 11, 12, 13, 14, 15, 16, 17, 25"
+
 helps() { # WORD...
     ran "$@"
     [ "$status" = 0 ] && [ ! -s seen.err ] && grep -q '^use: ./esa check FILE' seen.out || show
@@ -15,16 +17,22 @@ tells_why() { # NUMBER
 }
 
 misused() {
-    try "no word at all" complains 2 "say what to do"
-    try "no word at all: how to use it" complains 2 "use: ./esa check FILE"
-    try "an unknown word" complains 2 "there is no command 'verify'" verify good
-    try "an empty word" complains 2 "there is no command ''" ''
-    try "check of nothing" complains 2 "check needs the name of a file" check
-    try "list of nothing" complains 2 "list needs the name of one file" list
-    try "list of two" complains 2 "list needs the name of one file" list good good
-    try "rewrite of one name" complains 2 "rewrite needs the name of a table and a name to write to" rewrite good
-    try "rewrite of three names" complains 2 "rewrite needs" rewrite good out out
-    try "why of nothing" complains 2 "why needs one number" why
+    try "no word at all" complains 2 "esa: say what to do"
+    try "no word at all: how to use it" complains 2 "     ./esa help                this text"
+    try "an unknown word" complains 2 "esa: there is no command 'verify'" verify good
+    try "an option for a command" complains 2 "esa: there is no command '--all'" --all good
+    try "an empty word" complains 2 "esa: there is no command ''" ''
+    try "check of nothing" complains 2 "esa: check needs the name of a file, or several" check
+    try "list of nothing" complains 2 "esa: list needs the name of a table" list
+    try "list of an empty name" complains 2 "esa: list needs the name of a table, and the name given is empty" list ''
+    try "list of two" complains 2 "esa: list takes one table, and 2 names were given" list good good
+    try "rewrite of one name" complains 2 "esa: rewrite needs the name of a table and a name to write to" rewrite good
+    try "rewrite of an empty name" complains 2 "esa: rewrite needs the name of a table, and the name given is empty" rewrite '' out
+    try "rewrite to an empty name" complains 2 "esa: rewrite needs a name to write to, and the name given is empty" rewrite good ''
+    try "rewrite of three names" complains 2 "esa: rewrite takes a table and a name to write to, and 3 names were given" rewrite good out out
+    try "why of nothing" complains 2 "esa: why needs a number; $numbers" why
+    try "why of an empty word" complains 2 "esa: why needs a number; $numbers" why ''
+    try "why of two" complains 2 "esa: why takes one number, and 2 words were given" why 1 2
 }
 
 words() {
@@ -35,7 +43,7 @@ words() {
     for number in 0 1 2 3 4 5 6 7 8 9 10 11 12 13 14 15 16 17 25; do
         try "why $number" tells_why $number
     done
-    for number in 18 24 26 013 1.5 -1 x ''; do
-        try "why '$number'" complains 2 "there is no answer $number; the numbers are 0, 1, 2, 3, 4, 5, 6, 7, 8, 9, 10, 11, 12, 13, 14, 15, 16, 17, 25" why -- "$number"
+    for number in 18 24 26 013 1.5 -1 x; do
+        try "why '$number'" complains 2 "esa: there is no answer $number; $numbers" why "$number"
     done
 }

@@ -41,8 +41,11 @@ function exists(b) { return b < 40 && b % 16 < 8 || b == 48 }
 
 function rank(b) { return b == 5 ? 1 : b == 6 ? 2 : b >= 17 && b <= 19 ? b - 14 : 0 }
 
+# Those that stand in the order of the fan list.
+function in_order(use) { return use == "fan" || use == "tachometer" }
+
 function permitted(use, b) {
-    if (use == "fan") return rank(b) > 0
+    if (in_order(use)) return rank(b) > 0
     if (exists(b) && b >= 20) return 1
     return use == "select" ? rank(b) > 0 : use == "lamp" ? b < 5 : 0
 }
@@ -63,7 +66,7 @@ function find_own(p,    id, i) {
     own_count = 0
     if (id == 3) {
         own("PWM pin", "fan", p + 8, 0)
-        own("tachometer pin", "fan", p + 9, 1)
+        own("tachometer pin", "tachometer", p + 9, 1)
     }
     if (id == 2) own("pin", "analogue", p + 9, 0)
     if (id == 8) own("pin", "analogue", p + 8, 0)

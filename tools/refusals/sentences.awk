@@ -181,20 +181,28 @@ function of_pins(    i, b) {
         at(own_at[i])
         if (b == 255 && own_lacks[i]) continue
         if (b == 255) return say("unused")
-        if (!exists(b)) return say("absent")
-        if (!permitted(own_use[i], b)) return say("barred")
+        if (!exists(b)) return of_pin("absent", i)
+        if (!permitted(own_use[i], b)) return of_pin("barred", i)
     }
     return of_order()
 }
 
+# A tachometer is told of the PWM pin before it and of FFh; its text is a case of its own.
+function of_pin(which, i) {
+    if (own_use[i] != "tachometer") return say(which)
+    V["other"] = pin_name(byte(own_at[i - 1]))
+    return say(which "-tachometer")
+}
+
 function of_order(    i) {
     for (i = 2; i <= own_count; i++) {
-        if (own_use[i] != "fan" || rank(byte(own_at[i])) > rank(byte(own_at[i - 1]))) continue
+        if (!in_order(own_use[i]) || rank(byte(own_at[i])) > rank(byte(own_at[i - 1]))) continue
         V["role"] = own_role[i]
         V["pin"] = pin_name(byte(own_at[i]))
         V["earlier"] = own_role[i - 1]
         V["other"] = pin_name(byte(own_at[i - 1]))
-        return say("order")
+        at(own_at[i])
+        return of_pin("order", i)
     }
     return say("other")
 }
