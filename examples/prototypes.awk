@@ -3,6 +3,7 @@ BEGIN {
     type["&[u8]"] = "const uint8_t *, size_t"
     type["&mut [u8]"] = "uint8_t *, size_t"
     type["&[u8; 32]"] = "const uint8_t *"
+    type["&mut [u8; 32]"] = "uint8_t *"
     type["&mut [u8; 4096]"] = "uint8_t *"
     type["u8"] = "uint8_t"
     type["u64"] = "uint64_t"

@@ -3,8 +3,9 @@
    docs/CALLS.md has the theorem to each.
 
    WHAT A CALLER OWES. Nothing proves the C around the library, so these three are yours to keep:
-   - Each pointer and the length behind it are memory that may be read, and of 'buffer' and 'out' also written, until the
-     call returns; 'numbers' is 32 bytes. With a length of 0 the pointer is not followed: NULL will do.
+   - Each pointer and the length behind it are memory that may be read, and of 'buffer', 'out' and 'numbers' that is not const
+     also written, until the call returns; 'numbers' is 32 bytes, the 'out' of esa_list 4,096. With a length of 0 the pointer is not
+     followed: NULL will do.
    - The places lent to one call do not overlap.
    - Nobody else writes to them before the call returns.
    No other condition is asked: any bytes, any lengths and any numbers have an answer. As the code stands (this is no theorem)
@@ -52,7 +53,7 @@ enum esa_numbers {
     ESA_NO_STRING = 14,        /* a string index that is not 0 and has no string; element, or 0 */
     ESA_CLASH = 15,            /* a pin is claimed twice; element of the later claim, or 0 */
     ESA_NO_ROOM = 16,          /* writer: the new length passes the buffer or 4,096; 0 */
-    ESA_PAST_THE_LAST = 17,    /* there is no element k; 0 */
+    ESA_PAST_THE_LAST = 17,    /* there is no element k; in a part, no such block or pair; 0 */
     ESA_TOO_LARGE = 25         /* writer: a number is too large for its field; 0 */
 };
 
@@ -77,25 +78,90 @@ static inline const char *esa_words(unsigned number)
     case ESA_NO_STRING: return "a string index has no string";
     case ESA_CLASH: return "a pin is claimed a second time";
     case ESA_NO_ROOM: return "no room for it";
-    case ESA_PAST_THE_LAST: return "there is no such element";
+    case ESA_PAST_THE_LAST: return "there is no such element, block or pair";
     case ESA_TOO_LARGE: return "a number is too large for its field";
     default: return "a number that no call gives";
     }
 }
 
-/* READING. The table is read only; no byte of it can alter. Every call checks the whole table first. */
+/* NUMBERS. A record is handed over as 32 bytes, 'numbers': each number as wide as its bytes below, lowest byte first. The bytes
+   that a kind does not name are ignored when a record is written, and 0 when one is read.
+
+   description       0 device type, 1 string, 2-5 serial number, 6 SPWR (0 is no; read as 0 or 1), 7 power units (4 mA each),
+                     8, 9, 10 hardware revision pins
+   all but 0Bh, 0Ch  0 string, 1 x, 2 y, 3 z (centimetres; FFh in all three: unknown), 4 zone, and then
+     01h             5 bus type, 6 kind of address (0 bus address, else chip select pin; read as 0 or 1), 7 address,
+                     8-9 LSB register, 10-11 MSB register, 12-13 minimum value, 14 minimum temperature, 15-16 maximum value,
+                     17 maximum temperature
+     02h             5 thermal type, 6 pin, 7-8, 9-10, 11-12, 13-14, 15-16 counts at 0, 25, 50, 75, 100 degrees
+     03h             5 PWM pin, 6 tachometer pin, 7 PPR, 8-9 minimum RPM, 10-11 maximum RPM, 12 minimum duty cycle
+     04h             5 pin, 6 colour, 7 purpose of the first lamp; 8, 9, 10 of the second; 11, 12, 13 of the third
+     08h             5 pin, 6-7 IMIN, 8-9 IMAX (deciamps)
+     09h, 0Ah        5 bus type, 6 kind of address, 7 address
+     0Eh             5 red pin, 6 green pin, 7 blue pin
+   0Bh, 0Ch          none when written: their part is the whole record. Read: of 0Bh 0 the zone's number, 1 its string;
+                     of 0Ch 0 the string's number */
+enum { ESA_NUMBERS = 32 };
+
+/* READING. The table is read only; no byte of it can alter. Every call that takes a table checks the whole of it first. */
 
 /* Is it a table? 0, and beside it the number of elements, exactly when the bytes keep every rule; otherwise the first rule
    that they break (1 to 15) and its place. */
 uint64_t esa_check(const uint8_t *table, size_t length);
 
+/* What does the description say? 0, and beside it 0, with the description in 'numbers'; or the table's own refusal as esa_check
+   gives it, and then no byte of 'numbers' alters. */
+uint64_t esa_describe(const uint8_t *table, size_t length, uint8_t numbers[ESA_NUMBERS]);
+
 /* Of which kind is element k, counted from 0? 0, and beside it its identifier; the table's own refusal as esa_check gives
    it; or 17 at 0 when the table has no element k. */
 uint64_t esa_element(const uint8_t *table, size_t length, size_t k);
 
+/* What does element k say? The answer of esa_element, and with 0 the element in 'numbers': esa_append takes it as it stands. With
+   a refusal no byte of 'numbers' alters. */
+uint64_t esa_fields(const uint8_t *table, size_t length, size_t k, uint8_t numbers[ESA_NUMBERS]);
+
 /* How long is the variable part of element k? These are the last bytes of the element: the blocks of 09h and 0Ah, all bytes
    after the header of a string or a zone descriptor, none of the others. 0 also where esa_element refuses. */
 size_t esa_part_length(const uint8_t *table, size_t length, size_t k);
+
+/* Where does it stand? 0, and beside it the place of the part in the table and its length, which esa_place and esa_length take
+   apart; the place is behind the element's fixed fields also where the part is empty. Or the refusal of esa_element. */
+uint64_t esa_part(const uint8_t *table, size_t length, size_t k);
+
+/* The same of the text of a string, which is its part from byte 3 on. 0, and beside it 0, for an element that is no string. */
+uint64_t esa_text(const uint8_t *table, size_t length, size_t k);
+
+static inline size_t esa_place(uint64_t answer)
+{
+    return (size_t)(answer >> 8 & 0xFFFF);
+}
+
+static inline size_t esa_length(uint64_t answer)
+{
+    return (size_t)(answer >> 24);
+}
+
+/* Inside a part, which may be any bytes: 17 at 0 where no such block or pair stands whole in it. Of the part of 09h: the speed of
+   speed block j in units of 100 RPM, and 256 times its number of register pairs; and of its register pair i the address, and
+   65,536 times the data. Blocks and pairs are counted from 0; block 0 is the default block. */
+uint64_t esa_block(const uint8_t *part, size_t length, size_t j);
+uint64_t esa_pair(const uint8_t *part, size_t length, size_t j, size_t i);
+
+/* Of the part of 0Ah: the number of register pairs of block w, 0 for the initialisation block and 1 for the status block; and of
+   its register pair i the address, and 65,536 times the data. */
+uint64_t esa_entries(const uint8_t *part, size_t length, size_t w);
+uint64_t esa_entry(const uint8_t *part, size_t length, size_t w, size_t i);
+
+static inline uint16_t esa_address(uint64_t answer)
+{
+    return (uint16_t)(answer >> 8 & 0xFFFF);
+}
+
+static inline uint16_t esa_data(uint64_t answer)
+{
+    return (uint16_t)(answer >> 24 & 0xFFFF);
+}
 
 /* The listing of a table, as text: one record a line, fields parted by tabs, each line ended by a line feed. It is put at the
    front of 'out'; the answer is its length in bytes, and the bytes behind it are as they were. Of a refused table the text is
@@ -105,25 +171,7 @@ size_t esa_list(const uint8_t *table, size_t length, uint8_t out[ESA_LISTING]);
 
 /* WRITING. A table is started in a buffer and each element appended to it; bytes 1-2 of the buffer hold the length so far.
    With a refusal no byte of the buffer alters. A table that is still being written may break rules over the whole of it (11
-   to 15): ask esa_check when it is done.
-
-   A record is handed over as 32 bytes, 'numbers': each number as wide as its bytes below, lowest byte first; the bytes that
-   a kind does not name are ignored.
-
-   description       0 device type, 1 string, 2-5 serial number, 6 SPWR (0 is no), 7 power units (4 mA each),
-                     8, 9, 10 hardware revision pins
-   all but 0Bh, 0Ch  0 string, 1 x, 2 y, 3 z (centimetres; FFh in all three: unknown), 4 zone, and then
-     01h             5 bus type, 6 kind of address (0 bus address, else chip select pin), 7 address, 8-9 LSB register,
-                     10-11 MSB register, 12-13 minimum value, 14 minimum temperature, 15-16 maximum value,
-                     17 maximum temperature
-     02h             5 thermal type, 6 pin, 7-8, 9-10, 11-12, 13-14, 15-16 counts at 0, 25, 50, 75, 100 degrees
-     03h             5 PWM pin, 6 tachometer pin, 7 PPR, 8-9 minimum RPM, 10-11 maximum RPM, 12 minimum duty cycle
-     04h             5 pin, 6 colour, 7 purpose of the first lamp; 8, 9, 10 of the second; 11, 12, 13 of the third
-     08h             5 pin, 6-7 IMIN, 8-9 IMAX (deciamps)
-     09h, 0Ah        5 bus type, 6 kind of address, 7 address
-     0Eh             5 red pin, 6 green pin, 7 blue pin
-   0Bh, 0Ch          none: their part is the whole record */
-enum { ESA_NUMBERS = 32 };
+   to 15): ask esa_check when it is done. */
 
 /* Starts a table with the description in the numbers. 0, and beside it 16, the length, with the description in the first 16
    bytes; or, in this order, 1 (a buffer under 16 bytes), 25, 4, 5, 10, all at 0. */
@@ -184,10 +232,20 @@ static inline void esa_put16(uint8_t numbers[ESA_NUMBERS], size_t at, uint16_t v
     numbers[at + 1] = (uint8_t)(value >> 8);
 }
 
+static inline uint16_t esa_get16(const uint8_t numbers[ESA_NUMBERS], size_t at)
+{
+    return (uint16_t)(numbers[at] + 256u * numbers[at + 1]);
+}
+
 static inline void esa_put32(uint8_t numbers[ESA_NUMBERS], size_t at, uint32_t value)
 {
     esa_put16(numbers, at, (uint16_t)(value & 0xFFFF));
     esa_put16(numbers, at + 2, (uint16_t)(value >> 16));
+}
+
+static inline uint32_t esa_get32(const uint8_t numbers[ESA_NUMBERS], size_t at)
+{
+    return esa_get16(numbers, at) + 65536u * esa_get16(numbers, at + 2);
 }
 
 #ifdef __cplusplus

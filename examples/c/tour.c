@@ -27,16 +27,25 @@ static int told(const char *what, uint64_t answer, const char *beside)
     return number == ESA_GOOD;
 }
 
-/* The elements of an accepted table, each with its place and the length of its variable part. */
+/* What stands in the numbers of a fan. */
+static void fan(const uint8_t numbers[ESA_NUMBERS])
+{
+    printf("    in zone %u, %u to %u RPM\n", (unsigned)numbers[4], (unsigned)esa_get16(numbers, 8), (unsigned)esa_get16(numbers, 10));
+}
+
+/* The elements of an accepted table, each with its place and its variable part. */
 static void walk(const uint8_t *table, size_t length, size_t count)
 {
     size_t at = ESA_SHORTEST; /* the first element stands behind the description */
     for (size_t k = 0; k < count; k++) {
-        size_t id = esa_beside(esa_element(table, length, k));
-        size_t size = table[at + 1] + 256u * table[at + 2];
-        size_t part = esa_part_length(table, length, k);
-        printf("  element %zu at %zu: %s, %zu bytes, variable part %zu\n", k, at, esa_kind((unsigned)id), size, part);
-        at += size;
+        uint8_t numbers[ESA_NUMBERS];
+        size_t id = esa_beside(esa_fields(table, length, k, numbers));
+        uint64_t part = esa_part(table, length, k);
+        printf("  element %zu at %zu: %s, variable part of %zu bytes at %zu\n", k, at, esa_kind((unsigned)id), esa_length(part),
+               esa_place(part));
+        if (id == ESA_PWM_FAN)
+            fan(numbers);
+        at = esa_place(part) + esa_length(part); /* the part ends the element */
     }
     told("  one more", esa_element(table, length, count), "");
 }

@@ -28,7 +28,13 @@ mod esa {
         extern "C" {
             pub fn esa_check(table: *const u8, length: usize) -> u64;
             pub fn esa_element(table: *const u8, length: usize, k: usize) -> u64;
-            pub fn esa_part_length(table: *const u8, length: usize, k: usize) -> usize;
+            pub fn esa_fields(
+                table: *const u8,
+                length: usize,
+                k: usize,
+                numbers: &mut [u8; 32],
+            ) -> u64;
+            pub fn esa_part(table: *const u8, length: usize, k: usize) -> u64;
             pub fn esa_start(buffer: *mut u8, length: usize, numbers: &[u8; 32]) -> u64;
             pub fn esa_append(
                 buffer: *mut u8,
@@ -68,9 +74,18 @@ mod esa {
         unpacked(unsafe { c::esa_element(table.as_ptr(), table.len(), k) })
     }
 
-    /// The length of the variable part of element k; 0 where `element` refuses.
-    pub fn part_length(table: &[u8], k: usize) -> usize {
-        unsafe { c::esa_part_length(table.as_ptr(), table.len(), k) }
+    /// The same, and the numbers of element k.
+    pub fn fields(table: &[u8], k: usize) -> Result<(usize, Numbers), Refusal> {
+        let mut numbers = [0; 32];
+        let answer = unsafe { c::esa_fields(table.as_ptr(), table.len(), k, &mut numbers) };
+        Ok((unpacked(answer)?, numbers))
+    }
+
+    /// The bytes of the variable part of element k, in the table.
+    pub fn part(table: &[u8], k: usize) -> Result<std::ops::Range<usize>, Refusal> {
+        let beside = unpacked(unsafe { c::esa_part(table.as_ptr(), table.len(), k) })?;
+        let (place, length) = (beside & 0xFFFF, beside >> 16);
+        Ok(place..place + length)
     }
 
     /// The length of the table that is started.
@@ -155,15 +170,19 @@ fn told(what: &str, answer: esa::Answer, beside: &str) -> esa::Answer {
     answer
 }
 
-/// The elements of an accepted table, each with its place and the length of its variable part.
+/// The elements of an accepted table, each with its place and its variable part.
 fn walk(table: &[u8], count: usize) -> Result<(), esa::Refusal> {
     let mut at = 16; // the first element stands behind the description
     for k in 0..count {
-        let name = kind(esa::element(table, k)?);
-        let size = usize::from(u16::from_le_bytes([table[at + 1], table[at + 2]]));
-        let part = esa::part_length(table, k);
-        println!("  element {k} at {at}: {name}, {size} bytes, variable part {part}");
-        at += size;
+        let (id, numbers) = esa::fields(table, k)?;
+        let part = esa::part(table, k)?;
+        let (name, length, place) = (kind(id), part.len(), part.start);
+        println!("  element {k} at {at}: {name}, variable part of {length} bytes at {place}");
+        if id == usize::from(esa::PWM_FAN) {
+            let two = |i| u16::from_le_bytes([numbers[i], numbers[i + 1]]);
+            println!("    in zone {}, {} to {} RPM", numbers[4], two(8), two(10));
+        }
+        at = part.end; // the part ends the element
     }
     let _ = told("  one more", esa::element(table, count), "");
     Ok(())

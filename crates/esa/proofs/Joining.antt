@@ -10,7 +10,7 @@ use lib.ListN.{length}
 use lib.Dec.{leb}
 use borrow.Author.Tests.{leb-true}
 use Rattle.format.specs.Layout.{table}
-use Rattle.format.specs.Rules.{descriptionHeld, held}
+use Rattle.format.specs.Rules.{descriptionRoomy, elementRoomy}
 use Rattle.format.specs.Table.{descriptionBreaks}
 use Rattle.format.specs.Verdict.{stated}
 use Rattle.format.specs.Answers.{valueOfWritten}
@@ -25,8 +25,8 @@ use Rattle.format.proofs.Lengths.{fits-length}
 use Rattle.reader.proofs.Bounds.{value-bound}
 use Rattle.rewriting.specs.Again.{Rewritten, done, no-room, refused}
 use Rattle.numbers.specs.From.{descriptionFrom, elementFrom}
-use Rattle.numbers.specs.declared.FoundElement.{FoundElement}
-use Rattle.numbers.specs.declared.FoundElement.the-variants.{Element as Found, Unknown}
+use Rattle.numbers.specs.declared.MaybeElement.{MaybeElement}
+use Rattle.numbers.specs.declared.MaybeElement.the-variants.{Element as Found, Unknown}
 use Rattle.esa.specs.Writing.{packedWritten, StartedFor, AppendedAs, AppendedFor}
 
 or-bound :
@@ -53,7 +53,7 @@ start-answer-bound : (b : List ℕ) (d : Description) → valueOfWritten (startA
 unfolding startAnswer
 start-answer-bound b d =
     or-bound (leb 16 (length b)) 1 0 _ (omega arith) (λ long.
-    or-bound (descriptionHeld d) 25 0 _ (omega arith) (λ h.
+    or-bound (descriptionRoomy d) 25 0 _ (omega arith) (λ h.
     broken-bound (descriptionBreaks d) 0 (Length 16) (omega arith) (omega arith)))
 
 append-answer-bound : (b : List ℕ) (e : Element) (p : List ℕ) → valueOfWritten (appendAnswer b e p) ≤ 4096
@@ -61,7 +61,7 @@ unfolding appendAnswer
 append-answer-bound b e p =
     or-bound (leb 16 (length b)) 1 0 _ (omega arith) (λ long.
     or-bound (lengthStands b) 3 0 _ (omega arith) (λ stands.
-    or-bound (held e) 25 0 _ (omega arith) (λ h.
+    or-bound (elementRoomy e) 25 0 _ (omega arith) (λ h.
     broken-bound (partBreaks e p) (stated b) _ (at-most b (stated b) stands)
     (or-bound (hasRoom b (newLength b e p)) 16 0 (Length (newLength b e p)) (omega arith) (λ room.
     leb-true (newLength b e p) 4096 (second (leb (newLength b e p) (length b)) (leb (newLength b e p) 4096) room))))))
@@ -88,13 +88,13 @@ pub started-for :
 started-for b n d w r after is s h =
     record { answer = w; started = subst (λ (x : Description). Started b x w after) is s; number = h }
 
-module _ (b : List ℕ) (id : ℕ) (n p : List ℕ) (f : FoundElement) (is : f ≡ elementFrom id n) where
-  joined : (g : FoundElement) (r : ℕ) (after : List ℕ) → f ≡ g → AppendedAs g b p r after → AppendedFor b id n p r after
+module _ (b : List ℕ) (id : ℕ) (n p : List ℕ) (f : MaybeElement) (is : f ≡ elementFrom id n) where
+  joined : (g : MaybeElement) (r : ℕ) (after : List ℕ) → f ≡ g → AppendedAs g b p r after → AppendedFor b id n p r after
   joined g r after q a =
       record {
         appended =
-            subst (λ (x : FoundElement). AppendedAs x b p r after) is
-            (subst (λ (x : FoundElement). AppendedAs x b p r after) (sym q) a);
+            subst (λ (x : MaybeElement). AppendedAs x b p r after) is
+            (subst (λ (x : MaybeElement). AppendedAs x b p r after) (sym q) a);
       }
 
   pub appended-for :

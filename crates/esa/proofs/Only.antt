@@ -1,22 +1,32 @@
--- No second number keeps the words of the exported calls: there is only one verdict, and one element k with its part. Nor do
--- other bytes in a buffer that was written.
+-- No second number keeps the words of the exported calls: there is only one verdict, one description, and one element k with its
+-- part. Nor do other bytes in a buffer or in numbers that were written.
 -- Assumes nothing.
 use Prim.Native.Nat.{ℕ}
-use mathlib.Core.Path.{_≡_, sym, _∙_, ap}
+use mathlib.Core.Path.{_≡_, sym, _∙_, ap, subst}
+use mathlib.Core.Bool.{Bool, true, false}
 use mathlib.Core.List.{List}
 use lib.ListN.{length}
+use lib.Dec.{eqb}
 use Rattle.format.specs.Slots.{Bytes}
+use Rattle.format.specs.Layout.{idOf}
 use Rattle.format.specs.Writing.{startLeaves, appendLeaves}
 use Rattle.format.specs.declared.records.Element.{Element}
+use Rattle.format.specs.declared.answers.Described.{Described}
+use Rattle.format.specs.declared.answers.Asked.{Asked}
+use Rattle.format.specs.declared.answers.Asked.the-variants.{Element as Gave, Refused as NotGiven}
 use Rattle.format.specs.declared.answers.Written.{Written}
 use Rattle.format.proofs.Demand3.{unique}
-use Rattle.format.proofs.Asking.{gives-unique}
+use Rattle.format.proofs.Asking.{describes-unique, gives-unique}
+use Rattle.reader.specs.declared.Placed.{Placed}
+use Rattle.reader.proofs.PartPlaces.{only-place}
 use Rattle.esa.specs.Face.{packed, Checked, packedAsked, AskedFor, PartFor}
+use Rattle.esa.specs.Fields.{packedDescribed, describedLeaves, fieldsLeave, DescribedFor, FieldsFor}
+use Rattle.esa.specs.Places.{packedPlaced, packedText, PlacedFor, TextPlaced, TextOf, TextAsked, TextFor}
 use Rattle.esa.specs.Writing.{packedWritten, RewrittenFor, StartedFor, AppendedOne, AppendedAs, AppendedFor}
 use Rattle.rewriting.proofs.Only.{only-rewrite}
 use Rattle.numbers.specs.From.{descriptionFrom, elementFrom}
-use Rattle.numbers.specs.declared.FoundElement.{FoundElement}
-use Rattle.numbers.specs.declared.FoundElement.the-variants.{Element as Found, Unknown}
+use Rattle.numbers.specs.declared.MaybeElement.{MaybeElement}
+use Rattle.numbers.specs.declared.MaybeElement.the-variants.{Element as Found, Unknown}
 
 pub checked-unique : (b : List ℕ) (r r′ : ℕ) → Bytes b → Checked b r → Checked b r′ → r ≡ r′
 checked-unique b r r′ small c c′ =
@@ -33,6 +43,61 @@ part-unique b k r r′ small a a′ =
     a .number
     ∙ ap (λ (l : List ℕ). length l) (gives-unique b k (a .answer) (a′ .answer) (a .part) (a′ .part) small (a .gives) (a′ .gives) .1)
     ∙ sym (a′ .number)
+
+pub described-unique :
+    (b n : List ℕ) (r r′ : ℕ) (after after′ : List ℕ)
+    → Bytes b
+    → DescribedFor b n r after
+    → DescribedFor b n r′ after′
+    → (r ≡ r′) × (after ≡ after′)
+described-unique b n r r′ after after′ small d d′ =
+    let same = describes-unique b (d .answer) (d′ .answer) small (d .describes) (d′ .describes) in
+    let leaves : Described → List ℕ = λ (a : Described). describedLeaves a n in
+    (d .number ∙ ap packedDescribed same ∙ sym (d′ .number), d .leaves ∙ ap leaves same ∙ sym (d′ .leaves))
+
+pub fields-unique :
+    (b : List ℕ) (k : ℕ) (n : List ℕ) (r r′ : ℕ) (after after′ : List ℕ)
+    → Bytes b
+    → FieldsFor b k n r after
+    → FieldsFor b k n r′ after′
+    → (r ≡ r′) × (after ≡ after′)
+fields-unique b k n r r′ after after′ small f f′ =
+    let same = gives-unique b k (f .answer) (f′ .answer) (f .part) (f′ .part) small (f .gives) (f′ .gives) in
+    let by-answer : Asked → List ℕ = λ (a : Asked). fieldsLeave a (f .part) n in
+    let by-part : List ℕ → List ℕ = λ (p : List ℕ). fieldsLeave (f′ .answer) p n in (
+      f .number ∙ ap packedAsked (same .0) ∙ sym (f′ .number),
+      f .leaves ∙ ap by-answer (same .0) ∙ ap by-part (same .1) ∙ sym (f′ .leaves),
+    )
+
+pub placed-unique : (b : List ℕ) (k r r′ : ℕ) → Bytes b → PlacedFor b k r → PlacedFor b k r′ → r ≡ r′
+placed-unique b k r r′ small p p′ =
+    p .number ∙ ap packedPlaced (only-place b k (p .answer) (p′ .answer) small (p .gives) (p′ .gives)) ∙ sym (p′ .number)
+
+text-placed-unique : (b : List ℕ) (k r r′ : ℕ) → Bytes b → TextPlaced b k r → TextPlaced b k r′ → r ≡ r′
+text-placed-unique b k r r′ small t t′ =
+    let parts = gives-unique b k (t .beside) (t′ .beside) (t .part) (t′ .part) small (t .gives) (t′ .gives) .1 in
+    let places = only-place b k (t .place) (t′ .place) small (t .placed) (t′ .placed) in
+    t .number
+    ∙ ap (λ (p : List ℕ). packedText (t .place) p) parts
+    ∙ ap (λ (x : Placed). packedText x (t′ .part)) places
+    ∙ sym (t′ .number)
+
+text-asked-unique : (a : Asked) (b : List ℕ) (k r r′ : ℕ) → Bytes b → TextAsked a b k r → TextAsked a b k r′ → r ≡ r′
+text-asked-unique (Gave e) b k r r′ small t t′ = go (eqb (idOf e) 0x0c) t t′
+  where
+    go : (t : Bool) → TextOf t b k r → TextOf t b k r′ → r ≡ r′
+    go true x y = text-placed-unique b k r r′ small x y
+    go false x y = x ∙ sym y
+text-asked-unique (NotGiven j p) b k r r′ small t t′ = t ∙ sym t′
+
+pub text-unique : (b : List ℕ) (k r r′ : ℕ) → Bytes b → TextFor b k r → TextFor b k r′ → r ≡ r′
+text-unique b k r r′ small t t′ =
+    let same = gives-unique b k (t .answer) (t′ .answer) (t .part) (t′ .part) small (t .gives) (t′ .gives) .0 in
+    text-asked-unique (t′ .answer) b k r r′ small (subst (λ (a : Asked). TextAsked a b k r) same (t .text)) (t′ .text)
+
+-- esa_block, esa_pair, esa_entries and esa_entry promise an equation with one number
+pub equal-unique : (v r r′ : ℕ) → r ≡ v → r′ ≡ v → r ≡ r′
+equal-unique v r r′ e e′ = e ∙ sym e′
 
 pub started-unique :
     (b n : List ℕ) (r r′ : ℕ) (after after′ : List ℕ)
@@ -55,7 +120,7 @@ one-unique b e p r r′ after after′ a a′ =
     (a .number ∙ ap packedWritten same ∙ sym (a′ .number), a .appended .leaves ∙ ap leaves same ∙ sym (a′ .appended .leaves))
 
 as-unique :
-    (f : FoundElement) (b p : List ℕ) (r r′ : ℕ) (after after′ : List ℕ)
+    (f : MaybeElement) (b p : List ℕ) (r r′ : ℕ) (after after′ : List ℕ)
     → AppendedAs f b p r after
     → AppendedAs f b p r′ after′
     → (r ≡ r′) × (after ≡ after′)

@@ -1,4 +1,4 @@
--- Answers as one number.
+-- Answers as one number: that of 'What comes back', and 256 times what stands beside it.
 -- Assumes nothing.
 use Prim.Native.Nat.{ℕ, _+_, _*_}
 use mathlib.Core.Path.{_≡_}
@@ -7,13 +7,16 @@ use lib.ListN.{length}
 use Rattle.format.specs.Layout.{idOf}
 use Rattle.format.specs.Verdict.{Verdict}
 use Rattle.format.specs.Asked.{Gives}
-use Rattle.format.specs.Answers.{numberOf, valueOf}
+use Rattle.format.specs.Answers.{numberOf, valueOf, numberOfAsked, placeOfAsked}
 use Rattle.format.specs.declared.answers.Answer.{Answer}
 use Rattle.format.specs.declared.answers.Asked.{Asked}
 use Rattle.format.specs.declared.answers.Asked.the-variants.{Element, Refused as NotGiven}
 
+abbrev pub packs : ℕ → ℕ → ℕ
+packs number beside = number + 256 * beside
+
 abbrev pub packed : Answer → ℕ
-packed a = numberOf a + 256 * valueOf a
+packed a = packs (numberOf a) (valueOf a)
 
 -- the number of the verdict on a table
 pub record Checked (b : List ℕ) (r : ℕ) : Type 0 where
@@ -22,9 +25,12 @@ pub record Checked (b : List ℕ) (r : ℕ) : Type 0 where
   pub number : r ≡ packed answer
 
 -- the same of an element: beside 0 its identifier
+abbrev pub besideAsked : Asked → ℕ
+besideAsked (Element e) = idOf e
+besideAsked (NotGiven k p) = placeOfAsked (NotGiven k p)
+
 abbrev pub packedAsked : Asked → ℕ
-packedAsked (Element e) = 256 * idOf e
-packedAsked (NotGiven k p) = k + 256 * p
+packedAsked a = packs (numberOfAsked a) (besideAsked a)
 
 pub record AskedFor (b : List ℕ) (k r : ℕ) : Type 0 where
   pub answer : Asked

@@ -1,2 +1,5 @@
 pub mod Face
+pub mod Fields
+pub mod Places
+pub mod Blocks
 pub mod Writing

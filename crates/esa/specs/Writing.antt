@@ -1,6 +1,6 @@
 -- The writer's answers as one number, and the bytes that are left.
 -- Assumes nothing.
-use Prim.Native.Nat.{ℕ, _+_, _*_}
+use Prim.Native.Nat.{ℕ}
 use mathlib.Core.Path.{_≡_}
 use mathlib.Core.List.{List}
 use Rattle.format.specs.Answers.{numberOfWritten, valueOfWritten}
@@ -9,11 +9,12 @@ use Rattle.format.specs.declared.answers.Written.{Written}
 use Rattle.writer.specs.Calls.{Started, Appended}
 use Rattle.rewriting.specs.Again.{Rewritten}
 use Rattle.numbers.specs.From.{descriptionFrom, elementFrom}
-use Rattle.numbers.specs.declared.FoundElement.{FoundElement}
-use Rattle.numbers.specs.declared.FoundElement.the-variants.{Element as Found, Unknown}
+use Rattle.numbers.specs.declared.MaybeElement.{MaybeElement}
+use Rattle.numbers.specs.declared.MaybeElement.the-variants.{Element as Found, Unknown}
+use Rattle.esa.specs.Face.{packs}
 
 abbrev pub packedWritten : Written → ℕ
-packedWritten w = numberOfWritten w + 256 * valueOfWritten w
+packedWritten w = packs (numberOfWritten w) (valueOfWritten w)
 
 -- a table was started with the description in the numbers
 pub record StartedFor (b n : List ℕ) (r : ℕ) (after : List ℕ) : Type 0 where
@@ -28,7 +29,7 @@ pub record AppendedOne (b : List ℕ) (e : Element) (p : List ℕ) (r : ℕ) (af
   pub number : r ≡ packedWritten answer
 
 -- 7: 'identifier not in the list above'; then no byte is altered
-abbrev pub AppendedAs : FoundElement → List ℕ → List ℕ → ℕ → List ℕ → Type 0
+abbrev pub AppendedAs : MaybeElement → List ℕ → List ℕ → ℕ → List ℕ → Type 0
 AppendedAs (Found e) b p r after = AppendedOne b e p r after
 AppendedAs Unknown b p r after = (r ≡ 7) × (after ≡ b)
 

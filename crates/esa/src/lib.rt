@@ -1,41 +1,39 @@
 // The C face: numbers and byte slices. An answer leaves as one number: the number of 'What comes back' and 256 times what
 // stands beside it.
 ghost use mathlib.Core.Path.{_≡_};
-ghost use Prim.Native.Nat.{_≤_};
-ghost use Rattle.format.specs.Answers.{valueOf, placeOfAsked, valueOfWritten};
+ghost use Rattle.parts.specs.Inside.{blockIn, pairIn, listIn, listPairIn};
 ghost use Rattle.listing.specs.Lines.{Listed};
-ghost use Rattle.esa.specs.Face.{packed, Checked, packedAsked, AskedFor, PartFor};
-ghost use Rattle.esa.specs.Writing.{packedWritten, StartedFor, AppendedFor, RewrittenFor};
-use format::answers::Answer;
+ghost use Rattle.esa.specs.Face.{Checked, AskedFor, PartFor};
+ghost use Rattle.esa.specs.Fields.{DescribedFor, FieldsFor};
+ghost use Rattle.esa.specs.Places.{PlacedFor, TextPlaced, TextFor};
+ghost use Rattle.esa.specs.Blocks.{packedBlock, packedPair, packedEntries};
+ghost use Rattle.esa.specs.Writing.{StartedFor, AppendedFor, RewrittenFor};
 use format::answers::Asked;
-use format::answers::Written;
-use numbers::FoundElement;
+use format::answers::Described;
+use numbers::MaybeElement;
+use reader::Placed;
 
-fn pack(a: Answer) -> u64
-    requires { ⌜ valueOf a ≤ 4096 ⌝ }
-    ensures { λ r. ⌜ r ≡ packed a ⌝ }
-{
-    match a {
-        Answer::Accepted(n) => 256 * (n as u64),
-        Answer::Refused(k, p) => (k as u64) + 256 * (p as u64),
-    }
-}
+mod packing;
 
 // Beside 0 stands the number of elements, beside a refusal its place.
 #[no_mangle]
 pub extern "C" fn esa_check(table: &[u8]) -> u64
     ensures { λ r. ⌜ Checked (now (table .entry)) r ⌝ }
 {
-    pack(reader::check(table))
+    packing::answer(reader::check(table))
 }
 
-fn pack_asked(a: Asked) -> u64
-    requires { ⌜ placeOfAsked a ≤ 4096 ⌝ }
-    ensures { λ r. ⌜ r ≡ packedAsked a ⌝ }
+// The description's numbers, where the answer is 0; with a refusal the numbers are left as they were.
+#[no_mangle]
+pub extern "C" fn esa_describe(table: &[u8], numbers: &mut [u8; 32]) -> u64
+    ensures { λ r. ⌜ DescribedFor (now (table .entry)) (now (numbers .entry)) r (now (numbers .exit)) ⌝ }
 {
-    match a {
-        Asked::Element(e) => 256 * (elements::id_of(e) as u64),
-        Asked::Refused(k, p) => (k as u64) + 256 * (p as u64),
+    match reader::description(table) {
+        Described::Description(d) => {
+            *numbers = numbers::into::description(d);
+            0
+        }
+        Described::Refused(k, p) => packing::pack(k, p),
     }
 }
 
@@ -44,7 +42,21 @@ fn pack_asked(a: Asked) -> u64
 pub extern "C" fn esa_element(table: &[u8], k: usize) -> u64
     ensures { λ r. ⌜ AskedFor (now (table .entry)) k r ⌝ }
 {
-    pack_asked(reader::element(table, k))
+    packing::asked(reader::element(table, k))
+}
+
+// The same, and the numbers of element k where the answer is 0.
+#[no_mangle]
+pub extern "C" fn esa_fields(table: &[u8], k: usize, numbers: &mut [u8; 32]) -> u64
+    ensures { λ r. ⌜ FieldsFor (now (table .entry)) k (now (numbers .entry)) r (now (numbers .exit)) ⌝ }
+{
+    match reader::element(table, k) {
+        Asked::Element(e) => {
+            *numbers = numbers::into::element(e, reader::part(table, k));
+            packing::pack(0, words::wide(elements::id_of(e)))
+        }
+        Asked::Refused(j, p) => packing::pack(j, p),
+    }
 }
 
 // The length of the variable part of element k; 0 with a refusal.
@@ -56,14 +68,63 @@ pub extern "C" fn esa_part_length(table: &[u8], k: usize) -> usize
     part.len()
 }
 
-fn pack_written(w: Written) -> u64
-    requires { ⌜ valueOfWritten w ≤ 4096 ⌝ }
-    ensures { λ r. ⌜ r ≡ packedWritten w ⌝ }
+// Where the variable part of element k stands in the table, and how long it is.
+#[no_mangle]
+pub extern "C" fn esa_part(table: &[u8], k: usize) -> u64
+    ensures { λ r. ⌜ PlacedFor (now (table .entry)) k r ⌝ }
 {
-    match w {
-        Written::Length(n) => 256 * (n as u64),
-        Written::Refused(k, p) => (k as u64) + 256 * (p as u64),
+    match reader::part_place(table, k) {
+        Placed::At(p, n) => packing::span(p, n),
+        Placed::Refused(j, p) => packing::pack(j, p),
     }
+}
+
+// The same of the text of a string; 0 for an element that is none.
+#[no_mangle]
+pub extern "C" fn esa_text(table: &[u8], k: usize) -> u64
+    ensures { λ r. ⌜ TextFor (now (table .entry)) k r ⌝ }
+{
+    match reader::element(table, k) {
+        Asked::Element(e) => {
+            if elements::id_of(e) != 0x0c {
+                return 0;
+            }
+            text(table, k)
+        }
+        Asked::Refused(j, p) => packing::pack(j, p),
+    }
+}
+
+// 09h: SPEED and ENTRIES of speed block j of a part.
+#[no_mangle]
+pub extern "C" fn esa_block(part: &[u8], j: usize) -> u64
+    ensures { λ r. ⌜ r ≡ packedBlock (blockIn (now (part .entry)) j) ⌝ }
+{
+    packing::block(parts::block(part, j))
+}
+
+// 09h: address and data of register pair i of speed block j.
+#[no_mangle]
+pub extern "C" fn esa_pair(part: &[u8], j: usize, i: usize) -> u64
+    ensures { λ r. ⌜ r ≡ packedPair (pairIn (now (part .entry)) j i) ⌝ }
+{
+    packing::pair(parts::pair(part, j, i))
+}
+
+// 0Ah: ENTRIES of block w of a part, 0 or 1.
+#[no_mangle]
+pub extern "C" fn esa_entries(part: &[u8], w: usize) -> u64
+    ensures { λ r. ⌜ r ≡ packedEntries (listIn (now (part .entry)) w) ⌝ }
+{
+    packing::entries(parts::list(part, w))
+}
+
+// 0Ah: address and data of register pair i of block w.
+#[no_mangle]
+pub extern "C" fn esa_entry(part: &[u8], w: usize, i: usize) -> u64
+    ensures { λ r. ⌜ r ≡ packedPair (listPairIn (now (part .entry)) w i) ⌝ }
+{
+    packing::pair(parts::list_pair(part, w, i))
 }
 
 // Starts a table with the description in the numbers. Beside 0 stands the length, beside a refusal its place.
@@ -71,7 +132,7 @@ fn pack_written(w: Written) -> u64
 pub extern "C" fn esa_start(buffer: &mut [u8], numbers: &[u8; 32]) -> u64
     ensures { λ r. ⌜ StartedFor (now (buffer .entry)) (now (numbers .entry)) r (now (buffer .exit)) ⌝ }
 {
-    pack_written(writer::start(buffer, numbers::description_from(numbers)))
+    packing::written(writer::start(buffer, numbers::from::description(numbers)))
 }
 
 // Appends the element of this identifier in the numbers, with its variable part. Beside 0 stands the new length, beside a
@@ -80,9 +141,9 @@ pub extern "C" fn esa_start(buffer: &mut [u8], numbers: &[u8; 32]) -> u64
 pub extern "C" fn esa_append(buffer: &mut [u8], id: u8, numbers: &[u8; 32], part: &[u8]) -> u64
     ensures { λ r. ⌜ AppendedFor (now (buffer .entry)) id (now (numbers .entry)) (now (part .entry)) r (now (buffer .exit)) ⌝ }
 {
-    match numbers::element_from(id, numbers) {
-        FoundElement::Element(e) => pack_written(writer::append(buffer, e, part)),
-        FoundElement::Unknown => 7,
+    match numbers::from::element(id, numbers) {
+        MaybeElement::Element(e) => packing::written(writer::append(buffer, e, part)),
+        MaybeElement::Unknown => 7,
     }
 }
 
@@ -91,7 +152,7 @@ pub extern "C" fn esa_append(buffer: &mut [u8], id: u8, numbers: &[u8; 32], part
 pub extern "C" fn esa_rewrite(table: &[u8], out: &mut [u8]) -> u64
     ensures { λ r. ⌜ RewrittenFor (now (table .entry)) (now (out .entry)) r (now (out .exit)) ⌝ }
 {
-    pack_written(rewriting::rewrite(table, out))
+    packing::written(rewriting::rewrite(table, out))
 }
 
 // The listing of a table at the front of the buffer. The answer is its length in bytes.
@@ -100,4 +161,17 @@ pub extern "C" fn esa_list(table: &[u8], out: &mut [u8; 4096]) -> usize
     ensures { λ r. ⌜ Listed (now (table .entry)) (now (out .entry)) r (now (out .exit)) ⌝ }
 {
     listing::list(table, out)
+}
+
+// Where the text of element k stands if it is a string: at byte 3 of its part.
+fn text(table: &[u8], k: usize) -> u64
+    ensures { λ r. ⌜ TextPlaced (now (table .entry)) k r ⌝ }
+{
+    match reader::part_place(table, k) {
+        Placed::At(p, _) => {
+            let text = parts::text(reader::part(table, k));
+            packing::span(p + 3, text.len())
+        }
+        Placed::Refused(j, p) => packing::pack(j, p),
+    }
 }

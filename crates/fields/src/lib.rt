@@ -4,7 +4,7 @@ ghost use Prim.Native.Nat.{_+_, _<_, _≤_};
 ghost use lib.ListN.{length};
 ghost use lib.Dec.{eqb};
 ghost use Rattle.format.specs.Slots.{byte};
-ghost use Rattle.format.specs.Decode.{wordAt, readPlacement, pickAddress, readDigital, readAnalogue, readFan, readLamp, readLed, readCurrent, readDevice, readRgb, readDescription};
+ghost use Rattle.format.specs.Decode.{readPlacement, pickAddress, readDigital, readAnalogue, readFan, readLamp, readLed, readCurrent, readDevice, readRgb, readDescription};
 use format::pins::OptionalPin;
 use format::pins::Pin;
 use format::records::Address;
@@ -24,50 +24,8 @@ use format::units::Deciamps;
 use format::units::Degrees;
 use format::units::FourMilliamps;
 use format::units::Rpm;
-
-fn wide16(x: u8) -> u16
-    ensures { λ r. ⌜ (r ≡ x) × (r < 256) ⌝ }
-{
-    x as u16
-}
-
-fn wide32(x: u8) -> u32
-    ensures { λ r. ⌜ (r ≡ x) × (r < 256) ⌝ }
-{
-    x as u32
-}
-
-// The number in two bytes, lowest byte first.
-pub fn word(b: &[u8], i: usize) -> u16
-    requires { ⌜ i + 1 < length (now b) ⌝ }
-    ensures { λ r. ⌜ r ≡ wordAt (byte (now (b .entry))) i ⌝ }
-{
-    wide16(b[i]) + 256 * wide16(b[i + 1])
-}
-
-pub fn placement(b: &[u8]) -> Placement
-    requires { ⌜ 5 ≤ length (now b) ⌝ }
-    ensures { λ r. ⌜ r ≡ readPlacement (byte (now (b .entry))) ⌝ }
-{
-    Placement {
-        string: b[0],
-        x: Centimetres(b[1]),
-        y: Centimetres(b[2]),
-        z: Centimetres(b[3]),
-        zone: b[4],
-    }
-}
-
-// By the bus type: SPI has a chip select, every other code a bus address.
-fn address(bus: u8, b: u8) -> Address
-    ensures { λ r. ⌜ r ≡ pickAddress (eqb bus 3) b ⌝ }
-{
-    if bus == 3 {
-        Address::Select(Pin(b))
-    } else {
-        Address::Bus(b / 2)
-    }
-}
+use words::wide32;
+use words::word;
 
 // 01h
 pub fn digital(b: &[u8]) -> DigitalSensor
@@ -118,17 +76,6 @@ pub fn fan(b: &[u8]) -> PwmFan
         minrpm: Rpm(word(b, 8)),
         maxrpm: Rpm(word(b, 10)),
         duty: b[12],
-    }
-}
-
-fn lamp(b: &[u8], i: usize) -> Lamp
-    requires { ⌜ i + 1 < length (now b) ⌝ }
-    ensures { λ r. ⌜ r ≡ readLamp (byte (now (b .entry))) i ⌝ }
-{
-    Lamp {
-        pin: OptionalPin(b[i]),
-        colour: b[i + 1] / 16,
-        purpose: b[i + 1] % 16,
     }
 }
 
@@ -198,5 +145,41 @@ pub fn description(t: &[u8]) -> Description
         revision0: OptionalPin(t[9]),
         revision1: OptionalPin(t[10]),
         revision2: OptionalPin(t[11]),
+    }
+}
+
+// What every kind begins with.
+pub fn placement(b: &[u8]) -> Placement
+    requires { ⌜ 5 ≤ length (now b) ⌝ }
+    ensures { λ r. ⌜ r ≡ readPlacement (byte (now (b .entry))) ⌝ }
+{
+    Placement {
+        string: b[0],
+        x: Centimetres(b[1]),
+        y: Centimetres(b[2]),
+        z: Centimetres(b[3]),
+        zone: b[4],
+    }
+}
+
+// By the bus type: SPI has a chip select, every other code a bus address.
+fn address(bus: u8, b: u8) -> Address
+    ensures { λ r. ⌜ r ≡ pickAddress (eqb bus 3) b ⌝ }
+{
+    if bus == 3 {
+        Address::Select(Pin(b))
+    } else {
+        Address::Bus(b / 2)
+    }
+}
+
+fn lamp(b: &[u8], i: usize) -> Lamp
+    requires { ⌜ i + 1 < length (now b) ⌝ }
+    ensures { λ r. ⌜ r ≡ readLamp (byte (now (b .entry))) i ⌝ }
+{
+    Lamp {
+        pin: OptionalPin(b[i]),
+        colour: b[i + 1] / 16,
+        purpose: b[i + 1] % 16,
     }
 }

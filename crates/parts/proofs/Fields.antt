@@ -11,19 +11,16 @@ use lib.ListN.{length, drop, length-append, getElem?}
 use lib.Seq.{drop-at, getD-drop}
 use lib.Dec.{ltb, leb·suc-suc, leb·suc-zero}
 use borrow.Author.Tests.{le-leb, lt-ltb}
-use Rattle.format.specs.Slots.{Slot, byte, byteOf, written}
+use Rattle.format.specs.Slots.{byte, written}
 use Rattle.format.specs.Records.{Block}
 use Rattle.format.specs.Layout.{pairs, entries, blocks}
 use Rattle.format.specs.Decode.{wordAt, pairOf}
 use Rattle.format.specs.declared.records.RegisterPair.{RegisterPair}
-use Rattle.parts.specs.declared.FoundList.the-variants.{Entries}
+use Rattle.format.proofs.Whole.{written-append}
+use Rattle.parts.specs.declared.MaybeEntries.the-variants.{Entries}
 use Rattle.parts.specs.Inside.{whenPair, wholeList, afterList, listAt, pairAt, withSpeed, blockAt, blocksFrom, listsFrom, blockIn, pairIn, listIn, listPairIn}
 use Rattle.parts.specs.Fields.{blockField, pairField, blockPairField, listOf, listField, listPairField}
 use Rattle.parts.proofs.Reading.{none-left}
-
-written-append : (ss ts : List Slot) → written (ss ++ ts) ≡ written ss ++ written ts
-written-append [] ts = refl
-written-append (s ∷ ss) ts = ap {B = List ℕ} (λ r. byteOf s ∷ r) (written-append ss ts)
 
 length-pairs : (ps : List RegisterPair) → length (written (pairs ps)) ≡ 4 * length ps
 length-pairs [] = refl

@@ -7,53 +7,27 @@ use mathlib.Core.Bool.{Bool, true, false}
 use mathlib.Core.List.{List, [], _∷_}
 use lib.ListN.{length, take, drop, length-drop, drop-of-length-le}
 use lib.Seq.{take-all, drop-length}
-use lib.Dec.{leb}
 use borrow.Author.Tests.{leb-true, lt-ltb, le-ltb}
 use Rattle.format.specs.Slots.{byte}
 use Rattle.format.specs.Decode.{wordAt, pairOf}
-use Rattle.parts.specs.declared.FoundBlock.the-variants.{Nothing as NoBlock}
-use Rattle.parts.specs.declared.FoundList.{FoundList}
-use Rattle.parts.specs.declared.FoundPair.the-variants.{Pair, Nothing as NoPair}
+use Rattle.parts.specs.declared.MaybeEntries.{MaybeEntries}
+use Rattle.parts.specs.declared.MaybePair.the-variants.{Pair, Nothing as NoPair}
 use Rattle.parts.specs.Inside.{wholeList, afterList, listAt, pairAt, withSpeed, blockAt, blocksFrom, listsFrom}
 
 -- the rest of a slice from n on
 pub rest : (n : ℕ) (l : List ℕ) → take (length l - n) (drop n l) ≡ drop n l
 rest n l = take-all (length l - n) (drop n l) (omega (arith, length-drop n l))
 
--- nothing stands in no bytes
-pub none-whole : (q : List ℕ) → length q ≡ 0 → false ≡ wholeList q
-none-whole [] h = refl
-none-whole (x ∷ q) h = absurd (omega arith)
+pub past-end : (n : ℕ) (l : List ℕ) → length l < n → take (length l - length l) (drop (length l) l) ≡ drop n l
+past-end n l h = rest (length l) l ∙ drop-length l ∙ sym (drop-of-length-le l {i = n} (omega arith))
 
-pub none-after : (q : List ℕ) → length q ≡ 0 → q ≡ afterList q
-none-after [] h = refl
-none-after (x ∷ q) h = absurd (omega arith)
-
-pub none-dropped : (r : List ℕ) → length r ≡ 0 → r ≡ drop 1 r
-none-dropped [] h = refl
-none-dropped (x ∷ r) h = absurd (omega arith)
-
-pub no-block : (r : List ℕ) → length r ≡ 0 → NoBlock ≡ blockAt r
-no-block [] h = refl
-no-block (x ∷ r) h = absurd (omega arith)
-
+-- none are left where there are none
 pub none-left : (r : List ℕ) (j : ℕ) → length r ≡ 0 → r ≡ blocksFrom r j
 none-left r zero h = refl
 none-left [] (suc j) h = none-left [] j h
 none-left (x ∷ r) (suc j) h = absurd (omega arith)
 
--- ENTRIES, as the code has it, and the pairs after it
-module _ (q : List ℕ) (k : ℕ) (e : k ≡ byte q 0) where
-  pub by-entries : leb (1 + 4 * k) (length q) ≡ wholeList q
-  by-entries = rw e refl
-
-  pub after-short : length q < 1 + 4 * k → take (length q - length q) (drop (length q) q) ≡ afterList q
-  after-short h =
-      rest (length q) q ∙ drop-length q ∙ sym (drop-of-length-le q {i = 1 + 4 * byte q 0} (omega (arith, e)))
-
-  pub after-size : take (length q - (1 + 4 * k)) (drop (1 + 4 * k) q) ≡ afterList q
-  after-size = rest (1 + 4 * k) q ∙ rw e refl
-
+-- a list that is whole
 pub whole-long : (q : List ℕ) {t : Bool} → t ≡ wholeList q → t ≡ true → 1 + 4 * byte q 0 ≤ length q
 whole-long q e h = leb-true (1 + 4 * byte q 0) (length q) (sym e ∙ h)
 
@@ -77,8 +51,9 @@ module _ (q : List ℕ) (i : ℕ) where
         rw (sym w ∙ h, lt-ltb i (byte q 0) (omega (arith, e)), m, n, z) refl
 
 -- a speed block by its list
-pub with-speed : (r q : List ℕ) (f : FoundList) → q ≡ drop 1 r → f ≡ listAt q → withSpeed (byte r 0) f ≡ blockAt r
-with-speed r q f e h = rw (h, e) refl
+pub with-speed :
+    (r q : List ℕ) (f : MaybeEntries) {s : ℕ} → s ≡ byte r 0 → q ≡ drop 1 r → f ≡ listAt q → withSpeed s f ≡ blockAt r
+with-speed r q f b e h = rw (b, h, e) refl
 
 -- one block more behind
 pub turn : (r q s : List ℕ) (j : ℕ) → 0 < j → q ≡ drop 1 r → s ≡ afterList q → blocksFrom s (j - 1) ≡ blocksFrom r j
@@ -89,8 +64,7 @@ turn r q s (suc j) h d e = let z : suc j - 1 ≡ j = omega arith in rw (z, e, d)
 pub second : (bs : List ℕ) (w : ℕ) {s : List ℕ} → w ≡ 1 → s ≡ afterList bs → s ≡ listsFrom bs w
 second bs w h e = rw h e
 
-pub no-third :
-    (bs : List ℕ) (w : ℕ) → (w ≡ 0 → ⊥) → (w ≡ 1 → ⊥) → take (length bs - length bs) (drop (length bs) bs) ≡ listsFrom bs w
-no-third bs zero h g = absurd (h refl)
-no-third bs (suc zero) h g = absurd (g refl)
-no-third bs (suc (suc w)) h g = rest (length bs) bs ∙ drop-length bs
+pub no-third : (bs : List ℕ) (w : ℕ) {s : List ℕ} → (w ≡ 0 → ⊥) → (w ≡ 1 → ⊥) → s ≡ drop (length bs) bs → s ≡ listsFrom bs w
+no-third bs zero h g e = absurd (h refl)
+no-third bs (suc zero) h g e = absurd (g refl)
+no-third bs (suc (suc w)) h g e = e ∙ drop-length bs

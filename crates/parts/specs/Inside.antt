@@ -8,19 +8,19 @@ use lib.Dec.{ltb, leb}
 use Rattle.format.specs.Slots.{byte}
 use Rattle.format.specs.Decode.{wordAt, pairOf}
 use Rattle.format.specs.declared.records.RegisterPair.{RegisterPair}
-use Rattle.parts.specs.declared.FoundBlock.{FoundBlock}
-use Rattle.parts.specs.declared.FoundBlock.the-variants.{Block, Nothing as NoBlock}
-use Rattle.parts.specs.declared.FoundPair.{FoundPair}
-use Rattle.parts.specs.declared.FoundPair.the-variants.{Pair, Nothing as NoPair}
-use Rattle.parts.specs.declared.FoundList.{FoundList}
-use Rattle.parts.specs.declared.FoundList.the-variants.{Entries, Nothing as NoList}
+use Rattle.parts.specs.declared.MaybeBlock.{MaybeBlock}
+use Rattle.parts.specs.declared.MaybeBlock.the-variants.{Block, Nothing as NoBlock}
+use Rattle.parts.specs.declared.MaybePair.{MaybePair}
+use Rattle.parts.specs.declared.MaybePair.the-variants.{Pair, Nothing as NoPair}
+use Rattle.parts.specs.declared.MaybeEntries.{MaybeEntries}
+use Rattle.parts.specs.declared.MaybeEntries.the-variants.{Entries, Nothing as NoList}
 
 -- an answer where a test holds
-abbrev pub whenList : Bool → ℕ → FoundList
+abbrev pub whenList : Bool → ℕ → MaybeEntries
 whenList true n = Entries n
 whenList false n = NoList
 
-abbrev pub whenPair : Bool → RegisterPair → FoundPair
+abbrev pub whenPair : Bool → RegisterPair → MaybePair
 whenPair true p = Pair p
 whenPair false p = NoPair
 
@@ -33,19 +33,19 @@ abbrev pub afterList : List ℕ → List ℕ
 afterList q = drop (1 + 4 * byte q 0) q
 
 -- how many pairs they are
-abbrev pub listAt : List ℕ → FoundList
+abbrev pub listAt : List ℕ → MaybeEntries
 listAt q = whenList (wholeList q) (byte q 0)
 
 -- pair i of them: its address and its data, two bytes each
-abbrev pub pairAt : List ℕ → ℕ → FoundPair
+abbrev pub pairAt : List ℕ → ℕ → MaybePair
 pairAt q i = whenPair (wholeList q && ltb i (byte q 0)) (pairOf (wordAt (byte q) (1 + 4 * i)) (wordAt (byte q) (3 + 4 * i)))
 
 -- a speed block is SPEED and then ENTRIES and its pairs
-abbrev pub withSpeed : ℕ → FoundList → FoundBlock
+abbrev pub withSpeed : ℕ → MaybeEntries → MaybeBlock
 withSpeed s (Entries n) = Block (record { speed = record { 0 = s }; entries = n })
 withSpeed s NoList = NoBlock
 
-abbrev pub blockAt : List ℕ → FoundBlock
+abbrev pub blockAt : List ℕ → MaybeBlock
 blockAt r = withSpeed (byte r 0) (listAt (drop 1 r))
 
 -- the bytes past one speed block; none where it does not stand whole
@@ -58,10 +58,10 @@ blocksFrom bs zero = bs
 blocksFrom bs (suc j) = blocksFrom (afterBlock bs) j
 
 -- 09h: speed block j, and register pair i of it
-abbrev pub blockIn : List ℕ → ℕ → FoundBlock
+abbrev pub blockIn : List ℕ → ℕ → MaybeBlock
 blockIn bs j = blockAt (blocksFrom bs j)
 
-abbrev pub pairIn : List ℕ → ℕ → ℕ → FoundPair
+abbrev pub pairIn : List ℕ → ℕ → ℕ → MaybePair
 pairIn bs j i = pairAt (drop 1 (blocksFrom bs j)) i
 
 -- the bytes from the first block of 0Ah on, from the second, and there is no third
@@ -71,8 +71,8 @@ listsFrom bs (suc zero) = afterList bs
 listsFrom bs (suc (suc w)) = []
 
 -- 0Ah: how many register pairs block w has, and pair i of it
-abbrev pub listIn : List ℕ → ℕ → FoundList
+abbrev pub listIn : List ℕ → ℕ → MaybeEntries
 listIn bs w = listAt (listsFrom bs w)
 
-abbrev pub listPairIn : List ℕ → ℕ → ℕ → FoundPair
+abbrev pub listPairIn : List ℕ → ℕ → ℕ → MaybePair
 listPairIn bs w i = pairAt (listsFrom bs w) i

@@ -4,8 +4,8 @@ use denote.Ref.{now}
 use native.Mathlib.Omega.{arith}
 use mathlib.Core.Path.{_≡_, refl, _∙_}
 use Rattle.parts.specs.Inside.{blocksFrom}
-use borrow.Author.Needs.{needs}
 use Rattle.parts.proofs.Reading.{none-left, turn}
+use borrow.Author.Needs.{needs}
 use Rattle.parts.proofs.blocks_from.Statement.{statement}
 use Rattle.parts.proofs.blocks_from.Tie as tie
 
@@ -15,33 +15,16 @@ Inv-loop part j r₀ left₀ r left = blocksFrom r left ≡ blocksFrom part j
 abbrev μ-loop : tie.MeasureT-loop
 μ-loop part j r₀ left₀ r left = left
 
-loop-holds : tie.Need-loop-holds Inv-loop μ-loop
-loop-holds c = refl
-
 returns : tie.Need-returns Inv-loop μ-loop
 returns c =
     let l = c .before .before .loop in
     none-left (now (l .r)) (l .left) (c .if1 .taken) ∙ l .inv
 
-after-speed-requires : tie.Need-after-speed-requires Inv-loop μ-loop
-after-speed-requires c κs = search needs
-
-after-list-requires : tie.Need-after-list-requires Inv-loop μ-loop
-after-list-requires c κs = search needs
-
-sub-left : tie.Need-sub-left Inv-loop μ-loop
-sub-left c = omega arith
-
-loop-less : tie.Need-loop-less Inv-loop μ-loop
-loop-less c = omega arith
-
 loop-again : tie.Need-loop-again Inv-loop μ-loop
 loop-again c =
     let l = c .before .before .before .before .loop in
-    let s = c .before .after-speed in
-    turn (now (l .r)) (now (s .result)) (now (c .after-list .result)) (l .left) (c .before .before .before .loop-test .taken)
-    (s .ensures)
-    (c .after-list .ensures)
+    let s = c .before .past in
+    turn (now (l .r)) (now (s .result)) (now (c .after-list .result)) (l .left) (c .before .before .before .loop-test .taken) (s .ensures) (c .after-list .ensures)
     ∙ l .inv
 
 returns-2 : tie.Need-returns-2 Inv-loop μ-loop
@@ -51,16 +34,4 @@ returns-2 c =
     rw e at (l .inv)
 
 pub blocks-from-spec : {M : Type 1} → statement M
-blocks-from-spec =
-    tie.close
-    (tie.spec
-    Inv-loop
-    μ-loop
-    loop-holds
-    returns
-    after-speed-requires
-    after-list-requires
-    sub-left
-    loop-less
-    loop-again
-    returns-2)
+blocks-from-spec = tie.close (tie.spec Inv-loop μ-loop (λ c. refl) returns (λ c κs. search needs) (λ c κs. search needs) (omega arith) (omega arith) loop-again returns-2)

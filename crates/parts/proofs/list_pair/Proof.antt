@@ -5,14 +5,8 @@ use borrow.Author.Needs.{needs}
 use Rattle.parts.proofs.list_pair.Statement.{statement}
 use Rattle.parts.proofs.list_pair.Tie as tie
 
-lists-from-requires : tie.Need-lists-from-requires
-lists-from-requires c κs = search needs
-
-pair-at-requires : tie.Need-pair-at-requires
-pair-at-requires c κs = search needs
-
 returns : tie.Need-returns
 returns c = rw (c .pair-at .ensures, c .before .lists-from .ensures) refl
 
 pub list-pair-spec : {M : Type 1} → statement M
-list-pair-spec = tie.close (tie.spec lists-from-requires pair-at-requires returns)
+list-pair-spec = tie.close (tie.spec (λ c κs. search needs) (λ c κs. search needs) returns)

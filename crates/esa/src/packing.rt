@@ -1,0 +1,93 @@
+// Answers as one number: the number of 'What comes back', and 256 times what stands beside it.
+ghost use mathlib.Core.Path.{_≡_};
+ghost use Prim.Native.Nat.{_+_, _≤_, _<_};
+ghost use Rattle.format.specs.Answers.{valueOf, placeOfAsked, valueOfWritten};
+ghost use Rattle.esa.specs.Face.{packs, packed, packedAsked};
+ghost use Rattle.esa.specs.Places.{span as spanOf};
+ghost use Rattle.esa.specs.Blocks.{packedBlock, packedPair, packedEntries};
+ghost use Rattle.esa.specs.Writing.{packedWritten};
+use format::answers::Answer;
+use format::answers::Asked;
+use format::answers::Written;
+use parts::MaybeBlock;
+use parts::MaybeEntries;
+use parts::MaybePair;
+
+// Of a check: beside 0 the number of elements.
+pub fn answer(a: Answer) -> u64
+    requires { ⌜ valueOf a ≤ 4096 ⌝ }
+    ensures { λ r. ⌜ r ≡ packed a ⌝ }
+{
+    match a {
+        Answer::Accepted(n) => pack(0, n),
+        Answer::Refused(k, p) => pack(k, p),
+    }
+}
+
+// Of an element: beside 0 its identifier.
+pub fn asked(a: Asked) -> u64
+    requires { ⌜ placeOfAsked a ≤ 4096 ⌝ }
+    ensures { λ r. ⌜ r ≡ packedAsked a ⌝ }
+{
+    match a {
+        Asked::Element(e) => pack(0, words::wide(elements::id_of(e))),
+        Asked::Refused(k, p) => pack(k, p),
+    }
+}
+
+// Of the writer: beside 0 the new length.
+pub fn written(w: Written) -> u64
+    requires { ⌜ valueOfWritten w ≤ 4096 ⌝ }
+    ensures { λ r. ⌜ r ≡ packedWritten w ⌝ }
+{
+    match w {
+        Written::Length(n) => pack(0, n),
+        Written::Refused(k, p) => pack(k, p),
+    }
+}
+
+// A place and a length in the table, beside 0.
+pub fn span(place: usize, len: usize) -> u64
+    requires { ⌜ (place ≤ 4099) × (len ≤ 4096) ⌝ }
+    ensures { λ r. ⌜ r ≡ spanOf place len ⌝ }
+{
+    pack(0, place + 65536 * len)
+}
+
+// SPEED and ENTRIES.
+pub fn block(b: MaybeBlock) -> u64
+    ensures { λ r. ⌜ r ≡ packedBlock b ⌝ }
+{
+    match b {
+        MaybeBlock::Block(s) => pack(0, words::wide(s.speed.0) + 256 * words::wide(s.entries)),
+        MaybeBlock::Nothing => 17,
+    }
+}
+
+// Address and data.
+pub fn pair(p: MaybePair) -> u64
+    ensures { λ r. ⌜ r ≡ packedPair p ⌝ }
+{
+    match p {
+        MaybePair::Pair(q) => pack(0, (q.address as usize) + 65536 * (q.data as usize)),
+        MaybePair::Nothing => 17,
+    }
+}
+
+// ENTRIES.
+pub fn entries(e: MaybeEntries) -> u64
+    ensures { λ r. ⌜ r ≡ packedEntries e ⌝ }
+{
+    match e {
+        MaybeEntries::Entries(n) => pack(0, words::wide(n)),
+        MaybeEntries::Nothing => 17,
+    }
+}
+
+// Under 2 to the 56th there is room for what stands beside.
+pub fn pack(number: u8, beside: usize) -> u64
+    requires { ⌜ beside < 72057594037927936 ⌝ }
+    ensures { λ r. ⌜ r ≡ packs number beside ⌝ }
+{
+    (number as u64) + 256 * (beside as u64)
+}

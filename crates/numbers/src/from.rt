@@ -1,0 +1,149 @@
+// From the numbers to the record, one function a kind. The bytes that a kind does not use are not looked at. The numbers of 03h and
+// 0Eh are laid out as the element's bytes after its header, so that `fields` reads them.
+ghost use mathlib.Core.Path.{_≡_};
+ghost use Prim.Native.Nat.{_<_};
+ghost use lib.Dec.{eqb};
+ghost use Rattle.format.specs.Slots.{byte};
+ghost use Rattle.numbers.specs.From.{addressFrom, digitalFrom, analogueFrom, lampFrom, ledFrom, currentFrom, deviceFrom, descriptionFrom, elementFrom};
+use crate::MaybeElement;
+use fields::placement;
+use format::pins::OptionalPin;
+use format::pins::Pin;
+use format::records::Address;
+use format::records::AnalogueSensor;
+use format::records::BusDevice;
+use format::records::CurrentSensor;
+use format::records::Description;
+use format::records::DigitalSensor;
+use format::records::Element;
+use format::records::Lamp;
+use format::records::StatusLed;
+use format::units::Counts;
+use format::units::Deciamps;
+use format::units::Degrees;
+use format::units::FourMilliamps;
+use words::long;
+use words::word;
+
+pub fn description(n: &[u8; 32]) -> Description
+    ensures { λ r. ⌜ r ≡ descriptionFrom (now (n .entry)) ⌝ }
+{
+    Description {
+        device: n[0],
+        string: n[1],
+        serial: long(n, 2),
+        spwr: n[6] != 0,
+        power: FourMilliamps(n[7]),
+        revision0: OptionalPin(n[8]),
+        revision1: OptionalPin(n[9]),
+        revision2: OptionalPin(n[10]),
+    }
+}
+
+pub fn element(id: u8, n: &[u8; 32]) -> MaybeElement
+    ensures { λ r. ⌜ r ≡ elementFrom id (now (n .entry)) ⌝ }
+{
+    match id {
+        1 => MaybeElement::Element(Element::Digital(digital(n))),
+        2 => MaybeElement::Element(Element::Analogue(analogue(n))),
+        3 => MaybeElement::Element(Element::Fan(fields::fan(n))),
+        4 => MaybeElement::Element(Element::Led(led(n))),
+        8 => MaybeElement::Element(Element::Current(current(n))),
+        9 => MaybeElement::Element(Element::Controller(device(n))),
+        10 => MaybeElement::Element(Element::Tachometer(device(n))),
+        11 => MaybeElement::Element(Element::Zone),
+        12 => MaybeElement::Element(Element::Text),
+        14 => MaybeElement::Element(Element::Rgb(fields::rgb(n))),
+        _ => MaybeElement::Unknown,
+    }
+}
+
+// 01h
+fn digital(n: &[u8; 32]) -> DigitalSensor
+    ensures { λ r. ⌜ r ≡ digitalFrom (byte (now (n .entry))) ⌝ }
+{
+    DigitalSensor {
+        placement: placement(n),
+        bus: n[5],
+        address: address(n[6], n[7]),
+        lsb: word(n, 8),
+        msb: word(n, 10),
+        minvalue: word(n, 12),
+        mintemp: Degrees(n[14]),
+        maxvalue: word(n, 15),
+        maxtemp: Degrees(n[17]),
+    }
+}
+
+// 02h
+fn analogue(n: &[u8; 32]) -> AnalogueSensor
+    ensures { λ r. ⌜ r ≡ analogueFrom (byte (now (n .entry))) ⌝ }
+{
+    AnalogueSensor {
+        placement: placement(n),
+        thermal: n[5],
+        pin: Pin(n[6]),
+        at0: Counts(word(n, 7)),
+        at25: Counts(word(n, 9)),
+        at50: Counts(word(n, 11)),
+        at75: Counts(word(n, 13)),
+        at100: Counts(word(n, 15)),
+    }
+}
+
+// 04h
+fn led(n: &[u8; 32]) -> StatusLed
+    ensures { λ r. ⌜ r ≡ ledFrom (byte (now (n .entry))) ⌝ }
+{
+    StatusLed {
+        placement: placement(n),
+        one: lamp(n, 5),
+        two: lamp(n, 8),
+        three: lamp(n, 11),
+    }
+}
+
+// 08h
+fn current(n: &[u8; 32]) -> CurrentSensor
+    ensures { λ r. ⌜ r ≡ currentFrom (byte (now (n .entry))) ⌝ }
+{
+    CurrentSensor {
+        placement: placement(n),
+        pin: Pin(n[5]),
+        imin: Deciamps(word(n, 6)),
+        imax: Deciamps(word(n, 8)),
+    }
+}
+
+// 09h and 0Ah, before their blocks
+fn device(n: &[u8; 32]) -> BusDevice
+    ensures { λ r. ⌜ r ≡ deviceFrom (byte (now (n .entry))) ⌝ }
+{
+    BusDevice {
+        placement: placement(n),
+        bus: n[5],
+        address: address(n[6], n[7]),
+    }
+}
+
+fn lamp(n: &[u8; 32], i: usize) -> Lamp
+    requires { ⌜ i < 30 ⌝ }
+    ensures { λ r. ⌜ r ≡ lampFrom (byte (now (n .entry))) i ⌝ }
+{
+    Lamp {
+        pin: OptionalPin(n[i]),
+        colour: n[i + 1],
+        purpose: n[i + 2],
+    }
+}
+
+// 0 is a bus address, any other kind a chip select pin.
+fn address(kind: u8, a: u8) -> Address
+    ensures { λ r. ⌜ r ≡ addressFrom (eqb kind 0) a ⌝ }
+{
+    if kind == 0 {
+        Address::Bus(a)
+    } else {
+        Address::Select(Pin(a))
+    }
+}
