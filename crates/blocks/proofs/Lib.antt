@@ -1,5 +1,4 @@
-pub mod SixBlocks
-pub mod Cutting
-pub mod TwoBlocks
-pub mod Bound
-pub mod Shaped
+pub mod Exactly
+pub mod Stepping
+pub mod EachKind
+pub mod Faults

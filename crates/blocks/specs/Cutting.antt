@@ -1,46 +1,62 @@
--- The cut into blocks, one block at a time, and what it says of the reader's cut.
+-- The cut of a part into blocks, from one ENTRIES byte to the next, and what it is to say of the blocks that the reader finds.
 -- Assumes nothing.
-use Prim.Native.Nat.{ℕ, zero, suc, _+_, _*_, _<_, _≤_}
+use Prim.Native.Nat.{ℕ, zero, suc, _+_, _*_, _≤_}
 use mathlib.Core.Path.{_≡_}
 use mathlib.Core.Bool.{Bool, true, false, _&&_, not}
 use mathlib.Core.List.{List}
 use mathlib.Core.Option.{Option, none, some}
-use lib.ListN.{length, getD}
-use lib.Dec.{eqb, ltb}
+use lib.ListN.{length, drop}
+use lib.Dec.{eqb, ltb, leb}
+use Rattle.format.specs.Slots.{byte}
 use Rattle.format.specs.Records.{Block}
 use Rattle.format.specs.Rules.{filled}
-use Rattle.format.specs.Decode.{cutBlocks, cutTwo}
-use Rattle.format.specs.declared.records.RegisterPair.{RegisterPair}
+use Rattle.format.specs.Decode.{bind, whenNil, cutEntries, cutBlocks}
 use Rattle.blocks.specs.declared.Cut.{Cut}
+use Rattle.blocks.specs.declared.Part.{Part}
 
-abbrev pub pick : Bool → ℕ → ℕ → ℕ
-pick true a b = a
-pick false a b = b
+abbrev pub cut : ℕ → ℕ → Bool → Cut
+cut at n f = record { at = at; blocks = n; full = f }
+
+-- the step: past an ENTRIES byte, its pairs and what stands before the next one; where none is there nothing moves
+abbrev pub enter : Bool → ℕ → ℕ → Cut → Cut
+enter true lead x c = cut (c .at + 1 + lead + 4 * x) (c .blocks + 1) (c .full && not (eqb x 0))
+enter false lead x c = cut (c .at) (c .blocks) (c .full)
 
 -- past one block more, where there is one
-unfoldable pub pastBlock : List ℕ → Cut → Cut
-pastBlock b c =
-    let more = ltb (c .at) (length b) in
-    let k = getD b (pick more (c .at) 1) 0 in
-    record { at = pick more (c .at + 2 + 4 * k) (c .at); full = c .full && not (eqb k 0) }
+abbrev pub pastBlock : ℕ → List ℕ → Cut → Cut
+pastBlock lead p c = enter (ltb (c .at) (length p)) lead (byte p (c .at)) c
 
-abbrev pub cutFrom : ℕ → List ℕ → Cut → Cut
-cutFrom zero b c = c
-cutFrom (suc n) b c = cutFrom n b (pastBlock b c)
+-- past so many at most, and so from the first one on
+abbrev pub cutFrom : ℕ → ℕ → List ℕ → Cut → Cut
+cutFrom zero lead p c = c
+cutFrom (suc n) lead p c = cutFrom n lead p (pastBlock lead p c)
 
-abbrev pub cutSix : List ℕ → Cut
-cutSix b = cutFrom 6 b (record { at = 1; full = true })
+abbrev pub cutOf : ℕ → ℕ → List ℕ → Cut
+cutOf n lead p = cutFrom n lead p (cut lead 0 true)
 
--- at most n blocks more: they fill the bytes, and are filled themselves, or there are more of them or none
-pub record Out (n : ℕ) (f : Bool) (r : Cut) (len : ℕ) (o : Option (List Block)) : Type 0 where
-  pub good : r .at ≡ len + 1 → (l : List Block) × (o ≡ some l) × (length l ≤ n) × (r .full ≡ f && filled l)
-  pub bad : (r .at ≡ len + 1 → ⊥) → (l : List Block) → o ≡ some l → n < length l
+-- 8: the cut ends there, and its blocks are as many as there may be
+abbrev pub fills : Cut → ℕ → ℕ → ℕ → Bool
+fills c end least most = eqb (c .at) end && (leb least (c .blocks) && leb (c .blocks) most)
 
--- 09h: the speed blocks of a part
-abbrev pub CutIs : List ℕ → Cut → Type 0
-CutIs p r = Out 6 true r (length p) (cutBlocks (length p) p)
+-- bytes that so many blocks fill, each of them after `lead` bytes more: whether each has a pair
+abbrev pub exact : ℕ → ℕ → List ℕ → Option Bool
+exact zero lead bs = whenNil bs true
+exact (suc n) lead bs =
+    bind (cutEntries (drop lead bs)) (λ c. bind (exact n lead (c .1)) (λ t. some (leb 1 (length (c .0)) && t)))
 
--- 0Ah: the two blocks of a part
-pub record TwoIs (p : List ℕ) (r : Bool) : Type 0 where
-  pub good : r ≡ true → (t : List RegisterPair × List RegisterPair) × (cutTwo p ≡ some t)
-  pub bad : r ≡ false → cutTwo p ≡ none
+abbrev pub isSome : {A : Type 0} → Option A → Bool
+isSome none = false
+isSome (some a) = true
+
+-- what a part is to say of speed blocks, where there are such
+abbrev pub SpeedsAre : Part → Option (List Block) → Type 0
+SpeedsAre r none = r .whole ≡ false
+SpeedsAre r (some l) = (r .whole ≡ leb 1 (length l) && leb (length l) 6) × (r .whole ≡ true → r .full ≡ filled l)
+
+-- 09h: its speed blocks, under each bound that the bytes do not pass
+abbrev pub SpeedPart : List ℕ → Part → Type 0
+SpeedPart p r = (m : ℕ) → length p ≤ m → SpeedsAre r (cutBlocks m p)
+
+-- 0Ah: so many blocks of ENTRIES and pairs, which may have none
+abbrev pub PairsPart : ℕ → List ℕ → Part → Type 0
+PairsPart n p r = (r .whole ≡ isSome (exact n 0 p)) × (r .full ≡ true)

@@ -1,14 +1,16 @@
 // What the writer asks of a record before it writes: 25, and 8, 9 and 10 of an element with its part. 8, 9 and 10 are found by
 // the functions that the reader calls too.
 ghost use mathlib.Core.Path.{_≡_};
+ghost use mathlib.Core.Bool.{true, false};
 ghost use lib.ListN.{length};
 ghost use lib.Dec.{eqb};
 ghost use Rattle.format.specs.Slots.{halves, roomy, allRoomy};
 ghost use Rattle.format.specs.Layout.{device};
-ghost use Rattle.format.specs.Rules.{numbered, descriptionHeld, held};
+ghost use Rattle.format.specs.Rules.{numbered, descriptionRoomy, elementRoomy};
 ghost use Rattle.format.specs.Writing.{partBreaks};
-ghost use Rattle.format.specs.declared.records.Element.the-variants.{Digital, Analogue, Led, Controller, Tachometer, Zone, Text};
-ghost use Rattle.rules.specs.Broken.{orElse};
+ghost use Rattle.format.specs.declared.records.Element.the-variants.{Digital, Analogue, Led, Controller, Tachometer};
+ghost use Rattle.rules.specs.Broken.{orElse, DeviceBreaks};
+use blocks::Part;
 use format::records::Address;
 use format::records::AnalogueSensor;
 use format::records::BusDevice;
@@ -19,14 +21,14 @@ use format::records::Lamp;
 use format::records::StatusLed;
 
 // 25 of the description: no number is too large for its field.
-pub fn description_held(d: Description) -> bool
-    ensures { λ r. ⌜ r ≡ descriptionHeld d ⌝ }
+pub fn description_roomy(d: Description) -> bool
+    ensures { λ r. ⌜ r ≡ descriptionRoomy d ⌝ }
 {
     (d.serial < 0x1000000) & (d.power.0 < 128)
 }
 
 // Of a bus type and an address.
-fn address_held(bus: u8, a: Address) -> bool
+fn address_roomy(bus: u8, a: Address) -> bool
     ensures { λ r. ⌜ r ≡ allRoomy (device bus a) ⌝ }
 {
     match a {
@@ -36,57 +38,57 @@ fn address_held(bus: u8, a: Address) -> bool
 }
 
 // 01h
-fn digital_held(d: DigitalSensor) -> bool
-    ensures { λ r. ⌜ r ≡ held (Digital d) ⌝ }
+fn digital_roomy(d: DigitalSensor) -> bool
+    ensures { λ r. ⌜ r ≡ elementRoomy (Digital d) ⌝ }
 {
     let a = d.address;
-    address_held(d.bus, a)
+    address_roomy(d.bus, a)
 }
 
 // 02h
-fn analogue_held(a: AnalogueSensor) -> bool
-    ensures { λ r. ⌜ r ≡ held (Analogue a) ⌝ }
+fn analogue_roomy(a: AnalogueSensor) -> bool
+    ensures { λ r. ⌜ r ≡ elementRoomy (Analogue a) ⌝ }
 {
     a.thermal < 16
 }
 
 // COLOR and PURPOSE of one lamp.
-fn lamp_held(l: Lamp) -> bool
+fn lamp_roomy(l: Lamp) -> bool
     ensures { λ r. ⌜ r ≡ roomy (halves (l .colour) (l .purpose)) ⌝ }
 {
     (l.colour < 16) & (l.purpose < 16)
 }
 
 // 04h
-fn led_held(l: StatusLed) -> bool
-    ensures { λ r. ⌜ r ≡ held (Led l) ⌝ }
+fn led_roomy(l: StatusLed) -> bool
+    ensures { λ r. ⌜ r ≡ elementRoomy (Led l) ⌝ }
 {
     let a = l.one;
     let b = l.two;
     let c = l.three;
-    lamp_held(a) & (lamp_held(b) & lamp_held(c))
+    lamp_roomy(a) & (lamp_roomy(b) & lamp_roomy(c))
 }
 
 // 09h and 0Ah
-fn device_held(d: BusDevice) -> bool
-    ensures { λ r. ⌜ (r ≡ held (Controller d)) × (r ≡ held (Tachometer d)) ⌝ }
+fn device_roomy(d: BusDevice) -> bool
+    ensures { λ r. ⌜ (r ≡ elementRoomy (Controller d)) × (r ≡ elementRoomy (Tachometer d)) ⌝ }
 {
     let a = d.address;
-    address_held(d.bus, a)
+    address_roomy(d.bus, a)
 }
 
-// 25 of an element. The numbers of the kinds that are always held fit by their types.
-pub fn element_held(e: Element) -> bool
-    ensures { λ r. ⌜ r ≡ held e ⌝ }
+// 25 of an element. The numbers of the kinds that always have room fit by their types.
+pub fn element_roomy(e: Element) -> bool
+    ensures { λ r. ⌜ r ≡ elementRoomy e ⌝ }
 {
     match e {
-        Element::Digital(d) => digital_held(d),
-        Element::Analogue(a) => analogue_held(a),
+        Element::Digital(d) => digital_roomy(d),
+        Element::Analogue(a) => analogue_roomy(a),
         Element::Fan(_) => true,
-        Element::Led(l) => led_held(l),
+        Element::Led(l) => led_roomy(l),
         Element::Current(_) => true,
-        Element::Controller(d) => device_held(d),
-        Element::Tachometer(d) => device_held(d),
+        Element::Controller(d) => device_roomy(d),
+        Element::Tachometer(d) => device_roomy(d),
         Element::Zone => true,
         Element::Text => true,
         Element::Rgb(_) => true,
@@ -100,45 +102,28 @@ fn unless_empty(part: &[u8], fault: u8) -> u8
     if part.len() == 0 { fault } else { 8 }
 }
 
+// 09h and 0Ah, by their fixed fields and what their part says.
+fn device_breaks(d: BusDevice, part: Part) -> u8
+    ensures { λ r. ⌜ (part .whole ≡ false → r ≡ 8) × (part .whole ≡ true → DeviceBreaks d (part .full) r) ⌝ }
+{
+    if !part.whole {
+        return 8;
+    }
+    rules::device_breaks(d, part.full)
+}
+
 // 09h
 fn controller_breaks(d: BusDevice, part: &[u8]) -> u8
     ensures { λ r. ⌜ r ≡ numbered (partBreaks (Controller d) (now (part .entry))) ⌝ }
 {
-    if part.len() < 2 {
-        return 8;
-    }
-    let c = blocks::cut_blocks(part);
-    if c.at != part.len() + 1 {
-        return 8;
-    }
-    rules::device_breaks(d, c.full)
+    device_breaks(d, blocks::speed_blocks(part))
 }
 
 // 0Ah
 fn tachometer_breaks(d: BusDevice, part: &[u8]) -> u8
     ensures { λ r. ⌜ r ≡ numbered (partBreaks (Tachometer d) (now (part .entry))) ⌝ }
 {
-    if !blocks::two_blocks(part) {
-        return 8;
-    }
-    rules::device_breaks(d, true)
-}
-
-// 0Bh: 30 bytes with the header.
-fn zone_breaks(part: &[u8]) -> u8
-    ensures { λ r. ⌜ r ≡ numbered (partBreaks Zone (now (part .entry))) ⌝ }
-{
-    if part.len() == 27 { 0 } else { 8 }
-}
-
-// 0Ch: its number and two bytes at least, and the number not 0.
-fn text_breaks(part: &[u8]) -> u8
-    ensures { λ r. ⌜ r ≡ numbered (partBreaks Text (now (part .entry))) ⌝ }
-{
-    if part.len() < 3 {
-        return 8;
-    }
-    if part[0] == 0 { 9 } else { 0 }
+    device_breaks(d, blocks::pairs_blocks(part, 2))
 }
 
 // The first of 8, 9 and 10 that an element with its part breaks, or 0.
@@ -153,8 +138,8 @@ pub fn part_breaks(e: Element, part: &[u8]) -> u8
         Element::Current(c) => unless_empty(part, rules::current_breaks(c)),
         Element::Controller(d) => controller_breaks(d, part),
         Element::Tachometer(d) => tachometer_breaks(d, part),
-        Element::Zone => zone_breaks(part),
-        Element::Text => text_breaks(part),
+        Element::Zone => rules::zone_breaks(part),
+        Element::Text => rules::text_breaks(part),
         Element::Rgb(c) => unless_empty(part, rules::rgb_breaks(c)),
     }
 }

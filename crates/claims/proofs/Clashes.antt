@@ -4,7 +4,7 @@ use Prim.Native.Nat.{ℕ}
 use mathlib.Core.Path.{_≡_, refl, sym}
 use mathlib.Core.Bool.{Bool, true, false, _&&_, _||_, not, and-false}
 use mathlib.Core.List.{List, [], _∷_, _++_}
-use lib.Dec.{eqb, ltb}
+use lib.Dec.{eqb}
 use borrow.Author.Tests.{not-true}
 use Rattle.format.specs.Pins.{among}
 use Rattle.format.specs.Claims.{Manner, shared, select, alone, Claim, together, clashes}
@@ -15,13 +15,10 @@ use Rattle.claims.proofs.Sets.{at-pair, among-append, apart}
 
 -- the parts of `proper`
 pub first-pin : (c : Claim) (cs : List Claim) → proper (c ∷ cs) ≡ true → among (c .pin) (pinsOf (c .manner)) ≡ true
-first-pin c cs h = and-left _ (ltb (c .place) 65536 && proper cs) h
-
-pub first-place : (c : Claim) (cs : List Claim) → proper (c ∷ cs) ≡ true → ltb (c .place) 65536 ≡ true
-first-place c cs h = and-left _ (proper cs) (and-right (among (c .pin) (pinsOf (c .manner))) _ h)
+first-pin c cs h = and-left _ (proper cs) h
 
 pub rest : (c : Claim) (cs : List Claim) → proper (c ∷ cs) ≡ true → proper cs ≡ true
-rest c cs h = and-right (ltb (c .place) 65536) _ (and-right (among (c .pin) (pinsOf (c .manner))) _ h)
+rest c cs h = and-right (among (c .pin) (pinsOf (c .manner))) _ h
 
 -- shared pins and chip selects are apart, so that only a claim alone clashes
 only-alone : (m n : Manner) (p q : ℕ) → among p (pinsOf m) ≡ true → among q (pinsOf n) ≡ true

@@ -1,6 +1,6 @@
 -- What each kind of element claims, where it keeps 10.
 -- Assumes nothing.
-use Prim.Native.Nat.{ℕ, _%_, _<_}
+use Prim.Native.Nat.{ℕ, _%_}
 use native.Mathlib.Nat.{mod-eq-of-lt}
 use native.Mathlib.Omega.{arith}
 use mathlib.Core.Path.{_≡_, refl, sym}
@@ -8,14 +8,14 @@ use mathlib.Core.Bool.{Bool, true, false, _||_}
 use mathlib.Core.List.{List, [], _∷_}
 use lib.Dec.{eqb, ltb}
 use lib.Bits.{bitOr}
-use borrow.Author.Tests.{eqb-true, ltb-true, lt-ltb, ne-eqb}
+use borrow.Author.Tests.{eqb-true, ltb-true, ne-eqb}
 use Rattle.format.specs.Pins.{among, every, permitted, unused, allowedOrUnused}
-use Rattle.format.specs.Claims.{shared, select, alone, Claim, claim, firstClash}
+use Rattle.format.specs.Claims.{shared, select, alone, Claim, claim, madeAt}
 use Rattle.format.specs.declared.pins.Use.{Use}
 use Rattle.format.specs.declared.pins.Use.the-variants.{FanPin, AnaloguePin, ChipSelect, StatusLed, HardwareRevision}
 use Rattle.format.specs.declared.pins.OptionalPin.{OptionalPin}
 use Rattle.pinsets.specs.Sets.{pinIndex, pinBit, hasBit}
-use Rattle.claims.specs.Taken.{IsSet, isNone, onlyUsed, usedPin, ClaimsAre, HeldIs}
+use Rattle.claims.specs.Taken.{IsSet, free, onlyUsed, usedPin, ClaimsAre, HeldIs}
 use Rattle.claims.proofs.Tests.{both}
 use Rattle.claims.proofs.Sets.{at-among, within, by-test, empty, one-pin, union}
 use Rattle.claims.proofs.Lone.{distinct}
@@ -64,48 +64,48 @@ three-distinct p q r h k =
     rw (apart p q h, apart q r k, ne-eqb r p (λ e. omega (arith, ltb-true p q h, ltb-true q r k))) refl
 
 -- elements with shared pins
-module _ (at : ℕ) (h : at < 65536) where
-  pub on-bus : ClaimsAre (record { alone = 0; joint = 0x18; twice = 0 }) (claim shared at 0x03 ∷ claim shared at 0x04 ∷ [])
-  unfolding pinIndex hasBit
-  on-bus = record {
-    alone-pins = empty;
-    joint-pins = by-test 0x18 (0x03 ∷ 0x04 ∷ []) refl refl;
-    among-themselves = refl;
-    are-proper = rw (lt-ltb at 65536 h) refl;
-  }
+pub on-bus : ClaimsAre (record { alone = 0; joint = 0x18; twice = 0 }) (claim shared 0x03 ∷ claim shared 0x04 ∷ [])
+unfolding pinIndex hasBit
+on-bus = record {
+  alone-pins = empty;
+  joint-pins = by-test 0x18 (0x03 ∷ 0x04 ∷ []) refl refl;
+  among-themselves = refl;
+  are-proper = refl;
+}
 
-  abbrev selects : ℕ → List Claim
-  selects p = claim shared at 0x00 ∷ claim shared at 0x01 ∷ claim shared at 0x02 ∷ claim select at p ∷ []
+abbrev selects : ℕ → List Claim
+selects p = claim shared 0x00 ∷ claim shared 0x01 ∷ claim shared 0x02 ∷ claim select p ∷ []
 
-  pub on-select : (p : ℕ) → among p (permitted ChipSelect) ≡ true
-      → ClaimsAre (record { alone = 0; joint = bitOr 0x07 (pinBit p); twice = 0 }) (selects p)
-  unfolding pinIndex hasBit
-  on-select p k = record {
-    alone-pins = empty;
-    joint-pins = union (by-test 0x07 (0x00 ∷ 0x01 ∷ 0x02 ∷ []) refl refl) (one-pin p (permitted-pin ChipSelect p k));
-    among-themselves = sym (at-among (permitted ChipSelect) (λ p. isNone (firstClash [] (selects p))) refl p k);
-    are-proper = rw (lt-ltb at 65536 h, k) refl;
-  }
+pub on-select : (p : ℕ) → among p (permitted ChipSelect) ≡ true
+    → ClaimsAre (record { alone = 0; joint = bitOr 0x07 (pinBit p); twice = 0 }) (selects p)
+unfolding pinIndex hasBit
+on-select p k = record {
+  alone-pins = empty;
+  joint-pins = union (by-test 0x07 (0x00 ∷ 0x01 ∷ 0x02 ∷ []) refl refl) (one-pin p (permitted-pin ChipSelect p k));
+  among-themselves = sym (at-among (permitted ChipSelect) (λ p. free [] (selects p)) refl p k);
+  are-proper = rw k refl;
+}
 
-  abbrev refers : ℕ → List Claim
-  refers p = claim shared at 0x07 ∷ claim alone at p ∷ []
+abbrev refers : ℕ → List Claim
+refers p = claim shared 0x07 ∷ claim alone p ∷ []
 
-  pub on-reference : (p : ℕ) → among p (permitted AnaloguePin) ≡ true
-      → ClaimsAre (record { alone = pinBit p; joint = 0x80; twice = 0 }) (refers p)
-  unfolding pinIndex hasBit
-  on-reference p k = record {
-    alone-pins = one-pin p (permitted-pin AnaloguePin p k);
-    joint-pins = by-test 0x80 (0x07 ∷ []) refl refl;
-    among-themselves = sym (at-among (permitted AnaloguePin) (λ p. isNone (firstClash [] (refers p))) refl p k);
-    are-proper = rw (lt-ltb at 65536 h, permitted-pin AnaloguePin p k) refl;
-  }
+pub on-reference : (p : ℕ) → among p (permitted AnaloguePin) ≡ true
+    → ClaimsAre (record { alone = pinBit p; joint = 0x80; twice = 0 }) (refers p)
+unfolding pinIndex hasBit
+on-reference p k = record {
+  alone-pins = one-pin p (permitted-pin AnaloguePin p k);
+  joint-pins = by-test 0x80 (0x07 ∷ []) refl refl;
+  among-themselves = sym (at-among (permitted AnaloguePin) (λ p. free [] (refers p)) refl p k);
+  are-proper = rw (permitted-pin AnaloguePin p k) refl;
+}
 
 -- 'the fault LED claims P1.0'
-pub fault-led : HeldIs (record { alone = 0x100; joint = 0; clash = 65536 }) (claim alone 0 0x10 ∷ [])
+pub fault-led : HeldIs (record { alone = 0x100; joint = 0; clash = 65536 }) (madeAt 0 (claim alone 0x10 ∷ []))
 unfolding pinIndex hasBit
 fault-led = record {
   alone-pins = by-test 0x100 (0x10 ∷ []) refl refl;
   joint-pins = empty;
   first-clash = refl;
   are-proper = refl;
+  low = refl;
 }

@@ -6,15 +6,14 @@ use mathlib.Core.Path.{_≡_, refl}
 use mathlib.Core.Bool.{Bool, true, false, _&&_, _||_, not, or-false}
 use mathlib.Core.List.{List, [], _∷_, _++_}
 use mathlib.Core.Option.{Option, none, some}
-use lib.Dec.{eqb}
-use borrow.Author.Tests.{eqb-true, ltb-true, ne-eqb}
+use lib.Dec.{eqb, ltb}
+use borrow.Author.Tests.{ltb-true, ne-eqb}
 use Rattle.format.specs.Rules.{unlessKept}
-use Rattle.format.specs.Claims.{Claim, together, clashes, firstClash}
-use Rattle.pinsets.specs.Sets.{pick}
+use Rattle.format.specs.Claims.{Claim, together, clashes, Made, madeAt, firstClash}
 use Rattle.pinsets.proofs.Table.{and-left, and-right}
-use Rattle.claims.specs.Taken.{proper, allAt, isNone, placeOr}
+use Rattle.claims.specs.Taken.{free, isNone, placeOr, lowPlaces, whats}
 use Rattle.claims.proofs.Tests.{taut3, taut4}
-use Rattle.claims.proofs.Clashes.{first-place, rest, anyClash}
+use Rattle.claims.proofs.Clashes.{anyClash}
 
 -- earlier claims in two parts: nothing clashes where nothing does with either
 abbrev hit : Claim → Claim → Bool
@@ -25,19 +24,10 @@ clashes-append c [] e = refl
 clashes-append c (a ∷ d) e =
     rw (clashes-append c d e) (taut3 (λ x y z. x || (y || z)) (λ x y z. x || y || z) refl (hit c a) (clashes c d) (clashes c e))
 
-pub none-unless : (t : Bool) (k : ℕ) (o : Option ℕ) → isNone (unlessKept t k o) ≡ t && isNone o
-none-unless true k o = refl
-none-unless false k o = refl
-
-none-apart : (cs d e : List Claim) → isNone (firstClash (d ++ e) cs) ≡ not (anyClash cs e) && isNone (firstClash d cs)
+none-apart : (cs d e : List Claim) → free (d ++ e) cs ≡ not (anyClash cs e) && free d cs
 none-apart [] d e = refl
 none-apart (c ∷ cs) d e =
-    rw (
-      none-unless (not (clashes c (d ++ e))) (c .place) (firstClash (c ∷ d ++ e) cs),
-      clashes-append c d e,
-      none-apart cs (c ∷ d) e,
-      none-unless (not (clashes c d)) (c .place) (firstClash (c ∷ d) cs),
-    )
+    rw (clashes-append c d e, none-apart cs (c ∷ d) e)
     (taut4
     (λ x y z n. not (x || y) && (not z && n))
     (λ x y z n. not (y || z) && (not x && n))
@@ -45,7 +35,7 @@ none-apart (c ∷ cs) d e =
     (clashes c d)
     (clashes c e)
     (anyClash cs e)
-    (isNone (firstClash (c ∷ d) cs)))
+    (free (c ∷ d) cs))
 
 -- a list in two parts: the first clash of the first, else that of the second, whose earlier claims are the first's
 abbrev pub onto : List Claim → List Claim → List Claim
@@ -60,10 +50,12 @@ unless-first : (t : Bool) (k : ℕ) (a b : Option ℕ) → unlessKept t k (first
 unless-first true k a b = refl
 unless-first false k a b = refl
 
-pub first-append : (xs e ys : List Claim) → firstClash e (xs ++ ys) ≡ firstOf (firstClash e xs) (firstClash (onto xs e) ys)
+pub first-append :
+    (xs : List Made) (e : List Claim) (ys : List Made) → firstClash e (xs ++ ys) ≡ firstOf (firstClash e xs) (firstClash (onto (whats xs) e) ys)
 first-append [] e ys = refl
-first-append (c ∷ xs) e ys =
-    rw (first-append xs (c ∷ e) ys) (unless-first (not (clashes c e)) (c .place) (firstClash (c ∷ e) xs) (firstClash (onto xs (c ∷ e)) ys))
+first-append (m ∷ xs) e ys =
+    rw (first-append xs (m .what ∷ e) ys)
+    (unless-first (not (clashes (m .what) e)) (m .place) (firstClash (m .what ∷ e) xs) (firstClash (onto (whats xs) (m .what ∷ e)) ys))
 
 clashes-onto : (c : Claim) (d e : List Claim) → clashes c (onto d e) ≡ clashes c d || clashes c e
 clashes-onto c [] e = refl
@@ -74,27 +66,17 @@ any-onto : (cs d : List Claim) → anyClash cs (onto d []) ≡ anyClash cs d
 any-onto [] d = refl
 any-onto (c ∷ cs) d = rw (clashes-onto c d [], or-false (clashes c d), any-onto cs d) refl
 
-pub none-after : (cs d : List Claim) → isNone (firstClash (onto d []) cs) ≡ not (anyClash cs d) && isNone (firstClash [] cs)
+pub none-after : (cs d : List Claim) → free (onto d []) cs ≡ not (anyClash cs d) && free [] cs
 none-after cs d = rw (none-apart cs [] (onto d []), any-onto cs d) refl
 
 -- claims at one place clash there
-at-place : (t : Bool) (k at : ℕ) (o : Option ℕ)
-    → k ≡ at
-    → placeOr o ≡ pick (isNone o) 65536 at
-    → placeOr (unlessKept t k o) ≡ pick (isNone (unlessKept t k o)) 65536 at
-at-place true k at o e f = f
-at-place false k at o e f = e
+both-kept : (s t : Bool) (k : ℕ) → unlessKept s k (unlessKept t k none) ≡ unlessKept (s && t) k none
+both-kept true t k = refl
+both-kept false t k = refl
 
-pub place-at : (at : ℕ) (cs e : List Claim) → allAt at cs ≡ true → placeOr (firstClash e cs) ≡ pick (isNone (firstClash e cs)) 65536 at
-place-at at [] e h = refl
-place-at at (c ∷ cs) e h =
-    at-place
-    (not (clashes c e))
-    (c .place)
-    at
-    (firstClash (c ∷ e) cs)
-    (eqb-true _ _ (and-left (eqb (c .place) at) (allAt at cs) h))
-    (place-at at cs (c ∷ e) (and-right (eqb (c .place) at) (allAt at cs) h))
+pub made-first : (at : ℕ) (cs e : List Claim) → firstClash e (madeAt at cs) ≡ unlessKept (free e cs) at none
+made-first at [] e = refl
+made-first at (c ∷ cs) e = rw (made-first at cs (c ∷ e)) (both-kept (not (clashes c e)) (free (c ∷ e) cs) at)
 
 -- no clash's place is 65,536
 none-place : (t : Bool) (k : ℕ) (o : Option ℕ)
@@ -104,7 +86,8 @@ none-place : (t : Bool) (k : ℕ) (o : Option ℕ)
 none-place true k o h e = e
 none-place false k o h e = ne-eqb k 65536 (λ q. omega arith)
 
-pub place-none : (cs e : List Claim) → proper cs ≡ true → eqb (placeOr (firstClash e cs)) 65536 ≡ isNone (firstClash e cs)
+pub place-none : (ms : List Made) (e : List Claim) → lowPlaces ms ≡ true → eqb (placeOr (firstClash e ms)) 65536 ≡ isNone (firstClash e ms)
 place-none [] e h = refl
-place-none (c ∷ cs) e h =
-    none-place (not (clashes c e)) (c .place) (firstClash (c ∷ e) cs) (ltb-true _ _ (first-place c cs h)) (place-none cs (c ∷ e) (rest c cs h))
+place-none (m ∷ ms) e h =
+    none-place (not (clashes (m .what) e)) (m .place) (firstClash (m .what ∷ e) ms) (ltb-true _ _ (and-left _ (lowPlaces ms) h))
+    (place-none ms (m .what ∷ e) (and-right (ltb (m .place) 65536) _ h))

@@ -1,91 +1,79 @@
 -- Claims of one element on pins of its own: they clash where a pin is named twice.
 -- Assumes nothing.
-use Prim.Native.Nat.{ℕ, _<_}
+use Prim.Native.Nat.{ℕ}
 use mathlib.Core.Path.{_≡_, refl, sym, _∙_}
 use mathlib.Core.Bool.{Bool, true, false, _&&_, _||_, not, and-true}
 use mathlib.Core.List.{List, [], _∷_, _++_}
 use lib.Dec.{eqb}
 use lib.Bits.{bitAnd, bitOr, and-comm}
-use borrow.Author.Tests.{lt-ltb, eq-eqb}
 use Rattle.format.specs.Pins.{among, every, unused}
-use Rattle.format.specs.Claims.{alone, Claim, claim, clashes, firstClash, unlessUnused, ownUsed}
+use Rattle.format.specs.Claims.{alone, Claim, claim, clashes, unlessUnused, ownUsed}
 use Rattle.format.specs.declared.pins.OptionalPin.{OptionalPin}
 use Rattle.pinsets.proofs.Table.{and-left, and-right}
-use Rattle.claims.specs.Taken.{IsSet, alonePins, jointPins, proper, allAt, isNone, onlyUsed, usedPin, ClaimsAre}
+use Rattle.claims.specs.Taken.{IsSet, alonePins, jointPins, proper, free, onlyUsed, usedPin, ClaimsAre}
 use Rattle.claims.proofs.Tests.{both, taut1, taut3}
 use Rattle.claims.proofs.Bits.{or-zero}
 use Rattle.claims.proofs.Sets.{within, within-append, empty, union, apart, disjoint}
-use Rattle.claims.proofs.Firsts.{none-unless}
 
-abbrev pub lone : ℕ → List ℕ → List Claim
-lone at [] = []
-lone at (p ∷ ps) = claim alone at p ∷ lone at ps
+abbrev pub lone : List ℕ → List Claim
+lone [] = []
+lone (p ∷ ps) = claim alone p ∷ lone ps
 
-lone-alone : (at : ℕ) (ps : List ℕ) → alonePins (lone at ps) ≡ ps
-lone-alone at [] = refl
-lone-alone at (p ∷ ps) = rw (lone-alone at ps) refl
+lone-alone : (ps : List ℕ) → alonePins (lone ps) ≡ ps
+lone-alone [] = refl
+lone-alone (p ∷ ps) = rw (lone-alone ps) refl
 
-lone-joint : (at : ℕ) (ps : List ℕ) → jointPins (lone at ps) ≡ []
-lone-joint at [] = refl
-lone-joint at (p ∷ ps) = lone-joint at ps
+lone-joint : (ps : List ℕ) → jointPins (lone ps) ≡ []
+lone-joint [] = refl
+lone-joint (p ∷ ps) = lone-joint ps
 
-pub lone-at : (at : ℕ) (ps : List ℕ) → allAt at (lone at ps) ≡ true
-lone-at at [] = refl
-lone-at at (p ∷ ps) = both (eqb at at) (allAt at (lone at ps)) (eq-eqb at at refl) (lone-at at ps)
+lone-proper : (ps : List ℕ) → within ps ≡ true → proper (lone ps) ≡ true
+lone-proper [] k = refl
+lone-proper (p ∷ ps) k =
+    rw (and-left (among p every) (within ps) k) (lone-proper ps (and-right (among p every) (within ps) k))
 
-lone-proper : (at : ℕ) (ps : List ℕ) → at < 65536 → within ps ≡ true → proper (lone at ps) ≡ true
-lone-proper at [] h k = refl
-lone-proper at (p ∷ ps) h k =
-    rw (and-left (among p every) (within ps) k, lt-ltb at 65536 h) (lone-proper at ps h (and-right (among p every) (within ps) k))
-
-lone-append : (at : ℕ) (xs ys : List ℕ) → lone at (xs ++ ys) ≡ lone at xs ++ lone at ys
-lone-append at [] ys = refl
-lone-append at (x ∷ xs) ys = rw (lone-append at xs ys) refl
+lone-append : (xs ys : List ℕ) → lone (xs ++ ys) ≡ lone xs ++ lone ys
+lone-append [] ys = refl
+lone-append (x ∷ xs) ys = rw (lone-append xs ys) refl
 
 -- no pin is named twice
 abbrev pub distinct : List ℕ → List ℕ → Bool
 distinct xs [] = true
 distinct xs (p ∷ ps) = not (among p xs) && distinct (p ∷ xs) ps
 
-lone-clashes : (at p : ℕ) (ps : List ℕ) → clashes (claim alone at p) (lone at ps) ≡ among p ps
-lone-clashes at p [] = refl
-lone-clashes at p (q ∷ ps) = rw (and-true (eqb p q), lone-clashes at p ps) refl
+lone-clashes : (p : ℕ) (ps : List ℕ) → clashes (claim alone p) (lone ps) ≡ among p ps
+lone-clashes p [] = refl
+lone-clashes p (q ∷ ps) = rw (and-true (eqb p q), lone-clashes p ps) refl
 
-lone-none : (at : ℕ) (xs ps : List ℕ) → isNone (firstClash (lone at xs) (lone at ps)) ≡ distinct xs ps
-lone-none at xs [] = refl
-lone-none at xs (p ∷ ps) =
-    rw (
-      none-unless (not (clashes (claim alone at p) (lone at xs))) at (firstClash (lone at (p ∷ xs)) (lone at ps)),
-      lone-clashes at p xs,
-      lone-none at (p ∷ xs) ps,
-    )
-    refl
+lone-none : (xs ps : List ℕ) → free (lone xs) (lone ps) ≡ distinct xs ps
+lone-none xs [] = refl
+lone-none xs (p ∷ ps) = rw (lone-clashes p xs, lone-none (p ∷ xs) ps) refl
 
-pub claims-alone : (w t at : ℕ) (ps : List ℕ) → at < 65536 → IsSet w ps → within ps ≡ true → eqb t 0 ≡ distinct [] ps
-    → ClaimsAre (record { alone = w; joint = 0; twice = t }) (lone at ps)
-claims-alone w t at ps h s k d = record {
-  alone-pins = rw (lone-alone at ps) s;
-  joint-pins = rw (lone-joint at ps) empty;
-  among-themselves = d ∙ sym (lone-none at [] ps);
-  are-proper = lone-proper at ps h k;
+pub claims-alone : (w t : ℕ) (ps : List ℕ) → IsSet w ps → within ps ≡ true → eqb t 0 ≡ distinct [] ps
+    → ClaimsAre (record { alone = w; joint = 0; twice = t }) (lone ps)
+claims-alone w t ps s k d = record {
+  alone-pins = rw (lone-alone ps) s;
+  joint-pins = rw (lone-joint ps) empty;
+  among-themselves = d ∙ sym (lone-none [] ps);
+  are-proper = lone-proper ps k;
 }
 
 -- a place that may be unused
-own-used : (at p : ℕ) (t : Bool) → lone at (onlyUsed t p) ≡ unlessUnused t (claim alone at p)
-own-used at p true = refl
-own-used at p false = refl
+own-used : (p : ℕ) (t : Bool) → lone (onlyUsed t p) ≡ unlessUnused t (claim alone p)
+own-used p true = refl
+own-used p false = refl
 
-pub lone-used : (at : ℕ) (p : OptionalPin) → lone at (usedPin p) ≡ ownUsed at p
-lone-used at p = own-used at (p .0) (unused p)
+pub lone-used : (p : OptionalPin) → lone (usedPin p) ≡ ownUsed p
+lone-used p = own-used (p .0) (unused p)
 
-pub lone-three : (at : ℕ) (p q r : OptionalPin) → lone at (usedPin p ++ usedPin q ++ usedPin r) ≡ ownUsed at p ++ ownUsed at q ++ ownUsed at r
-lone-three at p q r =
+pub lone-three : (p q r : OptionalPin) → lone (usedPin p ++ usedPin q ++ usedPin r) ≡ ownUsed p ++ ownUsed q ++ ownUsed r
+lone-three p q r =
     rw (
-      lone-append at (usedPin p ++ usedPin q) (usedPin r),
-      lone-append at (usedPin p) (usedPin q),
-      lone-used at p,
-      lone-used at q,
-      lone-used at r,
+      lone-append (usedPin p ++ usedPin q) (usedPin r),
+      lone-append (usedPin p) (usedPin q),
+      lone-used p,
+      lone-used q,
+      lone-used r,
     )
     refl
 
@@ -127,16 +115,14 @@ module _ {a b c : ℕ} (p q r : OptionalPin) (sa : IsSet a (usedPin p)) (sb : Is
       )
       (twice (unused p) (unused q) (unused r) (p .0) (q .0) (r .0))
 
-  pub claims-three : (at : ℕ) → at < 65536 → within (usedPin p) ≡ true → within (usedPin q) ≡ true → within (usedPin r) ≡ true
-      → ClaimsAre (record { alone = bitOr (bitOr a b) c; joint = 0; twice = common }) (ownUsed at p ++ ownUsed at q ++ ownUsed at r)
-  claims-three at h hp hq hr =
-      rw (lone-three at p q r) at
+  pub claims-three : within (usedPin p) ≡ true → within (usedPin q) ≡ true → within (usedPin r) ≡ true
+      → ClaimsAre (record { alone = bitOr (bitOr a b) c; joint = 0; twice = common }) (ownUsed p ++ ownUsed q ++ ownUsed r)
+  claims-three hp hq hr =
+      rw (lone-three p q r) at
       (claims-alone
       (bitOr (bitOr a b) c)
       common
-      at
       (usedPin p ++ usedPin q ++ usedPin r)
-      h
       (union (union sa sb) sc)
       (within-append (usedPin p ++ usedPin q) (usedPin r) (within-append (usedPin p) (usedPin q) hp hq) hr)
       (common-none hq hr))

@@ -7,7 +7,7 @@ use mathlib.Core.List.{List, [], _∷_, _++_}
 use mathlib.Core.Option.{Option, none, some}
 use lib.Dec.{eqb, ltb}
 use Rattle.format.specs.Pins.{among, every, permitted, unused, allowedOrUnused}
-use Rattle.format.specs.Claims.{Manner, shared, select, alone, Claim, firstClash, ownUsed}
+use Rattle.format.specs.Claims.{Manner, shared, select, alone, Claim, clashes, Made, firstClash, ownUsed}
 use Rattle.format.specs.declared.pins.OptionalPin.{OptionalPin}
 use Rattle.format.specs.declared.pins.Use.the-variants.{ChipSelect, HardwareRevision}
 use Rattle.pinsets.specs.Sets.{pinIndex, hasBit}
@@ -50,8 +50,8 @@ abbrev pub onPins : OptionalPin → OptionalPin → OptionalPin → Bool
 onPins p q r =
     allowedOrUnused HardwareRevision p && (allowedOrUnused HardwareRevision q && allowedOrUnused HardwareRevision r)
 
-abbrev pub ownThree : ℕ → OptionalPin → OptionalPin → OptionalPin → List Claim
-ownThree at p q r = ownUsed at p ++ ownUsed at q ++ ownUsed at r
+abbrev pub ownThree : OptionalPin → OptionalPin → OptionalPin → List Claim
+ownThree p q r = ownUsed p ++ ownUsed q ++ ownUsed r
 
 -- claims as records that keep 10 make them: the shared pins and those that may be a chip select are apart, all pins exist
 abbrev pub pinsOf : Manner → List ℕ
@@ -61,12 +61,12 @@ pinsOf alone = every
 
 abbrev pub proper : List Claim → Bool
 proper [] = true
-proper (c ∷ cs) = among (c .pin) (pinsOf (c .manner)) && (ltb (c .place) 65536 && proper cs)
+proper (c ∷ cs) = among (c .pin) (pinsOf (c .manner)) && proper cs
 
--- all claims are made at one place
-abbrev pub allAt : ℕ → List Claim → Bool
-allAt at [] = true
-allAt at (c ∷ cs) = eqb (c .place) at && allAt at cs
+-- none of these claims clashes with an earlier one
+abbrev pub free : List Claim → List Claim → Bool
+free earlier [] = true
+free earlier (c ∷ cs) = not (clashes c earlier) && free (c ∷ earlier) cs
 
 abbrev pub isNone : Option ℕ → Bool
 isNone none = true
@@ -76,17 +76,27 @@ isNone (some p) = false
 pub record ClaimsAre (r : Claims) (cs : List Claim) : Type 0 where
   pub alone-pins : IsSet (r .alone) (alonePins cs)
   pub joint-pins : IsSet (r .joint) (jointPins cs)
-  pub among-themselves : eqb (r .twice) 0 ≡ isNone (firstClash [] cs)
+  pub among-themselves : eqb (r .twice) 0 ≡ free [] cs
   pub are-proper : proper cs ≡ true
 
--- the place of the first clash; 65,536 where there is none
+-- the place of the first clash; 65,536 where there is none, which no place is
 abbrev pub placeOr : Option ℕ → ℕ
 placeOr none = 65536
 placeOr (some p) = p
 
+abbrev pub lowPlaces : List Made → Bool
+lowPlaces [] = true
+lowPlaces (m ∷ ms) = ltb (m .place) 65536 && lowPlaces ms
+
+-- what is claimed, without the places
+abbrev pub whats : List Made → List Claim
+whats [] = []
+whats (m ∷ ms) = m .what ∷ whats ms
+
 -- all claims so far
-pub record HeldIs (h : Held) (cs : List Claim) : Type 0 where
-  pub alone-pins : IsSet (h .alone) (alonePins cs)
-  pub joint-pins : IsSet (h .joint) (jointPins cs)
-  pub first-clash : h .clash ≡ placeOr (firstClash [] cs)
-  pub are-proper : proper cs ≡ true
+pub record HeldIs (h : Held) (ms : List Made) : Type 0 where
+  pub alone-pins : IsSet (h .alone) (alonePins (whats ms))
+  pub joint-pins : IsSet (h .joint) (jointPins (whats ms))
+  pub first-clash : h .clash ≡ placeOr (firstClash [] ms)
+  pub are-proper : proper (whats ms) ≡ true
+  pub low : lowPlaces ms ≡ true

@@ -3,16 +3,15 @@ ghost use mathlib.Core.Path.{_≡_};
 ghost use mathlib.Core.Bool.{true};
 ghost use mathlib.Core.List.{List, [], _∷_, _++_};
 ghost use Prim.Native.Nat.{ℕ, _<_};
-ghost use Rattle.format.specs.Pins.{allowedOrUnused};
-ghost use Rattle.format.specs.declared.pins.Use.the-variants.{HardwareRevision};
-ghost use Rattle.format.specs.Records.{analogue, fan, led, current, rgb};
+ghost use Rattle.format.specs.Pins.{allowed, allowedOrUnused};
+ghost use Rattle.format.specs.declared.pins.Use.the-variants.{AnaloguePin, HardwareRevision};
+ghost use Rattle.format.specs.Records.{fan, led, rgb};
 ghost use Rattle.format.specs.Rules.{selected, pinned, strapped};
-ghost use Rattle.format.specs.Claims.{Claim, claim, alone, onBus, claimsOf, firstClaims};
-ghost use Rattle.claims.specs.Taken.{ClaimsAre, HeldIs, IsSet, allAt, usedPin, onPins, ownThree};
+ghost use Rattle.format.specs.Claims.{Claim, claim, Made, madeAt, alone, own, reference, onBus, claimsOf, firstClaims};
+ghost use Rattle.claims.specs.Taken.{ClaimsAre, HeldIs, IsSet, usedPin, onPins, ownThree};
 use format::pins::OptionalPin;
+use format::pins::Pin;
 use format::records::Address;
-use format::records::AnalogueSensor;
-use format::records::CurrentSensor;
 use format::records::Description;
 use format::records::PwmFan;
 use format::records::RgbLed;
@@ -54,7 +53,7 @@ fn used_bit(p: OptionalPin) -> u32
 
 // 01h, 09h, 0Ah: P0.3 and P0.4; or P0.0 to P0.2 and the chip select.
 pub fn bus_claims(a: Address) -> Claims
-    ensures { λ r. ⌜ ((at : ℕ) → at < 65536 → selected a ≡ true → ClaimsAre r (onBus at a)) ⌝ }
+    ensures { λ r. ⌜ (selected a ≡ true → ClaimsAre r (onBus a)) ⌝ }
 {
     match a {
         Address::Bus(_) => Claims {
@@ -70,23 +69,12 @@ pub fn bus_claims(a: Address) -> Claims
     }
 }
 
-// 02h: P0.7, and its pin.
-pub fn analogue_claims(a: AnalogueSensor) -> Claims
-    ensures { λ r. ⌜ ((at : ℕ) → at < 65536 → pinned (analogue a) ≡ true → ClaimsAre r (claimsOf at (analogue a))) ⌝ }
+// 02h, 08h: P0.7, and its pin.
+pub fn analogue_claims(p: Pin) -> Claims
+    ensures { λ r. ⌜ (allowed AnaloguePin p ≡ true → ClaimsAre r (reference ∷ own p ∷ [])) ⌝ }
 {
     Claims {
-        alone: bit_of(a.pin.0),
-        joint: 0x80,
-        twice: 0,
-    }
-}
-
-// 08h: P0.7, and its pin.
-pub fn current_claims(c: CurrentSensor) -> Claims
-    ensures { λ r. ⌜ ((at : ℕ) → at < 65536 → pinned (current c) ≡ true → ClaimsAre r (claimsOf at (current c))) ⌝ }
-{
-    Claims {
-        alone: bit_of(c.pin.0),
+        alone: bit_of(p.0),
         joint: 0x80,
         twice: 0,
     }
@@ -94,7 +82,7 @@ pub fn current_claims(c: CurrentSensor) -> Claims
 
 // 03h: PWM and tachometer.
 pub fn fan_claims(f: PwmFan) -> Claims
-    ensures { λ r. ⌜ ((at : ℕ) → at < 65536 → pinned (fan f) ≡ true → ClaimsAre r (claimsOf at (fan f))) ⌝ }
+    ensures { λ r. ⌜ (pinned (fan f) ≡ true → ClaimsAre r (claimsOf (fan f))) ⌝ }
 {
     let t = f.tachometer;
     Claims {
@@ -106,7 +94,7 @@ pub fn fan_claims(f: PwmFan) -> Claims
 
 // Three pins, any of which may be unused, or be the same.
 fn three(p: OptionalPin, q: OptionalPin, r: OptionalPin) -> Claims
-    ensures { λ t. ⌜ ((at : ℕ) → at < 65536 → onPins p q r ≡ true → ClaimsAre t (ownThree at p q r)) ⌝ }
+    ensures { λ t. ⌜ (onPins p q r ≡ true → ClaimsAre t (ownThree p q r)) ⌝ }
 {
     let a = used_bit(p);
     let b = used_bit(q);
@@ -120,14 +108,14 @@ fn three(p: OptionalPin, q: OptionalPin, r: OptionalPin) -> Claims
 
 // 04h: the lamps' pins.
 pub fn led_claims(l: StatusLed) -> Claims
-    ensures { λ r. ⌜ ((at : ℕ) → at < 65536 → pinned (led l) ≡ true → ClaimsAre r (claimsOf at (led l))) ⌝ }
+    ensures { λ r. ⌜ (pinned (led l) ≡ true → ClaimsAre r (claimsOf (led l))) ⌝ }
 {
     three(l.one.pin, l.two.pin, l.three.pin)
 }
 
 // 0Eh: red, green, blue.
 pub fn rgb_claims(c: RgbLed) -> Claims
-    ensures { λ r. ⌜ ((at : ℕ) → at < 65536 → pinned (rgb c) ≡ true → ClaimsAre r (claimsOf at (rgb c))) ⌝ }
+    ensures { λ r. ⌜ (pinned (rgb c) ≡ true → ClaimsAre r (claimsOf (rgb c))) ⌝ }
 {
     Claims {
         alone: bit_of(c.red.0) | bit_of(c.green.0) | bit_of(c.blue.0),
@@ -139,7 +127,7 @@ pub fn rgb_claims(c: RgbLed) -> Claims
 // One element's claims after those before: what is claimed jointly clashes with what is held alone, and what is claimed
 // alone with all.
 pub fn claim(h: Held, c: Claims, at: usize) -> Held
-    ensures { λ r. ⌜ ((before cs : List Claim) → HeldIs h before → ClaimsAre c cs → allAt at cs ≡ true → HeldIs r (before ++ cs)) ⌝ }
+    ensures { λ r. ⌜ ((before : List Made) (cs : List Claim) → at < 65536 → HeldIs h before → ClaimsAre c cs → HeldIs r (before ++ madeAt at cs)) ⌝ }
 {
     let hit = (c.joint & h.alone) | (c.alone & (h.alone | h.joint)) | c.twice;
     Held {
@@ -155,7 +143,7 @@ pub fn claim(h: Held, c: Claims, at: usize) -> Held
 
 // The fault LED claims P1.0.
 fn fault_led() -> Held
-    ensures { λ r. ⌜ HeldIs r (claim alone 0 0x10 ∷ []) ⌝ }
+    ensures { λ r. ⌜ HeldIs r (madeAt 0 (claim alone 0x10 ∷ [])) ⌝ }
 {
     Held {
         alone: 0x100,
@@ -166,7 +154,7 @@ fn fault_led() -> Held
 
 // Then come hardware revision 0, 1, 2.
 pub fn first_claims(d: Description) -> Held
-    ensures { λ r. ⌜ (strapped d ≡ true → HeldIs r (firstClaims d)) ⌝ }
+    ensures { λ r. ⌜ (strapped d ≡ true → HeldIs r (madeAt 0 (firstClaims d))) ⌝ }
 {
     let led = fault_led();
     claim(led, three(d.revision0, d.revision1, d.revision2), 0)

@@ -8,10 +8,10 @@ ghost use Rattle.format.specs.Decode.{decode};
 ghost use Rattle.format.specs.Slots.{byte};
 ghost use Rattle.elements.specs.Parts.{partStart};
 ghost use Rattle.elements.specs.Own.{three as threeOf, selectOf, ownPins, zoneOf};
-use flags::wide;
 use format::records::Address;
 use format::records::Element;
 use format::records::Placement;
+use words::wide;
 
 // The element in the bytes after a header with this identifier.
 pub fn element_of(id: u8, b: &[u8]) -> Element
@@ -77,6 +77,61 @@ pub struct OwnPins {
     pub three: u8,
 }
 
+// What an element says of itself in the listing.
+pub struct Showing {
+    pub zone: usize,
+    pub pins: OwnPins,
+}
+
+// The zone of an element, of a zone descriptor its own number, and 256 of a string, which has none; and its pins in field order,
+// of which a chip select is one and shared pins are not. One match for both: the kind is told once (docs/BENCH.md).
+pub fn shown(e: Element, part: &[u8]) -> Showing
+    ensures { λ r. ⌜ (r .zone ≡ zoneOf e (now (part .entry))) × (r .pins ≡ ownPins e) ⌝ }
+{
+    match e {
+        Element::Digital(d) => {
+            let a = d.address;
+            placed(d.placement.zone, selected(a))
+        }
+        Element::Analogue(a) => placed(a.placement.zone, own(a.pin.0, 255, 255)),
+        Element::Fan(f) => placed(f.placement.zone, own(f.pwm.0, f.tachometer.0, 255)),
+        Element::Led(l) => placed(
+            l.placement.zone,
+            own(l.one.pin.0, l.two.pin.0, l.three.pin.0),
+        ),
+        Element::Current(c) => placed(c.placement.zone, own(c.pin.0, 255, 255)),
+        Element::Controller(d) => {
+            let a = d.address;
+            placed(d.placement.zone, selected(a))
+        }
+        Element::Tachometer(d) => {
+            let a = d.address;
+            placed(d.placement.zone, selected(a))
+        }
+        Element::Zone => without_pins(number_of(part)),
+        Element::Text => without_pins(256),
+        Element::Rgb(r) => placed(r.placement.zone, own(r.red.0, r.green.0, r.blue.0)),
+    }
+}
+
+fn placed(zone: u8, pins: OwnPins) -> Showing
+    ensures { λ r. ⌜ (r .zone ≡ zone) × (r .pins ≡ pins) ⌝ }
+{
+    Showing {
+        zone: wide(zone),
+        pins,
+    }
+}
+
+fn without_pins(zone: usize) -> Showing
+    ensures { λ r. ⌜ (r .zone ≡ zone) × (r .pins ≡ threeOf 0xff 0xff 0xff) ⌝ }
+{
+    Showing {
+        zone,
+        pins: own(255, 255, 255),
+    }
+}
+
 fn select_of(a: Address) -> u8
     ensures { λ r. ⌜ r ≡ selectOf a ⌝ }
 {
@@ -99,33 +154,6 @@ fn selected(a: Address) -> OwnPins
     own(select_of(a), 255, 255)
 }
 
-// The pins of an element in field order; a chip select is one, shared pins are not.
-pub fn own_pins(e: Element) -> OwnPins
-    ensures { λ r. ⌜ r ≡ ownPins e ⌝ }
-{
-    match e {
-        Element::Digital(d) => {
-            let a = d.address;
-            selected(a)
-        }
-        Element::Analogue(a) => own(a.pin.0, 255, 255),
-        Element::Fan(f) => own(f.pwm.0, f.tachometer.0, 255),
-        Element::Led(l) => own(l.one.pin.0, l.two.pin.0, l.three.pin.0),
-        Element::Current(c) => own(c.pin.0, 255, 255),
-        Element::Controller(d) => {
-            let a = d.address;
-            selected(a)
-        }
-        Element::Tachometer(d) => {
-            let a = d.address;
-            selected(a)
-        }
-        Element::Zone => own(255, 255, 255),
-        Element::Text => own(255, 255, 255),
-        Element::Rgb(r) => own(r.red.0, r.green.0, r.blue.0),
-    }
-}
-
 // A zone descriptor's own number, from its part.
 fn number_of(part: &[u8]) -> usize
     ensures { λ r. ⌜ r ≡ byte (now (part .entry)) 0 ⌝ }
@@ -134,22 +162,4 @@ fn number_of(part: &[u8]) -> usize
         return 0;
     }
     wide(part[0])
-}
-
-// The zone of an element, of a zone descriptor its own number; 256 of a string, which has none.
-pub fn zone_of(e: Element, part: &[u8]) -> usize
-    ensures { λ r. ⌜ r ≡ zoneOf e (now (part .entry)) ⌝ }
-{
-    match e {
-        Element::Digital(d) => wide(d.placement.zone),
-        Element::Analogue(a) => wide(a.placement.zone),
-        Element::Fan(f) => wide(f.placement.zone),
-        Element::Led(l) => wide(l.placement.zone),
-        Element::Current(c) => wide(c.placement.zone),
-        Element::Controller(d) => wide(d.placement.zone),
-        Element::Tachometer(d) => wide(d.placement.zone),
-        Element::Zone => number_of(part),
-        Element::Text => 256,
-        Element::Rgb(r) => wide(r.placement.zone),
-    }
 }

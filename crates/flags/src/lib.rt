@@ -1,12 +1,12 @@
 // Flags for all 256 numbers: which of them are in a list.
 ghost use mathlib.Core.Path.{_≡_};
-ghost use Prim.Native.Nat.{_<_};
 ghost use Rattle.flags.specs.Marks.{lacksTo, Lacks};
 
-pub fn wide(x: u8) -> usize
-    ensures { λ r. ⌜ (r ≡ x) × (r < 256) ⌝ }
+// Whether some number is used and not seen.
+pub fn lacks(used: &[bool; 256], seen: &[bool; 256]) -> bool
+    ensures { λ r. ⌜ Lacks (now (used .entry)) (now (seen .entry)) r ⌝ }
 {
-    x as usize
+    lacks_one(used, seen)
 }
 
 fn lacks_one(used: &[bool; 256], seen: &[bool; 256]) -> bool
@@ -19,11 +19,4 @@ fn lacks_one(used: &[bool; 256], seen: &[bool; 256]) -> bool
         i += 1;
     }
     bad
-}
-
-// Whether some number is used and not seen.
-pub fn lacks(used: &[bool; 256], seen: &[bool; 256]) -> bool
-    ensures { λ r. ⌜ Lacks (now (used .entry)) (now (seen .entry)) r ⌝ }
-{
-    lacks_one(used, seen)
 }

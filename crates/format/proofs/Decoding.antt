@@ -18,6 +18,7 @@ use Rattle.format.specs.Decode.{readDigital, readAnalogue, readFan, read
 use Rattle.format.specs.declared.records.BusDevice.{BusDevice}
 use Rattle.format.specs.declared.records.RegisterPair.{RegisterPair}
 use Rattle.format.specs.declared.records.Element.the-variants.{Controller, Tachometer}
+use Rattle.format.proofs.Lengths.{fits-length}
 use Rattle.format.proofs.Slots.{Over, bytes-drop, bytes-take, starts-over, over-starts, over-at, starts-rest, starts-length, starts-count, starts-split, starts-append, take-fits, fits-take}
 use Rattle.format.proofs.Blocks.{BlocksFit, blocks-fits, blocks-only, TwoFit, two-fits, two-only}
 use Rattle.format.proofs.EachKind.{address-kind, digital-only, digital-fits, analogue-only, analogue-fits, fan-only, fan-fits, led-only, led-fits, current-only, current-fits, rgb-only, rgb-fits, device-only, controller-fits, tachometer-fits, whole-only, whole-fits}
@@ -102,9 +103,6 @@ decode-reads id c small =
     (pick-cases P id 14 _ _ (λ at. even-fits id c 8 (rgb (readRgb f)) refl refl at (rgb-fits f small)) tt)))))))))
 
 -- a record that fits is decoded
-fits-length : (c : List ℕ) (ss : List Slot) → Fits c ss → length c ≡ length ss
-fits-length c ss h = omega (arith, starts-count c ss [] h)
-
 decode-finds : (c : List ℕ) (r : Record) → Fits c (body r) → ofItsKind r ≡ true → decode (idOf (elementOf r)) c ≡ some r
 unfolding decode
 decode-finds c (digital x) h k =

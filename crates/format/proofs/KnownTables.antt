@@ -9,11 +9,11 @@ use lib.Dec.{ltb, eqb}
 use borrow.Author.Tests.{ltb-true, eqb-true}
 use Rattle.format.specs.Slots.{Bytes}
 use Rattle.format.specs.Rules.{descriptionRules, ownRules}
-use Rattle.format.specs.Numbers.{rulesAgainst}
+use Rattle.format.specs.ZonesAndStrings.{rulesAgainst}
 use Rattle.format.specs.Verdict.{Verdict}
 use Rattle.format.specs.Decode.{decode}
 use Rattle.format.specs.Reader.{verdictOf, pass, step}
-use Rattle.format.specs.Known.{Row, starred, twofold, zoned}
+use Rattle.format.specs.Known.{Row, starred, twofold, zoned, ofPins}
 use Rattle.format.specs.declared.answers.Answer.{Answer}
 use Rattle.format.specs.declared.answers.Answer.the-variants.{Accepted, Refused}
 use Rattle.format.proofs.Kept.{and-true}
@@ -83,3 +83,11 @@ computed-zoned = refl
 
 pub zone-comes-later : Each zoned
 zone-comes-later = right-each zoned computed-zoned
+
+-- one chip select for two, and a lamp on the fan list
+computed-pins : right ofPins ≡ true
+unfolding verdictOf pass step decode descriptionRules ownRules rulesAgainst
+computed-pins = refl
+
+pub pins-of-elements : Each ofPins
+pins-of-elements = right-each ofPins computed-pins

@@ -10,6 +10,7 @@ use lib.Seq.{getD-drop}
 use Rattle.format.specs.Slots.{Slot, whole, low, high, halves, flag, reserved, Holds, Starts, Fits, roomy, allRoomy, Bytes, byte}
 use mathlib.Core.Bool.{true}
 use borrow.Author.Tests.{lt-ltb}
+use Rattle.format.proofs.Kept.{and-true}
 
 -- the slots, each at its place in the bytes
 abbrev pub Over : (ℕ → ℕ) → List Slot → Type 0
@@ -98,3 +99,17 @@ starts-roomy bs [] rest small h = refl
 starts-roomy [] (s ∷ ss) rest small h = absurd h
 starts-roomy (b ∷ bs) (s ∷ ss) rest small h =
     simp (holds-roomy b s (small 0) (h .0), starts-roomy bs ss rest (λ i. small (suc i)) (h .1))
+
+-- room in two lists of slots is room in both together
+pub roomy-split : (ss ts : List Slot) → allRoomy (ss ++ ts) ≡ true → (allRoomy ss ≡ true) × (allRoomy ts ≡ true)
+roomy-split [] ts h = (refl, h)
+roomy-split (s ∷ ss) ts h =
+    let a = and-true (roomy s) (allRoomy (ss ++ ts)) h in
+    let b = roomy-split ss ts (a .1) in
+    (simp (a .0, b .0), b .1)
+
+pub roomy-join : (ss ts : List Slot) → allRoomy ss ≡ true → allRoomy ts ≡ true → allRoomy (ss ++ ts) ≡ true
+roomy-join [] ts h k = k
+roomy-join (s ∷ ss) ts h k =
+    let a = and-true (roomy s) (allRoomy ss) h in
+    simp (a .0, roomy-join ss ts (a .1) k)

@@ -12,7 +12,7 @@ use borrow.Author.Tests.{eqb-true, eqb-false, leb-true, leb-false, le-leb, lt-le
 use Rattle.format.specs.Slots.{Starts, Fits, byte, Bytes}
 use Rattle.format.specs.Records.{Record}
 use Rattle.format.specs.Layout.{layouts, opening, table}
-use Rattle.format.specs.Numbers.{zoneless, nameless}
+use Rattle.format.specs.ZonesAndStrings.{zoneless, nameless}
 use Rattle.format.specs.Claims.{contested}
 use Rattle.format.specs.Table.{descriptionBreaks, PassKept, Keeps}
 use Rattle.format.specs.Verdict.{stated, Breaks, Opened, Passed, Accepts, Verdict, accepted, short, unrevised, missized, misdescribed, stopped, unzoned, unnamed, clashing}
@@ -51,7 +51,7 @@ keeps :
     → Keeps d rs
 keeps b d rs small p z n c =
     record {
-      held = starts-roomy b (table d rs) [] small (p .fits);
+      roomy-25 = starts-roomy b (table d rs) [] small (p .fits);
       limit = omega (arith, p .limit, starts-count b (table d rs) [] (p .fits));
       described = p .described;
       passed = p .passed;

@@ -98,7 +98,7 @@ description-reads-back d n more h =
 
 -- records that keep the rules are accepted as they are written
 pub written-accepted : (d : Description) (rs : List Record) → Keeps d rs → Verdict (written (table d rs)) (Accepted (length rs))
-written-accepted d rs k = accepted d rs (record { keeps = k; fits = written-fits (table d rs) (k .held) })
+written-accepted d rs k = accepted d rs (record { keeps = k; fits = written-fits (table d rs) (k .roomy-25) })
 
 -- what bytes fit is written as those bytes with their reserved places at zero
 starts-cleared : (bs : List ℕ) (ss : List Slot) → Fits bs ss → written ss ≡ cleared bs ss

@@ -22,13 +22,13 @@ pub data Manner : Type 0 where
   select : Manner
   alone : Manner
 
+-- what is claimed, and how; who claims it is told by the list that it stands in
 pub record Claim : Type 0 where
   pub pin : ℕ
   pub manner : Manner
-  pub place : ℕ
 
-abbrev pub claim : Manner → ℕ → ℕ → Claim
-claim m at pin = record { pin = pin; manner = m; place = at }
+abbrev pub claim : Manner → ℕ → Claim
+claim m pin = record { pin = pin; manner = m }
 
 -- 'two shared claims do not clash, nor do two chip selects'
 abbrev pub together : Manner → Manner → Bool
@@ -47,56 +47,65 @@ abbrev pub clashes : Claim → List Claim → Bool
 clashes c [] = false
 clashes c (a ∷ more) = eqb (c .pin) (a .pin) && not (together (c .manner) (a .manner)) || clashes c more
 
+-- a claim with the place of whoever makes it
+pub record Made : Type 0 where
+  pub what : Claim
+  pub place : ℕ
+
+abbrev pub madeAt : ℕ → List Claim → List Made
+madeAt at [] = []
+madeAt at (c ∷ cs) = record { what = c; place = at } ∷ madeAt at cs
+
 -- the place of the first claim that clashes with an earlier one
-abbrev pub firstClash : List Claim → List Claim → Option ℕ
+abbrev pub firstClash : List Claim → List Made → Option ℕ
 firstClash earlier [] = none
-firstClash earlier (c ∷ cs) = unlessKept (not (clashes c earlier)) (c .place) (firstClash (c ∷ earlier) cs)
+firstClash earlier (m ∷ ms) = unlessKept (not (clashes (m .what) earlier)) (m .place) (firstClash (m .what ∷ earlier) ms)
 
 -- a pin of its own, and one that may be unused
-abbrev pub own : ℕ → Pin → Claim
-own at p = claim alone at (p .0)
+abbrev pub own : Pin → Claim
+own p = claim alone (p .0)
 
 abbrev pub unlessUnused : Bool → Claim → List Claim
 unlessUnused true c = []
 unlessUnused false c = c ∷ []
 
-abbrev pub ownUsed : ℕ → OptionalPin → List Claim
-ownUsed at p = unlessUnused (unused p) (claim alone at (p .0))
+abbrev pub ownUsed : OptionalPin → List Claim
+ownUsed p = unlessUnused (unused p) (claim alone (p .0))
 
 -- 'P0.3 and P0.4 for bus types 0 to 2, P0.0 to P0.2 for SPI', then 'a chip select being one' of its own pins. Claims are
 -- made by records that keep 9, and so the address tells the bus type
-abbrev pub onBus : ℕ → Address → List Claim
-onBus at (Bus a) = claim shared at 0x03 ∷ claim shared at 0x04 ∷ []
-onBus at (Select p) =
-    claim shared at 0x00 ∷ claim shared at 0x01 ∷ claim shared at 0x02 ∷ claim select at (p .0) ∷ []
+abbrev pub onBus : Address → List Claim
+onBus (Bus a) = claim shared 0x03 ∷ claim shared 0x04 ∷ []
+onBus (Select p) = claim shared 0x00 ∷ claim shared 0x01 ∷ claim shared 0x02 ∷ claim select (p .0) ∷ []
 
 -- 'P0.7 for 02h and 08h'
-abbrev pub reference : ℕ → Claim
-reference at = claim shared at 0x07
+abbrev pub reference : Claim
+reference = claim shared 0x07
 
 -- 'An element first claims its shared pins .. Then come its own pins in field order'
-abbrev pub claimsOf : ℕ → Record → List Claim
-claimsOf at (digital d) = onBus at (d .address)
-claimsOf at (analogue a) = reference at ∷ own at (a .pin) ∷ []
-claimsOf at (fan f) = own at (f .pwm) ∷ ownUsed at (f .tachometer)
-claimsOf at (led l) = ownUsed at (l .one .pin) ++ ownUsed at (l .two .pin) ++ ownUsed at (l .three .pin)
-claimsOf at (current c) = reference at ∷ own at (c .pin) ∷ []
-claimsOf at (controller d bs) = onBus at (d .address)
-claimsOf at (tachometer d a b) = onBus at (d .address)
-claimsOf at (zone bytes) = []
-claimsOf at (string bytes) = []
-claimsOf at (rgb r) = own at (r .red) ∷ own at (r .green) ∷ own at (r .blue) ∷ []
+abbrev pub claimsOf : Record → List Claim
+claimsOf (digital d) = onBus (d .address)
+claimsOf (analogue a) = reference ∷ own (a .pin) ∷ []
+claimsOf (fan f) = own (f .pwm) ∷ ownUsed (f .tachometer)
+claimsOf (led l) = ownUsed (l .one .pin) ++ ownUsed (l .two .pin) ++ ownUsed (l .three .pin)
+claimsOf (current c) = reference ∷ own (c .pin) ∷ []
+claimsOf (controller d bs) = onBus (d .address)
+claimsOf (tachometer d a b) = onBus (d .address)
+claimsOf (zone bytes) = []
+claimsOf (string bytes) = []
+claimsOf (rgb r) = own (r .red) ∷ own (r .green) ∷ own (r .blue) ∷ []
 
-abbrev pub claimsFrom : ℕ → List Record → List Claim
+-- those of elements that start at a place, each made at its element
+abbrev pub claimsFrom : ℕ → List Record → List Made
 claimsFrom at [] = []
-claimsFrom at (r ∷ rs) = claimsOf at r ++ claimsFrom (at + length (layout r)) rs
+claimsFrom at (r ∷ rs) = madeAt at (claimsOf r) ++ claimsFrom (at + length (layout r)) rs
 
 -- 'the fault LED claims P1.0; then hardware revision 0, 1, 2; then each element in turn'
 abbrev pub firstClaims : Description → List Claim
-firstClaims d = claim alone 0 0x10 ∷ ownUsed 0 (d .revision0) ++ ownUsed 0 (d .revision1) ++ ownUsed 0 (d .revision2)
+firstClaims d = claim alone 0x10 ∷ ownUsed (d .revision0) ++ ownUsed (d .revision1) ++ ownUsed (d .revision2)
 
-abbrev pub claims : Description → List Record → List Claim
-claims d rs = firstClaims d ++ claimsFrom 16 rs
+abbrev pub claims : Description → List Record → List Made
+claims d rs = madeAt 0 (firstClaims d) ++ claimsFrom 16 rs
 
 abbrev pub contested : Description → List Record → Option ℕ
 contested d rs = firstClash [] (claims d rs)

@@ -103,3 +103,32 @@ zone1 =
 abbrev pub zoned : List Row
 zoned =
     (after 62 (fanF 0x05 0x06 ++ zone1) gives Accepted 2) ∷ (after 62 (zone1 ++ fanF 0x05 0x06) gives Accepted 2) ∷ []
+
+-- 'Refusing two SPI elements with one chip select'; a status LED has its own pins, and the fan list is none of them.
+
+-- a digital sensor on SPI, in zone 1, with this chip select
+abbrev pub sensorS : ℕ → List ℕ
+sensorS select =
+    0x01
+    ∷ 0x15 ∷ 0x00
+    ∷ 0x00 ∷ 0xff ∷ 0xff ∷ 0xff ∷ 0x01
+    ∷ 0x03 ∷ select ∷ 0x00
+    ∷ 0x00 ∷ 0x00 ∷ 0x00 ∷ 0x00
+    ∷ 0x00 ∷ 0x00 ∷ 0x00 ∷ 0x00 ∷ 0x00 ∷ 0x00
+    ∷ []
+
+-- a status LED in zone 1, its first lamp green and on this pin, the others unused
+abbrev pub ledL : ℕ → List ℕ
+ledL pin =
+    0x04
+    ∷ 0x0e ∷ 0x00
+    ∷ 0x00 ∷ 0xff ∷ 0xff ∷ 0xff ∷ 0x01
+    ∷ pin ∷ 0x10 ∷ 0xff ∷ 0x00 ∷ 0xff ∷ 0x00
+    ∷ []
+
+abbrev pub ofPins : List Row
+ofPins =
+    (after 88 (sensorS 0x14 ++ sensorS 0x14 ++ zone1) gives Accepted 3)
+    ∷ (after 60 (ledL 0x04 ++ zone1) gives Accepted 2)
+    ∷ (after 60 (ledL 0x05 ++ zone1) gives Refused 10 16)
+    ∷ []

@@ -3,14 +3,16 @@ pub mod Records
 pub mod Layout
 pub mod Pins
 pub mod Rules
-pub mod Numbers
+pub mod ZonesAndStrings
 pub mod Claims
+pub mod Placed
 pub mod Table
 pub mod Verdict
 pub mod Answers
 pub mod Cleared
 pub mod Asked
 pub mod Known
+pub mod FieldRows
 pub mod Bargain
 pub mod Decode
 pub mod Reader

@@ -8,7 +8,7 @@ use lib.ListN.{length, drop}
 use lib.Dec.{eqb, ltb, leb}
 use Rattle.format.specs.Slots.{byte}
 use Rattle.format.specs.Records.{Record}
-use Rattle.format.specs.Numbers.{zoneless, nameless}
+use Rattle.format.specs.ZonesAndStrings.{zoneless, nameless}
 use Rattle.format.specs.Claims.{contested}
 use Rattle.format.specs.Table.{elementBreaks, descriptionBreaks}
 use Rattle.format.specs.Verdict.{stated, framed, known}

@@ -151,11 +151,11 @@ ownRules r = rule 8 (shaped r) ∷ rule 9 (coded r) ∷ rule 10 (pinned r) ∷ [
 
 -- Rule 25, of the description and of an element's fields: 'a number in the record is too large for its field'; here, that none
 -- is. Lengths and ENTRIES are the layout's and not the record's, so that a part that is too long for them is none of 25's.
-abbrev pub descriptionHeld : Description → Bool
-descriptionHeld d = allRoomy (opening d 16)
+abbrev pub descriptionRoomy : Description → Bool
+descriptionRoomy d = allRoomy (opening d 16)
 
-abbrev pub held : Element → Bool
-held e = allRoomy (fixed e)
+abbrev pub elementRoomy : Element → Bool
+elementRoomy e = allRoomy (fixed e)
 
 -- whether a record's address is of the kind that its bus type has
 abbrev pub ofItsKind : Record → Bool

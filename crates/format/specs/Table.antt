@@ -10,7 +10,7 @@ use Rattle.format.specs.Slots.{allRoomy}
 use Rattle.format.specs.Records.{Record}
 use Rattle.format.specs.Layout.{table}
 use Rattle.format.specs.Rules.{firstBroken, descriptionRules, ownRules}
-use Rattle.format.specs.Numbers.{rulesAgainst, zoneless, nameless}
+use Rattle.format.specs.ZonesAndStrings.{rulesAgainst, zoneless, nameless}
 use Rattle.format.specs.Claims.{contested}
 use Rattle.format.specs.declared.records.Description.{Description}
 
@@ -30,7 +30,7 @@ PassKept before (r ∷ rs) =
 
 pub record Keeps (d : Description) (rs : List Record) : Type 0 where
   -- 25: no number is too large for its field; nor are the lengths and ENTRIES that the layout supplies
-  pub held : allRoomy (table d rs) ≡ true
+  pub roomy-25 : allRoomy (table d rs) ≡ true
   -- 3: 'A table is 16 to 4,096 bytes'
   pub limit : length (table d rs) ≤ 4096
   -- 4, 5, 10

@@ -12,7 +12,7 @@ use Rattle.format.specs.Records.{Record}
 use Rattle.format.specs.Layout.{layout, layouts, opening, table, placeAfter}
 use Rattle.format.specs.Pins.{among}
 use Rattle.format.specs.Rules.{ofItsKind}
-use Rattle.format.specs.Numbers.{zoneless, nameless}
+use Rattle.format.specs.ZonesAndStrings.{zoneless, nameless}
 use Rattle.format.specs.Claims.{contested}
 use Rattle.format.specs.Table.{elementBreaks, descriptionBreaks, PassKept, Keeps}
 use Rattle.format.specs.declared.records.Description.{Description}

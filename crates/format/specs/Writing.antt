@@ -9,7 +9,7 @@ use lib.Dec.{leb}
 use Rattle.format.specs.Slots.{Slot, whole, word, written}
 use Rattle.format.specs.Records.{Record, digital, analogue, fan, led, current, controller, tachometer, zone, string, rgb}
 use Rattle.format.specs.Layout.{opening, fixed, idOf, headed}
-use Rattle.format.specs.Rules.{firstBroken, ownRules, descriptionHeld, held}
+use Rattle.format.specs.Rules.{firstBroken, ownRules, descriptionRoomy, elementRoomy}
 use Rattle.format.specs.Table.{descriptionBreaks}
 use Rattle.format.specs.Verdict.{stated}
 use Rattle.format.specs.Decode.{bind, whenNil, cutBlocks, cutTwo}
@@ -56,7 +56,7 @@ unlessBrokenAt (some k) p later = Refused k p
 -- start: 'checks 1, 25, 4, 5, 10; writes 16 bytes with length 16'
 unfoldable pub startAnswer : List ℕ → Description → Written
 startAnswer b d =
-    orRefused (leb 16 (length b)) 1 0 (orRefused (descriptionHeld d) 25 0 (unlessBrokenAt (descriptionBreaks d) 0 (Length 16)))
+    orRefused (leb 16 (length b)) 1 0 (orRefused (descriptionRoomy d) 25 0 (unlessBrokenAt (descriptionBreaks d) 0 (Length 16)))
 
 -- append: '1; 3, when that length is under 16, over 4,096 or past the buffer; then 25, 8, 9, 10 on the record, where the length
 -- so far stands for "element" ..; then 16, when the new length would pass the buffer or 4,096'
@@ -73,7 +73,7 @@ unfoldable pub appendAnswer : List ℕ → Element → List ℕ → Written
 appendAnswer b e p =
     orRefused (leb 16 (length b)) 1 0
     (orRefused (lengthStands b) 3 0
-    (orRefused (held e) 25 0
+    (orRefused (elementRoomy e) 25 0
     (unlessBrokenAt (partBreaks e p) (stated b)
     (orRefused (hasRoom b (newLength b e p)) 16 0 (Length (newLength b e p))))))
 

@@ -1,25 +1,44 @@
 -- What is to be found of an element by itself.
 -- Assumes nothing.
-use Prim.Native.Nat.{ℕ, _<_, _≤_}
+use Prim.Native.Nat.{ℕ, _≤_}
 use mathlib.Core.Path.{_≡_}
+use mathlib.Core.Bool.{true, false}
 use mathlib.Core.List.{List}
-use mathlib.Core.Option.{Option, none, some}
+use mathlib.Core.Option.{Option, some}
 use lib.ListN.{length}
 use Rattle.format.specs.Records.{Record}
-use Rattle.format.specs.Rules.{numbered, firstBroken, ownRules}
-use Rattle.format.specs.Claims.{claimsOf}
+use Rattle.format.specs.Rules.{numbered, pinned, selected}
+use Rattle.format.specs.Claims.{claimsOf, onBus}
 use Rattle.format.specs.Decode.{decode}
+use Rattle.format.specs.Writing.{assembledBreaks}
+use Rattle.format.specs.declared.records.Address.{Address}
+use Rattle.format.specs.declared.records.BusDevice.{BusDevice}
+use Rattle.rules.specs.Broken.{DeviceBreaks}
 use Rattle.claims.specs.Taken.{ClaimsAre}
+use Rattle.claims.specs.declared.Claims.{Claims}
+use Rattle.blocks.specs.declared.Part.{Part}
 use Rattle.found.specs.declared.Found.{Found}
 
 -- the first of 8, 9 and 10 that it breaks, or 0
 abbrev pub ownFault : Option Record → ℕ
-ownFault none = 8
-ownFault (some x) = numbered (firstBroken (ownRules x))
+ownFault o = numbered (assembledBreaks o)
 
 -- of bytes after a header with this identifier: the fault, or room for the placement and the claims
 pub record Judged (id : ℕ) (c : List ℕ) (r : Found) : Type 0 where
   pub right : r .fault ≡ ownFault (decode id c)
   pub long : r .fault ≡ 0 → 5 ≤ length c
   pub claimed :
-      r .fault ≡ 0 → (x : Record) → decode id c ≡ some x → (at : ℕ) → at < 65536 → ClaimsAre (r .claims) (claimsOf at x)
+      r .fault ≡ 0 → (x : Record) → decode id c ≡ some x → ClaimsAre (r .claims) (claimsOf x)
+
+-- the claims of a record, and of a device on a bus, that keeps 10
+abbrev pub ClaimsOf : Record → Claims → Type 0
+ClaimsOf x cs = pinned x ≡ true → ClaimsAre cs (claimsOf x)
+
+abbrev pub BusClaims : Address → Claims → Type 0
+BusClaims a cs = selected a ≡ true → ClaimsAre cs (onBus a)
+
+-- of the fixed fields of 09h or 0Ah and of what its part says, without the part
+pub record DeviceFound (d : BusDevice) (part : Part) (r : Found) : Type 0 where
+  pub misshapen : part .whole ≡ false → r .fault ≡ 8
+  pub breaks : part .whole ≡ true → DeviceBreaks d (part .full) (r .fault)
+  pub claimed : r .fault ≡ 0 → BusClaims (d .address) (r .claims)

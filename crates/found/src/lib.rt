@@ -1,7 +1,12 @@
 // What the bytes of an element that stands in a zone say of it alone: the first of 8, 9 and 10 that it breaks, and the pins
 // that it claims. The slices start after the element's header.
 ghost use mathlib.Core.Path.{_≡_};
-ghost use Rattle.found.specs.Judged.{Judged};
+ghost use Prim.Native.Nat.{_≤_};
+ghost use lib.ListN.{length};
+ghost use Rattle.format.specs.Slots.{byte};
+ghost use Rattle.format.specs.Decode.{readDevice};
+ghost use Rattle.found.specs.Judged.{Judged, DeviceFound};
+use blocks::Part;
 use claims::Claims;
 
 pub struct Found {
@@ -44,7 +49,7 @@ pub fn analogue_found(b: &[u8]) -> Found
         return refused(8);
     }
     let a = fields::analogue(b);
-    both(rules::analogue_breaks(a), claims::analogue_claims(a))
+    both(rules::analogue_breaks(a), claims::analogue_claims(a.pin))
 }
 
 // 03h
@@ -77,24 +82,30 @@ pub fn current_found(b: &[u8]) -> Found
         return refused(8);
     }
     let c = fields::current(b);
-    both(rules::current_breaks(c), claims::current_claims(c))
+    both(rules::current_breaks(c), claims::analogue_claims(c.pin))
+}
+
+// 09h and 0Ah: by their fixed bytes and what their part says.
+pub fn device_found(b: &[u8], part: Part) -> Found
+    requires { ⌜ 8 ≤ length (now b) ⌝ }
+    ensures { λ r. ⌜ DeviceFound (readDevice (byte (now (b .entry)))) part r ⌝ }
+{
+    if !part.whole {
+        return refused(8);
+    }
+    let d = fields::device(b);
+    let a = d.address;
+    both(rules::device_breaks(d, part.full), claims::bus_claims(a))
 }
 
 // 09h
 pub fn controller_found(b: &[u8]) -> Found
     ensures { λ r. ⌜ Judged 9 (now (b .entry)) r ⌝ }
 {
-    if b.len() < 10 {
+    if b.len() < 8 {
         return refused(8);
     }
-    let p = &b[8..];
-    let c = blocks::cut_blocks(p);
-    if c.at != p.len() + 1 {
-        return refused(8);
-    }
-    let d = fields::device(b);
-    let a = d.address;
-    both(rules::device_breaks(d, c.full), claims::bus_claims(a))
+    device_found(b, blocks::speed_blocks(&b[8..]))
 }
 
 // 0Ah
@@ -104,13 +115,7 @@ pub fn tachometer_found(b: &[u8]) -> Found
     if b.len() < 9 {
         return refused(8);
     }
-    let p = &b[9..];
-    if !blocks::two_blocks(p) {
-        return refused(8);
-    }
-    let d = fields::device(b);
-    let a = d.address;
-    both(rules::device_breaks(d, true), claims::bus_claims(a))
+    device_found(b, blocks::pairs_blocks(&b[9..], 2))
 }
 
 // 0Eh

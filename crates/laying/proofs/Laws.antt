@@ -8,31 +8,19 @@ use mathlib.Core.Bool.{true}
 use mathlib.Core.List.{List, [], _∷_, _++_, map, append-assoc}
 use lib.ListN.{length, getD, take, drop, length-append}
 use lib.Seq.{paste-zero, length-take-le, take-at, drop-at, drop-drop}
-use Rattle.format.specs.Slots.{Slot, whole, reserved, byteOf, word, written, roomy, allRoomy}
+use Rattle.format.specs.Slots.{Slot, whole, reserved, word, written, roomy, allRoomy}
 use Rattle.format.specs.Layout.{fixed, idOf}
 use Rattle.format.specs.Writing.{elementSlots, overwritten}
 use Rattle.format.specs.declared.records.Element.{Element}
 use Rattle.format.proofs.Kept.{and-true}
 use Rattle.format.proofs.Written.{length-written}
+use Rattle.format.proofs.Whole.{written-append, written-whole, length-whole}
 
 -- each slot of a list that has room has room
 pub roomy-at : (ss : List Slot) (k : ℕ) → allRoomy ss ≡ true → roomy (getD ss k reserved) ≡ true
 roomy-at [] k h = refl
 roomy-at (s ∷ ss) zero h = and-true (roomy s) (allRoomy ss) h .0
 roomy-at (s ∷ ss) (suc k) h = roomy-at ss k (and-true (roomy s) (allRoomy ss) h .1)
-
--- what is written
-pub written-append : (ss ts : List Slot) → written (ss ++ ts) ≡ written ss ++ written ts
-written-append [] ts = refl
-written-append (s ∷ ss) ts = ap (λ (l : List ℕ). byteOf s ∷ l) (written-append ss ts)
-
-pub written-whole : (p : List ℕ) → written (map whole p) ≡ p
-written-whole [] = refl
-written-whole (b ∷ p) = ap (λ (l : List ℕ). b ∷ l) (written-whole p)
-
-length-whole : (p : List ℕ) → length (map whole p) ≡ length p
-length-whole [] = refl
-length-whole (b ∷ p) = ap suc (length-whole p)
 
 -- nothing laid out
 pub overwritten-none : (at : ℕ) (b : List ℕ) → overwritten at [] b ≡ b

@@ -6,7 +6,7 @@ ghost use Prim.Native.Nat.{_+_, _<_, _≤_};
 ghost use lib.ListN.{length};
 ghost use Rattle.format.specs.Slots.{byteOf, flag, roomy, whole, word, written};
 ghost use Rattle.format.specs.Layout.{opening, fixed};
-ghost use Rattle.format.specs.Rules.{descriptionHeld, held};
+ghost use Rattle.format.specs.Rules.{descriptionRoomy, elementRoomy};
 ghost use Rattle.format.specs.Writing.{elementSlots, overwritten};
 
 mod kinds;
@@ -46,6 +46,34 @@ pub fn copy_into(buf: &mut [u8], at: usize, new: &[u8])
     }
 }
 
+// The description of a table of 16 bytes.
+pub fn put_description(buf: &mut [u8], d: Description)
+    requires { ⌜ (16 ≤ length (now buf)) × (descriptionRoomy d ≡ true) ⌝ }
+    ensures { λ _. ⌜ now (buf .exit) ≡ overwritten 0 (written (opening d 16)) (now (buf .entry)) ⌝ }
+{
+    copy_into(buf, 0, &description_bytes(d));
+}
+
+// An element with its part, from a place on.
+pub fn put_element(buf: &mut [u8], at: usize, e: Element, part: &[u8])
+    requires { ⌜ (elementRoomy e ≡ true) × (length (elementSlots e (now part)) ≤ 4096) × (at + length (elementSlots e (now part)) ≤ length (now buf)) ⌝ }
+    ensures { λ _. ⌜ now (buf .exit) ≡ overwritten at (written (elementSlots e (now (part .entry)))) (now (buf .entry)) ⌝ }
+{
+    let n = fixed_length(e);
+    let head = header(id_of(e), 3 + n + part.len());
+    copy_into(buf, at, &head);
+    put_fixed(buf, at + 3, e);
+    copy_into(buf, at + 3 + n, part);
+}
+
+// The table's length in bytes 1-2.
+pub fn put_length(buf: &mut [u8], n: usize)
+    requires { ⌜ (3 ≤ length (now buf)) × (n < 65536) ⌝ }
+    ensures { λ _. ⌜ now (buf .exit) ≡ overwritten 1 (written (word n)) (now (buf .entry)) ⌝ }
+{
+    copy_into(buf, 1, &[(n % 256) as u8, (n / 256) as u8]);
+}
+
 // The header of an element of so many bytes: its identifier, then its length, lowest byte first.
 fn header(id: u8, n: usize) -> [u8; 3]
     requires { ⌜ n < 65536 ⌝ }
@@ -56,7 +84,7 @@ fn header(id: u8, n: usize) -> [u8; 3]
 
 // An element's fixed fields.
 fn put_fixed(buf: &mut [u8], at: usize, e: Element)
-    requires { ⌜ (held e ≡ true) × (at + length (fixed e) ≤ length (now buf)) ⌝ }
+    requires { ⌜ (elementRoomy e ≡ true) × (at + length (fixed e) ≤ length (now buf)) ⌝ }
     ensures { λ _. ⌜ now (buf .exit) ≡ overwritten at (written (fixed e)) (now (buf .entry)) ⌝ }
 {
     match e {
@@ -83,7 +111,7 @@ fn flag_byte(t: bool, v: u8) -> u8
 
 // The bytes of a description, in a table of 16 bytes.
 fn description_bytes(d: Description) -> [u8; 16]
-    requires { ⌜ descriptionHeld d ≡ true ⌝ }
+    requires { ⌜ descriptionRoomy d ≡ true ⌝ }
     ensures { λ r. ⌜ r ≡ written (opening d 16) ⌝ }
 {
     let power = flag_byte(d.spwr, d.power.0);
@@ -105,32 +133,4 @@ fn description_bytes(d: Description) -> [u8; 16]
         RESERVED,
         RESERVED,
     ]
-}
-
-// The description of a table of 16 bytes.
-pub fn put_description(buf: &mut [u8], d: Description)
-    requires { ⌜ (16 ≤ length (now buf)) × (descriptionHeld d ≡ true) ⌝ }
-    ensures { λ _. ⌜ now (buf .exit) ≡ overwritten 0 (written (opening d 16)) (now (buf .entry)) ⌝ }
-{
-    copy_into(buf, 0, &description_bytes(d));
-}
-
-// An element with its part, from a place on.
-pub fn put_element(buf: &mut [u8], at: usize, e: Element, part: &[u8])
-    requires { ⌜ (held e ≡ true) × (length (elementSlots e (now part)) ≤ 4096) × (at + length (elementSlots e (now part)) ≤ length (now buf)) ⌝ }
-    ensures { λ _. ⌜ now (buf .exit) ≡ overwritten at (written (elementSlots e (now (part .entry)))) (now (buf .entry)) ⌝ }
-{
-    let n = fixed_length(e);
-    let head = header(id_of(e), 3 + n + part.len());
-    copy_into(buf, at, &head);
-    put_fixed(buf, at + 3, e);
-    copy_into(buf, at + 3 + n, part);
-}
-
-// The table's length in bytes 1-2.
-pub fn put_length(buf: &mut [u8], n: usize)
-    requires { ⌜ (3 ≤ length (now buf)) × (n < 65536) ⌝ }
-    ensures { λ _. ⌜ now (buf .exit) ≡ overwritten 1 (written (word n)) (now (buf .entry)) ⌝ }
-{
-    copy_into(buf, 1, &[(n % 256) as u8, (n / 256) as u8]);
 }

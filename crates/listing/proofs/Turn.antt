@@ -1,27 +1,25 @@
--- One turn of the listing: element k of the one list is read, and its line is put behind the lines of the first k.
+-- The listing as a walk: each turn puts the line of the element at its place behind those before it.
 -- Assumes nothing.
-use Prim.Native.Nat.{ℕ, suc, _+_, _<_, _≤_}
+use Prim.Native.Nat.{ℕ, _+_, _*_, _<_, _≤_}
 use native.Mathlib.Omega.{arith}
-use native.Mathlib.Numerals.{add-one}
 use native.Mathlib.Nat.{add-zero}
-use mathlib.Core.Path.{_≡_, sym, _∙_, ap, subst}
+use mathlib.Core.Path.{_≡_, refl, sym, _∙_, ap, subst}
 use mathlib.Core.List.{List, [], _∷_, _++_, append-nil, append-assoc}
-use lib.ListN.{length, take, drop, length-append}
-use Rattle.format.specs.Slots.{written}
+use lib.ListN.{length, drop, length-append}
+use Rattle.format.specs.Slots.{written, byte}
 use Rattle.format.specs.Records.{Record, elementOf}
-use Rattle.format.specs.Layout.{opening, fixed, part, layout, layouts}
+use Rattle.format.specs.Layout.{part, layout, layouts}
+use Rattle.format.specs.Verdict.{stated, Verdict}
+use Rattle.format.specs.Decode.{readDescription}
+use Rattle.format.specs.declared.records.Description.{Description}
 use Rattle.format.specs.declared.records.Element.{Element}
-use Rattle.format.specs.declared.answers.Asked.{Asked}
-use Rattle.format.specs.declared.answers.Asked.the-variants.{Element as Given, Refused as NotGiven}
-use Rattle.format.proofs.Lengths.{layouts-append, snoc-length, at-most-96}
-use Rattle.format.proofs.Written.{length-written}
-use Rattle.reader.specs.Answered.{GivesElement, GivesPart}
-use Rattle.reader.proofs.Each.{Between, between, never-refused, element-is, part-is}
+use Rattle.format.specs.declared.answers.Answer.the-variants.{Accepted, Refused}
+use Rattle.format.proofs.Lengths.{at-most-96}
+use Rattle.walking.specs.Walk.{Here, Walk}
+use Rattle.walking.proofs.Left.{reads, begin, next, onward, ended}
 use Rattle.spelling.specs.Spelling.{Put}
-use Rattle.spelling.proofs.Putting.{then}
-use Rattle.listing.specs.Lines.{tableLine, elementLine, elementLines}
-use Rattle.listing.specs.Midway.{Midway}
-use Rattle.listing.specs.declared.Cursor.{Cursor}
+use Rattle.spelling.proofs.Putting.{then, put-none}
+use Rattle.listing.specs.Lines.{tableLine, elementLine, elementLines, refusedLine, Listed, listed, refused}
 
 -- the line of an element behind those of the elements before it
 abbrev lineAt : ℕ → Record → List ℕ
@@ -38,79 +36,62 @@ lines-snoc at (x ∷ rs) r =
     ∙ sym (append-assoc (lineAt at x) (elementLines (at + length (layout x)) rs) (lineAt (at + length (layout x) + length (layouts rs)) r))
     ∙ ap (λ (m : ℕ). lineAt at x ++ elementLines (at + length (layout x)) rs ++ lineAt m r) n
 
--- how long an element is
-layout-length : (r : Record) → length (layout r) ≡ 3 + length (fixed (elementOf r)) + length (written (part r))
-layout-length r = omega (arith, length-append (fixed (elementOf r)) (part r), length-written (part r))
+-- the lines of the elements behind the place stand in the buffer, which was c, from `from` on; a line is at most 38 bytes
+pub record Lined (c : List ℕ) (from end : ℕ) (out : List ℕ) (done left : List Record) : Type 0 where
+  pub put : Put c from (elementLines 16 done) end out
+  pub bound : end ≤ from + 38 * length done
 
-module _ (b c : List ℕ) (n k : ℕ) (here : Cursor) (out : List ℕ) (w : Midway b c n k here out) (h : k < n) where
-  there : Between (w .rs) k
-  there = between (w .rs) k (omega (arith, h, w .count))
+pub refusal : (b c : List ℕ) {k p n : ℕ} (after : List ℕ) → Verdict b (Refused k p) → Put c 0 (refusedLine k p) n after → Listed b c n after
+refusal b c {k} {p} after v put = record { text = refusedLine k p; is = refused v; put = put }
 
-  r : Record
-  r = there .r
+pub begun : (b c : List ℕ) (from : ℕ) {n : ℕ} → Verdict b (Accepted n) → Walk b 16 (Lined c from from c)
+begun b c from v = begin b (Lined c from from c) v (λ rs e. record { put = put-none c from; bound = omega arith })
 
-  before : List Record
-  before = take k (w .rs)
+module _ (b c : List ℕ) (from at end : ℕ) (out : List ℕ) (w : Walk b at (Lined c from end out)) where
+  -- there is room for a line
+  pub room : at < length b → from ≤ 67 → end + 38 ≤ 4096
+  room h short =
+      let g = next b at (Lined c from end out) w h in
+      omega (
+        arith,
+        w .state .bound,
+        at-most-96 [] (w .done ++ w .left) (omega arith) (w .accepts .keeps .passed),
+        length-append (w .done) (w .left),
+        ap length (g .same),
+      )
 
-  -- there is room for a line, and no place is past the table's end
-  pub room : here .at + 38 ≤ 4096
-  room = omega (arith, w .bound, h, w .count, at-most-96 [] (w .rs) (omega arith) (w .accepts .keeps .passed))
+  pub turned :
+      {n end′ : ℕ} (e : Element) (p after : List ℕ)
+      → at < length b
+      → n ≡ stated (drop at b)
+      → ((x : Record) → Here b at x → e ≡ elementOf x)
+      → ((x : Record) → Here b at x → p ≡ written (part x))
+      → Put out end (elementLine at e p) end′ after × (end′ ≤ end + 38)
+      → Walk b (at + n) (Lined c from end′ after)
+  turned {end′ = end′} e p after h l es ps put =
+      onward b at (Lined c from end out) w (Lined c from end′ after) h l (λ g.
+      let line : elementLine at e p ≡ lineAt (16 + length (layouts (w .done))) (g .r) =
+      ap (λ (x : Element). elementLine at x p) (es (g .r) (g .here))
+      ∙ ap (λ (l : List ℕ). elementLine at (elementOf (g .r)) l) (ps (g .r) (g .here))
+      ∙ ap (λ (m : ℕ). lineAt m (g .r)) (w .place) in
+      let text : elementLines 16 (w .done) ++ elementLine at e p ≡ elementLines 16 (w .done ++ g .r ∷ []) =
+      ap (λ (l : List ℕ). elementLines 16 (w .done) ++ l) line ∙ sym (lines-snoc 16 (w .done) (g .r)) in
+      record {
+        put = subst (λ (l : List ℕ). Put c from l end′ after) text (then (w .state .put) (put .0));
+        bound = omega (arith, w .state .bound, put .1, length-append (w .done) (g .r ∷ []));
+      })
 
-  size : here .place + length (layout (there .r)) ≤ 4096
-  size =
-      let x = there .r in
-      let all = ap (λ (l : List Record). length (layouts l)) (there .split) in
-      let a = ap length (layouts-append (take k (w .rs)) (x ∷ drop (suc k) (w .rs))) in
-      let e = length-append (layouts (take k (w .rs))) (layouts (x ∷ drop (suc k) (w .rs))) in
-      let f = length-append (layout x) (layouts (drop (suc k) (w .rs))) in
-      let t = length-append (opening (w .d) (16 + length (layouts (w .rs)))) (layouts (w .rs)) in
-      omega (arith, w .place, all, a, e, f, t, w .accepts .keeps .limit)
-
-  pub refused-never : (x : Asked) (j p : ℕ) → GivesElement b k x → x ≡ NotGiven j p → ⊥
-  refused-never = never-refused b (w .bytes) (w .d) (w .rs) (w .accepts) k there
-
-  module _ (x : Asked) (e : Element) (p : List ℕ) (g : GivesElement b k x) (q : x ≡ Given e) (gp : GivesPart b k p) where
-    e-is : e ≡ elementOf (there .r)
-    e-is = element-is b (w .bytes) (w .d) (w .rs) (w .accepts) k there x e g q
-
-    p-is : p ≡ written (part (there .r))
-    p-is = part-is b (w .bytes) (w .d) (w .rs) (w .accepts) k there p gp
-
-    length-is : length (layout (there .r)) ≡ 3 + length (fixed e) + length p
-    length-is =
-        layout-length (there .r)
-        ∙ ap (λ (y : Element). 3 + length (fixed y) + length (written (part (there .r)))) (sym e-is)
-        ∙ ap (λ (l : List ℕ). 3 + length (fixed e) + length l) (sym p-is)
-
-    pub within : here .place + 3 + length (fixed e) + length p ≤ 4096
-    within = omega (arith, length-is, size)
-
-    pub turned :
-        (len end : ℕ) (after : List ℕ)
-        → len ≡ length (fixed e)
-        → Put out (here .at) (elementLine (here .place) e p) end after
-        → end ≤ here .at + 38
-        → Midway b c n (k + 1) (record { at = end; place = here .place + 3 + len + length p }) after
-    turned len end after l put short =
-        let bs = take k (w .rs) in
-        let y = there .r in
-        let step : take (k + 1) (w .rs) ≡ bs ++ y ∷ [] = ap (λ (j : ℕ). take j (w .rs)) (add-one k) ∙ there .next in
-        let line : elementLine (here .place) e p ≡ lineAt (16 + length (layouts bs)) y =
-        ap (λ (z : Element). elementLine (here .place) z p) e-is
-        ∙ ap (λ (z : List ℕ). elementLine (here .place) (elementOf y) z) p-is
-        ∙ ap (λ (z : ℕ). lineAt z y) (w .place) in
-        let text : tableLine (length b) (w .d) ++ elementLines 16 bs ++ elementLine (here .place) e p ≡ tableLine (length b) (w .d) ++ elementLines 16 (take (k + 1) (w .rs)) =
-        append-assoc (tableLine (length b) (w .d)) (elementLines 16 bs) (elementLine (here .place) e p)
-        ∙ ap (λ (z : List ℕ). tableLine (length b) (w .d) ++ (elementLines 16 bs ++ z)) line
-        ∙ ap (λ (z : List ℕ). tableLine (length b) (w .d) ++ z) (sym (lines-snoc 16 bs y))
-        ∙ ap (λ (z : List Record). tableLine (length b) (w .d) ++ elementLines 16 z) (sym step) in
-        record {
-          bytes = w .bytes;
-          d = w .d;
-          rs = w .rs;
-          accepts = w .accepts;
-          count = w .count;
-          put = subst (λ (z : List ℕ). Put c 0 z end after) text (then (w .put) put);
-          place = omega (arith, w .place, l, length-is, snoc-length bs y, ap (λ (z : List Record). length (layouts z)) step);
-          bound = omega (arith, w .bound, short);
-        }
+  pub whole :
+      (c₀ : List ℕ) (d : Description)
+      → length b ≤ at
+      → d ≡ readDescription (byte b)
+      → Put c₀ 0 (tableLine (length b) d) from c
+      → Listed b c₀ end out
+  whole c₀ d h e put =
+      let z = ended b at (Lined c from end out) w h in
+      let same = e ∙ sym (reads b (z .d) (z .rs) (z .accepts) .1) in
+      record {
+        text = tableLine (length b) (z .d) ++ elementLines 16 (z .rs);
+        is = listed (z .d) (z .rs) (z .accepts);
+        put = then (subst (λ (x : Description). Put c₀ 0 (tableLine (length b) x) from c) same put) (z .state .put);
+      }

@@ -1,5 +1,5 @@
-pub mod Growing
+pub mod Stepped
+pub mod Against
 pub mod Taking
-pub mod Answers
 pub mod Moving
 pub mod Walking

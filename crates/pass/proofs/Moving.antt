@@ -16,7 +16,7 @@ use Rattle.format.specs.Verdict.{stated, framed, known}
 use Rattle.format.specs.Decode.{content, decode}
 use Rattle.format.specs.Reader.{judge, orStop, step, Outcome, took, stop}
 use Rattle.format.specs.declared.records.Description.{Description}
-use Rattle.pass.specs.Tracks.{Tracks, Went, TakeIs, Moves, MoveIs}
+use Rattle.pass.specs.Tracks.{Flags, Tracks, Went, TakeIs, Moves, MoveIs}
 use Rattle.pass.specs.declared.State.{State}
 use Rattle.pass.specs.declared.Step.{Step}
 use Rattle.pass.specs.declared.Moved.{Moved}
@@ -54,45 +54,45 @@ content-at t at {n} p g =
 byte-first : (t : List ℕ) (at : ℕ) → byte (drop at t) 0 ≡ byte t at
 byte-first t at = getD-drop at t 0 0 ∙ ap (λ (n : ℕ). getD t n 0) (omega arith)
 
-module _ (t : List ℕ) (at : ℕ) (s : State) (zs ss zu su : List Bool) (r : Moved) (zs′ ss′ zu′ su′ : List Bool) where
-  pub move-6 : r .stop ≡ 6 → framed (drop at t) ≡ false → MoveIs t at s zs ss zu su r zs′ ss′ zu′ su′
+module _ (t : List ℕ) (at : ℕ) (s : State) (f : Flags) (r : Moved) (g : Flags) where
+  pub move-6 : r .stop ≡ 6 → r .state ≡ s → g ≡ f → framed (drop at t) ≡ false → MoveIs t at s f r g
   unfolding step
-  move-6 p f = record { moves = λ d before w k. rw f (p, omega arith) }
+  move-6 p q w e = record { moves = λ d before place k. rw e (p, omega arith, q, w) }
 
-  pub move-11 : r .stop ≡ 11 → framed (drop at t) ≡ true → 96 ≤ s .count → MoveIs t at s zs ss zu su r zs′ ss′ zu′ su′
+  pub move-11 : r .stop ≡ 11 → r .state ≡ s → g ≡ f → framed (drop at t) ≡ true → 96 ≤ s .count → MoveIs t at s f r g
   unfolding step
-  move-11 p f g = record { moves = λ d before w k. rw (f, le-ltb (length before) 96 (omega (arith, k .count))) (p, omega arith) }
+  move-11 p q w e h = record { moves = λ d before place k. rw (e, le-ltb (length before) 96 (omega (arith, k .count))) (p, omega arith, q, w) }
 
   moved :
       (d : Description) (before : List Record) (q : Step) (o : Outcome)
-      → Went d before q zs′ ss′ zu′ su′ o
+      → Went d before s f q g o
       → r .stop ≡ q .stop
       → r .state ≡ q .state
       → r .len ≡ stated (drop at t)
       → 3 ≤ r .len
       → at + r .len ≤ length t
-      → Moves t at d before r zs′ ss′ zu′ su′ o
-  moved d before q (took x) w p st l g h = (p ∙ w .0, l, g, h, rw st (w .1))
-  moved d before q (stop k) w p st l g h = (p ∙ w .0, w .1)
+      → Moves t at d before s f r g o
+  moved d before q (took x) w p st l m h = (p ∙ w .0, l, m, h, rw st (w .1))
+  moved d before q (stop k) w p st l m h = (p ∙ w .0, w .1, st ∙ w .2, w .3)
 
   pub move-on :
       (q : Step) {id : ℕ} {c : List ℕ}
       → id ≡ byte t at
       → c ≡ content (drop at t)
-      → TakeIs id c at s zs ss zu su q zs′ ss′ zu′ su′
+      → TakeIs id c at s f q g
       → r .stop ≡ q .stop
       → r .state ≡ q .state
       → r .len ≡ stated (drop at t)
       → 3 ≤ r .len
       → r .len ≤ length t - at
       → s .count < 96
-      → MoveIs t at s zs ss zu su r zs′ ss′ zu′ su′
+      → MoveIs t at s f r g
   unfolding step
-  move-on q {id} {c} i same w p st l g h n =
+  move-on q {id} {c} i same w p st l m h n =
       let d : id ≡ byte (drop at t) 0 = i ∙ sym (byte-first t at) in
       record {
         moves =
             λ e before place k.
-            rw (framed-good t at l g h, lt-ltb (length before) 96 (omega (arith, k .count)), ← d, ← same)
-            (moved e before q (orStop (known id) 7 (judge before (decode id c))) (w .takes e before place k) p st l g (omega arith));
+            rw (framed-good t at l m h, lt-ltb (length before) 96 (omega (arith, k .count)), ← d, ← same)
+            (moved e before q (orStop (known id) 7 (judge before (decode id c))) (w .takes e before place k) p st l m (omega arith));
       }

@@ -3,7 +3,6 @@
 use Prim.Native.Nat.{ℕ, zero, suc, _+_, _≤_, _<_}
 use native.Mathlib.Omega.{arith}
 use mathlib.Core.Path.{_≡_, refl, sym, _∙_, ap}
-use mathlib.Core.Bool.{Bool}
 use mathlib.Core.List.{List, [], _∷_, _++_}
 use lib.ListN.{length, drop, length-drop, length-append, drop-of-length-le}
 use lib.Seq.{drop-drop}
@@ -17,18 +16,18 @@ use Rattle.format.proofs.Slots.{bytes-drop}
 use Rattle.format.proofs.Decoding.{starts-stated}
 use Rattle.format.proofs.Stepping.{Meets, step-meets}
 use Rattle.format.proofs.Passing.{pass-nil}
-use Rattle.pass.specs.Tracks.{Tracks, Moves, MoveIs, OverIs}
+use Rattle.pass.specs.Tracks.{Flags, Tracks, Moves, MoveIs, OverIs}
 use Rattle.pass.specs.declared.State.{State}
 use Rattle.pass.specs.declared.Moved.{Moved}
 use Rattle.pass.specs.declared.Over.{Over}
-use Rattle.pass.proofs.Growing.{place-snoc}
+use Rattle.format.proofs.Growing.{place-snoc}
 use Rattle.pass.proofs.Moving.{unframed-short, move-6}
 
 -- the loop's invariant: some elements lie behind, the state and the flags track them, and the pass is where the loop is
-pub record Underway (d : Description) (t : List ℕ) (s : State) (zs ss zu su : List Bool) (at : ℕ) : Type 0 where
+pub record Underway (d : Description) (t : List ℕ) (s : State) (f : Flags) (at : ℕ) : Type 0 where
   pub before : List Record
   pub left : ℕ
-  pub tracks : Tracks d s zs ss zu su before
+  pub tracks : Tracks d s f before
   pub most : s .count ≤ 96
   pub few : s .zones ≤ 12
   pub within : at ≤ length t
@@ -38,12 +37,12 @@ pub record Underway (d : Description) (t : List ℕ) (s : State) (zs ss zu su : 
   pub same : elementsOf t ≡ pass left before at (drop at t)
 
 pub begin :
-    (d : Description) (t : List ℕ) (s : State) (zs ss zu su : List Bool)
+    (d : Description) (t : List ℕ) (s : State) (f : Flags)
     → 16 ≤ length t
     → Bytes t
-    → Tracks d s zs ss zu su []
-    → Underway d t s zs ss zu su 16
-begin d t s zs ss zu su h b k =
+    → Tracks d s f []
+    → Underway d t s f 16
+begin d t s f h b k =
     record {
       before = [];
       left = length (drop 16 t);
@@ -82,8 +81,8 @@ turn zero before p (b ∷ bs) h l = absurd (omega arith)
 turn (suc m) before p (b ∷ bs) h l = (m, refl, refl)
 
 module _
-    (d : Description) (t : List ℕ) (s : State) (zs ss zu su : List Bool) (at : ℕ) (u : Underway d t s zs ss zu su at)
-    (r : Moved) (zs′ ss′ zu′ su′ : List Bool) (h : at < length t) where
+    (d : Description) (t : List ℕ) (s : State) (f : Flags) (at : ℕ) (u : Underway d t s f at) (r : Moved)
+    (g : Flags) (h : at < length t) where
   abbrev Turned : ℕ → Outcome → Type 0
   Turned m o =
       pass (u .left) (u .before) at (drop at t)
@@ -96,9 +95,9 @@ module _
       (m : ℕ) (e : Record)
       → u .left ≡ suc m
       → (length (u .before) < 96) × (stated (drop at t) ≡ length (layout e))
-      → Moves t at d (u .before) r zs′ ss′ zu′ su′ (took e)
+      → Moves t at d (u .before) s f r g (took e)
       → Turned m (took e)
-      → Underway d t (r .state) zs′ ss′ zu′ su′ (at + r .len) × (3 ≤ r .len)
+      → Underway d t (r .state) g (at + r .len) × (3 ≤ r .len)
   went m e l few i p = (
     record {
       before = u .before ++ e ∷ [];
@@ -120,16 +119,16 @@ module _
       → u .left ≡ suc m
       → r .stop ≡ 0
       → step (u .before) (drop at t) ≡ o
-      → Moves t at d (u .before) r zs′ ss′ zu′ su′ o
+      → Moves t at d (u .before) s f r g o
       → Turned m o
-      → Underway d t (r .state) zs′ ss′ zu′ su′ (at + r .len) × (3 ≤ r .len)
+      → Underway d t (r .state) g (at + r .len) × (3 ≤ r .len)
   go-on-by m (took e) l z q i p = went m e l (took-facts (u .before) (drop at t) e (bytes-drop at t (u .bytes)) (omega (arith, length-drop at t)) q) i p
   go-on-by m (stop k) l z q i p = absurd (omega (arith, i .0, i .1, z))
 
   pub go-on :
-      MoveIs t at s zs ss zu su r zs′ ss′ zu′ su′
+      MoveIs t at s f r g
       → r .stop ≡ 0
-      → Underway d t (r .state) zs′ ss′ zu′ su′ (at + r .len) × (3 ≤ r .len)
+      → Underway d t (r .state) g (at + r .len) × (3 ≤ r .len)
   go-on w z =
       let k = turned in
       go-on-by (k .0) (step (u .before) (drop at t)) (k .1) z refl (w .moves d (u .before) (u .place) (u .tracks)) (k .2)
@@ -137,51 +136,55 @@ module _
   halt-by :
       (m : ℕ) (o : Outcome)
       → (r .stop ≡ 0 → ⊥)
-      → Moves t at d (u .before) r zs′ ss′ zu′ su′ o
+      → Moves t at d (u .before) s f r g o
       → Turned m o
       → (v : Over)
       → v .stop ≡ r .stop
       → v .place ≡ at
-      → OverIs d v zs′ ss′ zu′ su′ (elementsOf t)
-  halt-by m (took e) z i p v a b = absurd (z (i .0))
-  halt-by m (stop k) z i p v a b = rw (u .same ∙ p) (a ∙ i .0, i .1, b)
+      → v .state ≡ r .state
+      → OverIs d v g (elementsOf t)
+  halt-by m (took e) z i p v a b c = absurd (z (i .0))
+  halt-by m (stop k) z i p v a b c = rw (u .same ∙ p) (a ∙ i .0, i .1, b, u .before, u .place, rw (c, i .2, i .3) (u .tracks))
 
   pub halt :
-      MoveIs t at s zs ss zu su r zs′ ss′ zu′ su′
+      MoveIs t at s f r g
       → (r .stop ≡ 0 → ⊥)
       → (v : Over)
       → v .stop ≡ r .stop
       → v .place ≡ at
-      → OverIs d v zs′ ss′ zu′ su′ (elementsOf t)
-  halt w z v a b =
+      → v .state ≡ r .state
+      → OverIs d v g (elementsOf t)
+  halt w z v a b c =
       let k = turned in
-      halt-by (k .0) (step (u .before) (drop at t)) z (w .moves d (u .before) (u .place) (u .tracks)) (k .2) v a b
+      halt-by (k .0) (step (u .before) (drop at t)) z (w .moves d (u .before) (u .place) (u .tracks)) (k .2) v a b c
 
 -- one or two bytes are left
 pub cut-short :
-    (d : Description) (t : List ℕ) (s : State) (zs ss zu su : List Bool) (at : ℕ)
-    → Underway d t s zs ss zu su at
+    (d : Description) (t : List ℕ) (s : State) (f : Flags) (at : ℕ)
+    → Underway d t s f at
     → length t ≤ at + 2
     → at < length t
     → (v : Over)
     → v .stop ≡ 6
     → v .place ≡ at
-    → OverIs d v zs ss zu su (elementsOf t)
-cut-short d t s zs ss zu su at u l h v a b =
+    → v .state ≡ s
+    → OverIs d v f (elementsOf t)
+cut-short d t s f at u l h v a b c =
     let r : Moved = record { stop = 6; len = 0; state = s } in
-    halt d t s zs ss zu su at u r zs ss zu su h (move-6 t at s zs ss zu su r zs ss zu su refl (unframed-short t at (omega arith)))
+    halt d t s f at u r f h (move-6 t at s f r f refl refl refl (unframed-short t at (omega arith)))
     (λ e. omega (arith, e))
     v
     a
     b
+    c
 
 pub finish :
-    (d : Description) (t : List ℕ) (s : State) (zs ss zu su : List Bool) (at : ℕ)
-    → Underway d t s zs ss zu su at
+    (d : Description) (t : List ℕ) (s : State) (f : Flags) (at : ℕ)
+    → Underway d t s f at
     → length t ≤ at
     → (v : Over)
     → v .stop ≡ 0
     → v .state ≡ s
-    → OverIs d v zs ss zu su (elementsOf t)
-finish d t s zs ss zu su at u h v a b =
+    → OverIs d v f (elementsOf t)
+finish d t s f at u h v a b =
     rw (u .same, drop-of-length-le t {i = at} h, pass-nil (u .left) (u .before) at) (a, rw b (u .tracks))

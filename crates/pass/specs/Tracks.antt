@@ -1,116 +1,108 @@
--- What the state and the flags of the pass say of the elements so far, and what its steps answer.
+-- What the state and the flags of the pass say of the elements so far, and what its steps leave.
 -- Assumes nothing.
 use Prim.Native.Nat.{ℕ, _+_, _<_, _≤_}
 use mathlib.Core.Path.{_≡_}
-use mathlib.Core.Bool.{Bool, true, false, not}
+use mathlib.Core.Bool.{Bool}
 use mathlib.Core.List.{List, [], _∷_, _++_}
 use mathlib.Core.Option.{Option, none, some}
-use lib.ListN.{length, getD, set, drop}
-use lib.Dec.{eqb, ltb, leb}
+use lib.ListN.{length, drop}
 use Rattle.format.specs.Slots.{byte}
 use Rattle.format.specs.Records.{Record}
 use Rattle.format.specs.Layout.{placeAfter}
-use Rattle.format.specs.Numbers.{Role, role, zones, strings, zoneNamed, stringNamed}
-use Rattle.format.specs.Claims.{Claim, firstClaims, claimsFrom}
+use Rattle.format.specs.Rules.{numbered, firstBroken, ownRules}
+use Rattle.format.specs.ZonesAndStrings.{placed, role, gathered, zones, strings, zoneNamed, stringNamed}
+use Rattle.format.specs.Claims.{claimsOf, claims}
+use Rattle.format.specs.Table.{elementBreaks}
 use Rattle.format.specs.Verdict.{stated, known}
-use Rattle.format.specs.Decode.{decode}
+use Rattle.format.specs.Decode.{readPlacement, decode}
 use Rattle.format.specs.Reader.{Outcome, took, stop, orStop, judge, step, Result, halted, through}
 use Rattle.format.specs.declared.records.Description.{Description}
 use Rattle.flags.specs.Marks.{Marks}
-use Rattle.claims.specs.Taken.{ClaimsAre, HeldIs, allAt}
-use Rattle.rules.specs.Broken.{orElse}
+use Rattle.claims.specs.Taken.{ClaimsAre, HeldIs}
 use Rattle.found.specs.declared.Found.{Found}
 use Rattle.pass.specs.declared.State.{State}
 use Rattle.pass.specs.declared.Step.{Step}
 use Rattle.pass.specs.declared.Moved.{Moved}
 use Rattle.pass.specs.declared.Over.{Over}
 
--- all numbers that elements name
-abbrev pub allNamed : (Role → List ℕ) → List Record → List ℕ
-allNamed names [] = []
-allNamed names (r ∷ rs) = names (role r) ++ allNamed names rs
+-- the four lent arrays of flags: zone and string numbers that are declared, and those that are named
+pub record Flags : Type 0 where
+  pub zones-declared : List Bool
+  pub strings-declared : List Bool
+  pub zones-named : List Bool
+  pub strings-named : List Bool
+
+abbrev pub flags : List Bool → List Bool → List Bool → List Bool → Flags
+flags zs ss zu su = record { zones-declared = zs; strings-declared = ss; zones-named = zu; strings-named = su }
 
 -- the state and the flags say what the elements before declare, name and claim, after a description
-pub record Tracks (d : Description) (s : State) (zs ss zu su : List Bool) (before : List Record) : Type 0 where
+pub record Tracks (d : Description) (s : State) (f : Flags) (before : List Record) : Type 0 where
   pub count : s .count ≡ length before
   pub zoned : s .zones ≡ length (zones before)
   pub few : s .zones ≤ 12
-  pub zone : Marks zs (zones before)
-  pub string : Marks ss (strings before)
-  pub zone-use : Marks zu (allNamed zoneNamed before)
-  pub string-use : Marks su (d .string ∷ allNamed stringNamed before)
-  pub held : HeldIs (s .held) (firstClaims d ++ claimsFrom 16 before)
+  pub zone : Marks (f .zones-declared) (zones before)
+  pub string : Marks (f .strings-declared) (strings before)
+  pub zone-use : Marks (f .zones-named) (gathered zoneNamed before)
+  pub string-use : Marks (f .strings-named) (d .string ∷ gathered stringNamed before)
+  pub held : HeldIs (s .held) (claims d before)
 
--- a zone descriptor: the first of 8, 11 and 12 that it breaks
-abbrev pub zoneStop : List ℕ → ℕ → List Bool → ℕ
-zoneStop c n zs = orElse (eqb (3 + length c) 30) 8 (orElse (ltb n 12) 11 (orElse (not (getD zs (byte c 0) false)) 12 0))
+-- Where the element breaks a rule its number stops the step, and state and flags are as they were; where it breaks none it is
+-- one of those before.
+abbrev pub Leaves : Description → List Record → Record → State → Flags → Step → Flags → Option ℕ → Type 0
+Leaves d before x s f r after none = (r .stop ≡ 0) × Tracks d (r .state) after (before ++ x ∷ [])
+Leaves d before x s f r after (some k) = (r .stop ≡ k) × (0 < k) × (r .state ≡ s) × (after ≡ f)
 
-pub record ZoneStep (c : List ℕ) (s : State) (zs su : List Bool) (r : Step) (zs′ su′ : List Bool) : Type 0 where
-  pub stop : r .stop ≡ zoneStop c (s .zones) zs
-  pub counted : r .stop ≡ 0 → r .state .count ≡ s .count + 1
-  pub zoned : r .stop ≡ 0 → r .state .zones ≡ s .zones + 1
-  pub held : r .stop ≡ 0 → r .state .held ≡ s .held
-  pub seen : r .stop ≡ 0 → zs′ ≡ set zs (byte c 0) true
-  pub used : r .stop ≡ 0 → su′ ≡ set su (byte c 1) true
+-- the step of one element at a place
+pub record StepIs (x : Record) (at : ℕ) (s : State) (f : Flags) (r : Step) (after : Flags) : Type 0 where
+  pub leaves :
+      (d : Description) (before : List Record)
+      → at ≡ placeAfter before
+      → Tracks d s f before
+      → Leaves d before x s f r after (elementBreaks before x)
 
--- a string: the first of 8, 9 and 12 that it breaks
-abbrev pub textStop : List ℕ → List Bool → ℕ
-textStop c ss = orElse (leb 6 (3 + length c)) 8 (orElse (not (eqb (byte c 0) 0)) 9 (orElse (not (getD ss (byte c 0) false)) 12 0))
-
-pub record TextStep (c : List ℕ) (s : State) (ss : List Bool) (r : Step) (ss′ : List Bool) : Type 0 where
-  pub stop : r .stop ≡ textStop c ss
-  pub counted : r .stop ≡ 0 → r .state .count ≡ s .count + 1
-  pub zoned : r .stop ≡ 0 → r .state .zones ≡ s .zones
-  pub held : r .stop ≡ 0 → r .state .held ≡ s .held
-  pub seen : r .stop ≡ 0 → ss′ ≡ set ss (byte c 0) true
-
--- an element that stands in a zone: its own fault, or what it leaves
+-- the step of an element that stands in a zone, from what was found of its bytes: of no element, the fault alone
 pub record PlacedStep (f : Found) (c : List ℕ) (at : ℕ) (s : State) (zu su : List Bool) (r : Step) (zu′ su′ : List Bool) : Type 0 where
-  pub stop : r .stop ≡ f .fault
-  pub counted : r .stop ≡ 0 → r .state .count ≡ s .count + 1
-  pub zoned : r .stop ≡ 0 → r .state .zones ≡ s .zones
-  pub held :
-      r .stop ≡ 0
-      → (before cs : List Claim)
-      → HeldIs (s .held) before
-      → ClaimsAre (f .claims) cs
-      → allAt at cs ≡ true
-      → HeldIs (r .state .held) (before ++ cs)
-  pub zone : r .stop ≡ 0 → zu′ ≡ set zu (byte c 4) true
-  pub name : r .stop ≡ 0 → su′ ≡ set su (byte c 0) true
+  pub faulty : (f .fault ≡ 0 → ⊥) → (r .stop ≡ f .fault) × (r .state ≡ s) × (zu′ ≡ zu) × (su′ ≡ su)
+  pub steps :
+      (x : Record)
+      → role x ≡ placed (readPlacement (byte c))
+      → f .fault ≡ numbered (firstBroken (ownRules x))
+      → (f .fault ≡ 0 → ClaimsAre (f .claims) (claimsOf x))
+      → (zs ss : List Bool)
+      → StepIs x at s (flags zs ss zu su) r (flags zs ss zu′ su′)
 
 -- what a step leaves, by the outcome that it is to have
-abbrev pub Went : Description → List Record → Step → List Bool → List Bool → List Bool → List Bool → Outcome → Type 0
-Went d before r zs ss zu su (took x) = (r .stop ≡ 0) × Tracks d (r .state) zs ss zu su (before ++ x ∷ [])
-Went d before r zs ss zu su (stop k) = (r .stop ≡ k) × (0 < k)
+abbrev pub Went : Description → List Record → State → Flags → Step → Flags → Outcome → Type 0
+Went d before s f r after (took x) = (r .stop ≡ 0) × Tracks d (r .state) after (before ++ x ∷ [])
+Went d before s f r after (stop k) = (r .stop ≡ k) × (0 < k) × (r .state ≡ s) × (after ≡ f)
 
-pub record TakeIs (id : ℕ) (c : List ℕ) (at : ℕ) (s : State) (zs ss zu su : List Bool) (r : Step) (zs′ ss′ zu′ su′ : List Bool) : Type 0 where
+pub record TakeIs (id : ℕ) (c : List ℕ) (at : ℕ) (s : State) (f : Flags) (r : Step) (after : Flags) : Type 0 where
   pub takes :
       (d : Description) (before : List Record)
       → at ≡ placeAfter before
-      → Tracks d s zs ss zu su before
-      → Went d before r zs′ ss′ zu′ su′ (orStop (known id) 7 (judge before (decode id c)))
+      → Tracks d s f before
+      → Went d before s f r after (orStop (known id) 7 (judge before (decode id c)))
 
-abbrev pub Moves : List ℕ → ℕ → Description → List Record → Moved → List Bool → List Bool → List Bool → List Bool → Outcome → Type 0
-Moves t at d before r zs ss zu su (took x) =
+abbrev pub Moves : List ℕ → ℕ → Description → List Record → State → Flags → Moved → Flags → Outcome → Type 0
+Moves t at d before s f r after (took x) =
     (r .stop ≡ 0)
     × (r .len ≡ stated (drop at t))
     × (3 ≤ r .len)
     × (at + r .len ≤ length t)
-    × Tracks d (r .state) zs ss zu su (before ++ x ∷ [])
-Moves t at d before r zs ss zu su (stop k) = (r .stop ≡ k) × (0 < k)
+    × Tracks d (r .state) after (before ++ x ∷ [])
+Moves t at d before s f r after (stop k) = (r .stop ≡ k) × (0 < k) × (r .state ≡ s) × (after ≡ f)
 
-pub record MoveIs (t : List ℕ) (at : ℕ) (s : State) (zs ss zu su : List Bool) (r : Moved) (zs′ ss′ zu′ su′ : List Bool) : Type 0 where
+pub record MoveIs (t : List ℕ) (at : ℕ) (s : State) (f : Flags) (r : Moved) (after : Flags) : Type 0 where
   pub moves :
       (d : Description) (before : List Record)
       → at ≡ placeAfter before
-      → Tracks d s zs ss zu su before
-      → Moves t at d before r zs′ ss′ zu′ su′ (step before (drop at t))
+      → Tracks d s f before
+      → Moves t at d before s f r after (step before (drop at t))
 
--- what the whole pass says
-abbrev pub OverIs : Description → Over → List Bool → List Bool → List Bool → List Bool → Result → Type 0
-OverIs d r zs ss zu su (halted k p) = (r .stop ≡ k) × (0 < k) × (r .place ≡ p)
-OverIs d r zs ss zu su (through rs) = (r .stop ≡ 0) × Tracks d (r .state) zs ss zu su rs
+-- what the whole pass says: where it stopped, state and flags are those of the elements before
+abbrev pub OverIs : Description → Over → Flags → Result → Type 0
+OverIs d r f (halted k p) = (r .stop ≡ k) × (0 < k) × (r .place ≡ p) × (before : List Record) × (p ≡ placeAfter before) × Tracks d (r .state) f before
+OverIs d r f (through rs) = (r .stop ≡ 0) × Tracks d (r .state) f rs
 
-pub record WalkIs (d : Description) (r : Over) (zs ss zu su : List Bool) (o : Result) : Type 0 where
-  pub over : OverIs d r zs ss zu su o
+pub record WalkIs (d : Description) (r : Over) (f : Flags) (o : Result) : Type 0 where
+  pub over : OverIs d r f o

@@ -1,16 +1,20 @@
 // The pass over the elements from offset 16: 6, the 97th (11), 7, 8, 9, 10, the 13th zone (11), 12. Which numbers have been seen
 // and which are named is kept for all 256 numbers, in flags that are lent.
 ghost use mathlib.Core.Path.{_≡_};
-ghost use mathlib.Core.List.{[]};
-ghost use Prim.Native.Nat.{_+_, _<_, _≤_};
-ghost use lib.ListN.{length, drop};
+ghost use mathlib.Core.Bool.{Bool, not};
+ghost use mathlib.Core.List.{List, []};
+ghost use Prim.Native.Nat.{ℕ, _+_, _<_, _≤_};
+ghost use lib.ListN.{length};
+ghost use lib.Dec.{ltb};
 ghost use Rattle.format.specs.Slots.{byte, Bytes};
 ghost use Rattle.format.specs.Decode.{readDescription};
 ghost use Rattle.format.specs.Reader.{elementsOf};
-ghost use Rattle.pass.specs.Tracks.{Tracks, ZoneStep, TextStep, PlacedStep, TakeIs, MoveIs, WalkIs};
+ghost use Rattle.format.specs.Records.{zone, string};
+ghost use Rattle.rules.specs.Broken.{orElse};
+ghost use Rattle.pass.specs.Tracks.{flags, Tracks, StepIs, PlacedStep, TakeIs, MoveIs, WalkIs};
 use claims::Held;
-use flags::wide;
 use found::Found;
+use words::wide;
 
 // How many elements and zones there are so far, and who claims which pins.
 pub struct State {
@@ -45,20 +49,29 @@ fn stopped(stop: u8, state: State) -> Step
     Step { stop, state }
 }
 
+// 11 and 12 of a zone descriptor.
+fn zone_against(zones: usize, seen: bool) -> u8
+    ensures { λ r. ⌜ r ≡ orElse (ltb zones 12) 11 (orElse (not seen) 12 0) ⌝ }
+{
+    if 12 <= zones {
+        return 11;
+    }
+    if seen { 12 } else { 0 }
+}
+
 // 0Bh
 fn zone_step(b: &[u8], s: State, zs: &mut [bool; 256], su: &mut [bool; 256]) -> Step
     requires { ⌜ (s .count < 96) × (s .zones ≤ 12) ⌝ }
-    ensures { λ r. ⌜ ZoneStep (now (b .entry)) s (now (zs .entry)) (now (su .entry)) r (now (zs .exit)) (now (su .exit)) ⌝ }
+    ensures { λ r. ⌜ ((at : ℕ) (ss zu : List Bool) → StepIs (zone (now (b .entry))) at s (flags (now (zs .entry)) ss zu (now (su .entry))) r (flags (now (zs .exit)) ss zu (now (su .exit)))) ⌝ }
 {
-    if b.len() != 27 {
-        return stopped(8, s);
-    }
-    if 12 <= s.zones {
-        return stopped(11, s);
+    let own = rules::zone_breaks(b);
+    if own != 0 {
+        return stopped(own, s);
     }
     let z = wide(b[0]);
-    if zs[z] {
-        return stopped(12, s);
+    let against = zone_against(s.zones, zs[z]);
+    if against != 0 {
+        return stopped(against, s);
     }
     zs[z] = true;
     let t = wide(b[1]);
@@ -74,18 +87,16 @@ fn zone_step(b: &[u8], s: State, zs: &mut [bool; 256], su: &mut [bool; 256]) -> 
     }
 }
 
-// 0Ch
+// 0Ch, with 12 against those before
 fn text_step(b: &[u8], s: State, ss: &mut [bool; 256]) -> Step
     requires { ⌜ s .count < 96 ⌝ }
-    ensures { λ r. ⌜ TextStep (now (b .entry)) s (now (ss .entry)) r (now (ss .exit)) ⌝ }
+    ensures { λ r. ⌜ ((at : ℕ) (zs zu su : List Bool) → StepIs (string (now (b .entry))) at s (flags zs (now (ss .entry)) zu su) r (flags zs (now (ss .exit)) zu su)) ⌝ }
 {
-    if b.len() < 3 {
-        return stopped(8, s);
+    let own = rules::text_breaks(b);
+    if own != 0 {
+        return stopped(own, s);
     }
     let t = wide(b[0]);
-    if t == 0 {
-        return stopped(9, s);
-    }
     if ss[t] {
         return stopped(12, s);
     }
@@ -110,7 +121,7 @@ fn placed_step(
     zu: &mut [bool; 256],
     su: &mut [bool; 256],
 ) -> Step
-    requires { ⌜ (s .count < 96) × (f .fault ≡ 0 → 5 ≤ length (now b)) ⌝ }
+    requires { ⌜ (s .count < 96) × (at < 65536) × (f .fault ≡ 0 → 5 ≤ length (now b)) ⌝ }
     ensures { λ r. ⌜ PlacedStep f (now (b .entry)) at s (now (zu .entry)) (now (su .entry)) r (now (zu .exit)) (now (su .exit)) ⌝ }
 {
     if f.fault != 0 {
@@ -145,7 +156,7 @@ fn take(
     su: &mut [bool; 256],
 ) -> Step
     requires { ⌜ (s .count < 96) × (s .zones ≤ 12) × (at < 65536) ⌝ }
-    ensures { λ r. ⌜ TakeIs id (now (b .entry)) at s (now (zs .entry)) (now (ss .entry)) (now (zu .entry)) (now (su .entry)) r (now (zs .exit)) (now (ss .exit)) (now (zu .exit)) (now (su .exit)) ⌝ }
+    ensures { λ r. ⌜ TakeIs id (now (b .entry)) at s (flags (now (zs .entry)) (now (ss .entry)) (now (zu .entry)) (now (su .entry))) r (flags (now (zs .exit)) (now (ss .exit)) (now (zu .exit)) (now (su .exit))) ⌝ }
 {
     match id {
         1 => placed_step(found::digital_found(b), b, at, s, zu, su),
@@ -183,7 +194,7 @@ fn one_step(
     su: &mut [bool; 256],
 ) -> Moved
     requires { ⌜ (at + 2 < length (now t)) × (length (now t) ≤ 4096) × (s .count ≤ 96) × (s .zones ≤ 12) ⌝ }
-    ensures { λ r. ⌜ MoveIs (now (t .entry)) at s (now (zs .entry)) (now (ss .entry)) (now (zu .entry)) (now (su .entry)) r (now (zs .exit)) (now (ss .exit)) (now (zu .exit)) (now (su .exit)) ⌝ }
+    ensures { λ r. ⌜ MoveIs (now (t .entry)) at s (flags (now (zs .entry)) (now (ss .entry)) (now (zu .entry)) (now (su .entry))) r (flags (now (zs .exit)) (now (ss .exit)) (now (zu .exit)) (now (su .exit))) ⌝ }
 {
     let left = t.len() - at;
     let len = wide(t[at + 1]) + 256 * wide(t[at + 2]);
@@ -216,8 +227,8 @@ pub fn walk(
     zu: &mut [bool; 256],
     su: &mut [bool; 256],
 ) -> Over
-    requires { ⌜ (16 ≤ length (now t)) × (length (now t) ≤ 4096) × Bytes (now t) × Tracks (readDescription (byte (now t))) start (now zs) (now ss) (now zu) (now su) [] ⌝ }
-    ensures { λ r. ⌜ WalkIs (readDescription (byte (now (t .entry)))) r (now (zs .exit)) (now (ss .exit)) (now (zu .exit)) (now (su .exit)) (elementsOf (now (t .entry))) ⌝ }
+    requires { ⌜ (16 ≤ length (now t)) × (length (now t) ≤ 4096) × Bytes (now t) × Tracks (readDescription (byte (now t))) start (flags (now zs) (now ss) (now zu) (now su)) [] ⌝ }
+    ensures { λ r. ⌜ WalkIs (readDescription (byte (now (t .entry)))) r (flags (now (zs .exit)) (now (ss .exit)) (now (zu .exit)) (now (su .exit))) (elementsOf (now (t .entry))) ⌝ }
 {
     let mut s = start;
     let mut at: usize = 16;

@@ -15,7 +15,7 @@ use Rattle.format.specs.Records.{Record, digital, analogue, fan, led, current, 
 use Rattle.format.specs.Layout.{layout}
 use Rattle.format.specs.Rules.{shaped}
 use Rattle.format.specs.Pins.{among}
-use Rattle.format.specs.Numbers.{Role, placed, zoning, naming, role, zoneNamed, stringNamed, allAmong}
+use Rattle.format.specs.ZonesAndStrings.{Role, placed, zoning, naming, role, zoneNamed, stringNamed, allAmong}
 use Rattle.format.proofs.Slots.{Over, starts-over, starts-length}
 use Rattle.flags.specs.Marks.{Marks}
 use Rattle.places.specs.Walks.{RoleBytes}

@@ -13,12 +13,12 @@ use Rattle.format.specs.Slots.{Starts, Fits, Bytes}
 use Rattle.format.specs.Records.{Record}
 use Rattle.format.specs.Layout.{layout, layouts}
 use Rattle.format.specs.Rules.{shaped, ownRules}
-use Rattle.format.specs.Numbers.{Role, role, allAmong, firstNaming, rulesAgainst}
+use Rattle.format.specs.ZonesAndStrings.{Role, role, allAmong, firstNaming, rulesAgainst}
 use Rattle.format.specs.Table.{PassKept, elementBreaks}
 use Rattle.format.specs.Verdict.{stated}
 use Rattle.format.specs.Reader.{elementsOf, Result, halted, through, pass}
 use Rattle.format.proofs.Slots.{bytes-drop, starts-split, starts-length}
-use Rattle.format.proofs.Kept.{each-kept, unbroken-kind}
+use Rattle.format.proofs.Kept.{unbroken-kind, own-kept, own-unbroken}
 use Rattle.format.proofs.Decoding.{starts-stated, starts-next}
 use Rattle.format.proofs.Passing.{Ends, pass-meets}
 use Rattle.flags.specs.Marks.{Marks}
@@ -36,8 +36,7 @@ came t w = go (elementsOf t) (w .whole) (pass-meets (length (drop 16 t)) [] 16 (
         (subst (λ (l : List Record). Fits (drop 16 t) (layouts l)) q (h .1), subst (λ (l : List Record). PassKept [] l) q (h .2))
 
 pub kept-shaped : (before : List Record) (r : Record) → elementBreaks before r ≡ none → shaped r ≡ true
-unfolding ownRules
-kept-shaped before r h = each-kept (ownRules r ++ rulesAgainst before r) h .0
+kept-shaped before r h = own-kept r (own-unbroken before r h) .shape-8
 
 -- what stands at a place before the end, and what follows it
 pub record Head (t : List ℕ) (at : ℕ) (todo : List Record) (before : List Record) : Type 0 where

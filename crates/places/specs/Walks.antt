@@ -1,19 +1,14 @@
 -- What a walk over the elements of a table finds at each place.
 -- Assumes nothing.
-use Prim.Native.Nat.{ℕ, _+_, _<_, _≤_}
+use Prim.Native.Nat.{ℕ, _+_, _≤_}
 use mathlib.Core.Path.{_≡_}
-use mathlib.Core.Bool.{true}
-use mathlib.Core.List.{List, []}
+use mathlib.Core.List.{List}
 use mathlib.Core.Option.{Option, none, some}
-use lib.ListN.{length, drop, take}
-use Rattle.format.specs.Slots.{Starts, byte, Bytes}
+use lib.ListN.{length}
+use Rattle.format.specs.Slots.{byte, Bytes}
 use Rattle.format.specs.Records.{Record, zoneString}
-use Rattle.format.specs.Layout.{layout, placeAfter}
-use Rattle.format.specs.Rules.{shaped, ofItsKind}
-use Rattle.format.specs.Numbers.{Role, placed, zoning, naming}
-use Rattle.format.specs.Verdict.{Stands}
+use Rattle.format.specs.ZonesAndStrings.{Role, placed, zoning, naming}
 use Rattle.format.specs.Reader.{elementsOf, through}
-use Rattle.format.specs.Asked.{nth}
 
 -- the bytes of an element at a place that tell what it is to the others
 abbrev pub RoleBytes : List ℕ → ℕ → Role → Type 0
@@ -37,11 +32,3 @@ pub record Walkable (t : List ℕ) : Type 0 where
 abbrev pub orZero : Option ℕ → ℕ
 orZero none = 0
 orZero (some p) = p
-
--- element k stands at a place
-pub record Located (t : List ℕ) (rs : List Record) (k at : ℕ) : Type 0 where
-  pub place : at ≡ placeAfter (take k rs)
-  pub record-there : Record
-  pub is-nth : nth rs k ≡ some record-there
-  pub stands : Stands (drop at t) record-there
-  pub keeps-8 : shaped record-there ≡ true

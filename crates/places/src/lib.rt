@@ -1,25 +1,15 @@
-// Walks over the elements of a table that the pass came through: where the first one is that names a number which is not
-// declared, and where element k is.
+// 13 and 14 as second walks over the elements of a table that the pass came through: where the first one is that names a
+// number which is not declared.
 ghost use mathlib.Core.Path.{_≡_};
 ghost use mathlib.Core.List.{List, _∷_};
-ghost use Prim.Native.Nat.{ℕ, _+_, _<_, _≤_};
-ghost use lib.ListN.{length, drop, take};
+ghost use Prim.Native.Nat.{ℕ};
 ghost use Rattle.format.specs.Records.{Record};
-ghost use Rattle.format.specs.Layout.{placeAfter};
-ghost use Rattle.format.specs.Numbers.{Role, zoneNamed, stringNamed, allAmong, zones, strings, firstNaming};
-ghost use Rattle.format.specs.Verdict.{stated};
+ghost use Rattle.format.specs.ZonesAndStrings.{Role, zoneNamed, stringNamed, allAmong, zones, strings, firstNaming};
 ghost use Rattle.format.specs.Reader.{elementsOf, through};
 ghost use Rattle.flags.specs.Marks.{Marks};
-ghost use Rattle.places.specs.Walks.{RoleBytes, Walkable, orZero, Located};
-use flags::wide;
-
-// The length of the element at a place.
-pub fn length_at(t: &[u8], at: usize) -> usize
-    requires { ⌜ at + 2 < length (now t) ⌝ }
-    ensures { λ r. ⌜ r ≡ stated (drop at (now (t .entry))) ⌝ }
-{
-    wide(t[at + 1]) + 256 * wide(t[at + 2])
-}
+ghost use Rattle.places.specs.Walks.{RoleBytes, Walkable, orZero};
+use walking::length_at;
+use words::wide;
 
 // Whether the zone that the element at a place names is marked.
 fn zone_marked(t: &[u8], at: usize, marks: &[bool; 256]) -> bool
@@ -82,18 +72,4 @@ pub fn nameless(t: &[u8], marks: &[bool; 256]) -> usize
         at += length_at(t, at);
     }
     0
-}
-
-// The place of element k.
-pub fn place_of(t: &[u8], k: usize) -> usize
-    requires { ⌜ ((w : Walkable (now t)) × (k < length (w .rs))) ⌝ }
-    ensures { λ r. ⌜ ((rs : List Record) → elementsOf (now (t .entry)) ≡ through rs → Located (now (t .entry)) rs k r) ⌝ }
-{
-    let mut at: usize = 16;
-    let mut i: usize = 0;
-    while i < k {
-        at += length_at(t, at);
-        i += 1;
-    }
-    at
 }

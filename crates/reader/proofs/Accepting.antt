@@ -10,7 +10,7 @@ use lib.ListN.{length, length-drop}
 use lib.Dec.{eqb}
 use borrow.Author.Tests.{eqb-true}
 use Rattle.format.specs.Slots.{byte}
-use Rattle.format.specs.Rules.{descriptionRules, typed, powered}
+use Rattle.format.specs.Rules.{typed, powered}
 use Rattle.format.specs.Pins.{unused}
 use Rattle.format.specs.Table.{descriptionBreaks}
 use Rattle.format.specs.Verdict.{stated}
@@ -18,7 +18,7 @@ use Rattle.format.specs.Decode.{readDescription}
 use Rattle.format.specs.Reader.{through, pass, elementsOf, conclude, overAll, unlessMisdescribed, verdictOf}
 use Rattle.format.specs.declared.records.Description.{Description}
 use Rattle.format.specs.declared.answers.Answer.the-variants.{Accepted}
-use Rattle.format.proofs.Kept.{and-true}
+use Rattle.format.proofs.Kept.{and-true, kept-description}
 use Rattle.reader.specs.Bare.{plain, bareTable}
 use Rattle.reader.proofs.Reading.{answer-on}
 
@@ -43,8 +43,8 @@ module _ (d : Description) (h : plain d ≡ true) where
   tests = six (eqb (d .string) 0) (typed d) (powered d) (unused (d .revision0)) (unused (d .revision1)) (unused (d .revision2)) h
 
   plain-keeps : descriptionBreaks d ≡ none
-  unfolding descriptionRules
-  plain-keeps = rw (tests .1, tests .2, tests .3, tests .4, tests .5) refl
+  plain-keeps =
+      kept-description d (record { type-4 = tests .1; power-5 = tests .2; pins-10 = rw (tests .3, tests .4, tests .5) refl })
 
   plain-accepted : overAll d [] ≡ Accepted 0
   plain-accepted = rw (tests .0, tests .3, tests .4, tests .5) refl

@@ -3,33 +3,31 @@
 use Prim.Native.Nat.{ℕ, _+_, _≤_, _<_}
 use native.Mathlib.Omega.{arith}
 use mathlib.Core.Path.{_≡_, refl, sym, _∙_, ap}
-use mathlib.Core.Bool.{Bool, true, false, _&&_, not, false≢true}
+use mathlib.Core.Bool.{Bool, true, false, _&&_, not}
 use mathlib.Core.List.{List, [], _∷_, _++_}
 use mathlib.Core.Option.{Option, none, some}
 use lib.ListN.{length, drop, length-append, length-drop}
-use lib.Dec.{eqb, leb}
-use borrow.Author.Tests.{eqb-true, leb-true, le-leb}
+use lib.Dec.{leb}
+use borrow.Author.Tests.{leb-true, le-leb}
 use Rattle.format.specs.Slots.{Starts, Fits, Bytes}
 use Rattle.format.specs.Records.{Record}
 use Rattle.format.specs.Layout.{layout, layouts, table, placeAfter}
-use Rattle.format.specs.Pins.{among, unused}
+use Rattle.format.specs.Pins.{among}
 use Rattle.format.specs.Rules.{unlessKept}
-use Rattle.format.specs.Numbers.{Role, role, allAmong, firstNaming, strings, stringNamed}
-use Rattle.format.specs.Claims.{Claim, claim, alone, clashes, firstClash, unlessUnused, ownUsed, claimsOf, claimsFrom, firstClaims, claims}
-use Rattle.format.specs.Table.{PassKept}
+use Rattle.format.specs.ZonesAndStrings.{Role, role, allAmong, firstNaming, strings, stringNamed}
+use Rattle.format.specs.Claims.{Claim, clashes, Made, madeAt, firstClash, claimsOf, claimsFrom, firstClaims, claims}
 use Rattle.format.specs.Verdict.{Verdict, Passed, Accepts, accepted, short, unrevised, missized, misdescribed, stopped, unzoned, unnamed, clashing}
 use Rattle.format.specs.Answers.{valueOf, placeOfAsked}
 use Rattle.format.specs.Asked.{Gives, given, past, ungiven}
-use Rattle.format.specs.declared.pins.OptionalPin.{OptionalPin}
 use Rattle.format.specs.declared.records.Description.{Description}
 use Rattle.format.specs.declared.answers.Answer.{Answer}
 use Rattle.format.specs.declared.answers.Answer.the-variants.{Refused}
 use Rattle.format.specs.declared.answers.Asked.{Asked}
+use Rattle.format.proofs.Kept.{and-true}
+use Rattle.format.proofs.Lengths.{at-most-96}
 use Rattle.format.proofs.Slots.{starts-length}
 use Rattle.format.proofs.Opening.{opened-only, opened-facts, table-length}
 use Rattle.format.proofs.Theorem.{accepts-passed}
-use Rattle.claims.specs.Taken.{allAt}
-use Rattle.pass.proofs.Growing.{claims-at}
 
 -- a place that is found first is one that was there
 unless-below : (t : Bool) (k m : ℕ) (o : Option ℕ) {p : ℕ} → k ≤ m → ((q : ℕ) → o ≡ some q → q ≤ m) → unlessKept t k o ≡ some p → p ≤ m
@@ -47,70 +45,35 @@ naming-below names declared at (r ∷ rs) p e =
     e
 
 -- all claims are made up to a place
-abbrev below : ℕ → List Claim → Bool
+abbrev below : ℕ → List Made → Bool
 below m [] = true
 below m (c ∷ cs) = leb (c .place) m && below m cs
 
-and-both : (a b : Bool) → a && b ≡ true → (a ≡ true) × (b ≡ true)
-and-both true b h = (refl, h)
-and-both false b h = absurd (false≢true h)
-
-clash-below : (m : ℕ) (cs e : List Claim) (p : ℕ) → below m cs ≡ true → firstClash e cs ≡ some p → p ≤ m
+clash-below : (m : ℕ) (cs : List Made) (e : List Claim) (p : ℕ) → below m cs ≡ true → firstClash e cs ≡ some p → p ≤ m
 clash-below m [] e p b h = let z : _≡_ {A = ℕ} 0 1 = cc in absurd (omega arith)
 clash-below m (c ∷ cs) e p b h =
-    let k = and-both (leb (c .place) m) (below m cs) b in
-    unless-below (not (clashes c e)) (c .place) m _ (leb-true (c .place) m (k .0)) (λ q w. clash-below m cs (c ∷ e) q (k .1) w) h
+    let k = and-true (leb (c .place) m) (below m cs) b in
+    unless-below (not (clashes (c .what) e)) (c .place) m _ (leb-true (c .place) m (k .0)) (λ q w. clash-below m cs (c .what ∷ e) q (k .1) w) h
 
-below-append : (m : ℕ) (xs ys : List Claim) → below m xs ≡ true → below m ys ≡ true → below m (xs ++ ys) ≡ true
-below-append m [] ys h k = k
-below-append m (x ∷ xs) ys h k =
-    let a = and-both (leb (x .place) m) (below m xs) h in
-    rw (a .0) (below-append m xs ys (a .1) k)
-
-at-below : (m at : ℕ) (cs : List Claim) → at ≤ m → allAt at cs ≡ true → below m cs ≡ true
-at-below m at [] h k = refl
-at-below m at (c ∷ cs) h k =
-    let a = and-both (eqb (c .place) at) (allAt at cs) k in
-    rw (le-leb (c .place) m (omega (arith, eqb-true (c .place) at (a .0)))) (at-below m at cs h (a .1))
+made-below : (m at : ℕ) (cs : List Claim) (ms : List Made) → at ≤ m → below m ms ≡ true → below m (madeAt at cs ++ ms) ≡ true
+made-below m at [] ms h k = k
+made-below m at (c ∷ cs) ms h k = rw (le-leb at m h) (made-below m at cs ms h k)
 
 from-below : (m at : ℕ) (rs : List Record) → at + length (layouts rs) ≤ m → below m (claimsFrom at rs) ≡ true
 from-below m at [] h = refl
 from-below m at (r ∷ rs) h =
-    below-append m (claimsOf at r) (claimsFrom (at + length (layout r)) rs)
-    (at-below m at (claimsOf at r) (omega arith) (claims-at at r))
+    made-below m at (claimsOf r) (claimsFrom (at + length (layout r)) rs) (omega arith)
     (from-below m (at + length (layout r)) rs (omega (arith, length-append (layout r) (layouts rs))))
-
-used-below : (m : ℕ) (p : OptionalPin) → below m (ownUsed 0 p) ≡ true
-used-below m p = go (unused p)
-  where
-    go : (t : Bool) → below m (unlessUnused t (claim alone 0 (p .0))) ≡ true
-    go true = refl
-    go false = rw (le-leb 0 m (omega arith)) refl
 
 claims-below : (d : Description) (rs : List Record) → below (placeAfter rs) (claims d rs) ≡ true
 claims-below d rs =
-    let m = placeAfter rs in
-    below-append m (firstClaims d) (claimsFrom 16 rs)
-    (below-append m (claim alone 0 0x10 ∷ ownUsed 0 (d .revision0) ++ ownUsed 0 (d .revision1)) (ownUsed 0 (d .revision2))
-    (below-append m (claim alone 0 0x10 ∷ ownUsed 0 (d .revision0)) (ownUsed 0 (d .revision1))
-    (below-append m (claim alone 0 0x10 ∷ []) (ownUsed 0 (d .revision0)) (rw (le-leb 0 m (omega arith)) refl) (used-below m (d .revision0)))
-    (used-below m (d .revision1)))
-    (used-below m (d .revision2)))
-    (from-below m 16 rs (omega arith))
-
--- 96 elements at most
-kept-few : (before rs : List Record) → length before ≤ 96 → PassKept before rs → length before + length rs ≤ 96
-kept-few before [] h k = omega arith
-kept-few before (r ∷ rs) h k =
-    let n = length-append before (r ∷ []) in
-    let l = kept-few (before ++ r ∷ []) rs (omega (arith, k .0)) (k .2) in
-    omega arith
+    made-below (placeAfter rs) 0 (firstClaims d) (claimsFrom 16 rs) (omega arith) (from-below (placeAfter rs) 16 rs (omega arith))
 
 passed-top : (b : List ℕ) (d : Description) (rs : List Record) → Passed b d rs → placeAfter rs ≤ 4096
 passed-top b d rs p = omega (arith, p .limit, table-length b d rs (p .fits))
 
 pub value-bound : (b : List ℕ) (a : Answer) → Verdict b a → valueOf a ≤ 4096
-value-bound b a (accepted d rs c) = omega (arith, kept-few [] rs (omega arith) (c .keeps .passed))
+value-bound b a (accepted d rs c) = omega (arith, at-most-96 [] rs (omega arith) (c .keeps .passed))
 value-bound b a (short h) = omega arith
 value-bound b a (unrevised h n) = omega arith
 value-bound b a (missized h e n) = omega arith

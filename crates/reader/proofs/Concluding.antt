@@ -11,8 +11,8 @@ use borrow.Author.Tests.{eq-eqb, ne-eqb, eqb-true}
 use Rattle.format.specs.Slots.{byte}
 use Rattle.format.specs.Records.{Record}
 use Rattle.format.specs.Pins.{among}
-use Rattle.format.specs.Numbers.{zones, strings, zoneNamed, stringNamed, firstNaming, zoneless, nameless}
-use Rattle.format.specs.Claims.{Claim, firstClash, claims}
+use Rattle.format.specs.ZonesAndStrings.{gathered, zones, strings, zoneNamed, stringNamed, firstNaming, zoneless, nameless}
+use Rattle.format.specs.Claims.{Made, firstClash, claims}
 use Rattle.format.specs.Decode.{readDescription}
 use Rattle.format.specs.Reader.{elementsOf, through, overAll, conclude}
 use Rattle.format.specs.declared.records.Description.{Description}
@@ -23,7 +23,6 @@ use Rattle.claims.specs.Taken.{isNone, placeOr, HeldIs}
 use Rattle.claims.specs.declared.Held.{Held}
 use Rattle.claims.proofs.Firsts.{place-none}
 use Rattle.places.specs.Walks.{orZero}
-use Rattle.pass.specs.Tracks.{allNamed}
 use Rattle.pass.specs.declared.State.{State}
 use Rattle.reader.specs.Whole.{Gathered}
 use Rattle.reader.proofs.Owed.{none-named, one-named, all-declared, one-undeclared}
@@ -37,16 +36,16 @@ some-is : (o : Option ℕ) → isNone o ≡ false → o ≡ some (placeOr o)
 some-is none h = absurd (false≢true (sym h))
 some-is (some p) h = refl
 
-pub no-clash : (h : Held) (cs : List Claim) → HeldIs h cs → h .clash ≡ 65536 → firstClash [] cs ≡ none
+pub no-clash : (h : Held) (cs : List Made) → HeldIs h cs → h .clash ≡ 65536 → firstClash [] cs ≡ none
 no-clash h cs k e =
     none-is (firstClash [] cs)
-    (sym (place-none cs [] (k .are-proper)) ∙ eq-eqb (placeOr (firstClash [] cs)) 65536 (sym (k .first-clash) ∙ e))
+    (sym (place-none cs [] (k .low)) ∙ eq-eqb (placeOr (firstClash [] cs)) 65536 (sym (k .first-clash) ∙ e))
 
-pub a-clash : (h : Held) (cs : List Claim) → HeldIs h cs → (h .clash ≡ 65536 → ⊥) → firstClash [] cs ≡ some (h .clash)
+pub a-clash : (h : Held) (cs : List Made) → HeldIs h cs → (h .clash ≡ 65536 → ⊥) → firstClash [] cs ≡ some (h .clash)
 a-clash h cs k n =
     let m : placeOr (firstClash [] cs) ≡ 65536 → ⊥ = λ e. n (k .first-clash ∙ e) in
     some-is (firstClash [] cs)
-    (sym (place-none cs [] (k .are-proper)) ∙ ne-eqb (placeOr (firstClash [] cs)) 65536 m)
+    (sym (place-none cs [] (k .low)) ∙ ne-eqb (placeOr (firstClash [] cs)) 65536 m)
     ∙ ap some (sym (k .first-clash))
 
 -- a table with elements
@@ -64,7 +63,7 @@ module _ (t : List ℕ) (s : State) (zs ss zu su : List Bool) (g : Gathered t s 
     zoned : a ≡ false → zoneless rs ≡ none
     zoned e =
         none-named zoneNamed (zones rs) rs 16
-        (all-declared zu zs (allNamed zoneNamed rs) (zones rs) (g .zone-use) (g .zone) a l e)
+        (all-declared zu zs (gathered zoneNamed rs) (zones rs) (g .zone-use) (g .zone) a l e)
 
     pub refused-13 :
         a ≡ true
@@ -72,7 +71,7 @@ module _ (t : List ℕ) (s : State) (zs ss zu su : List Bool) (g : Gathered t s 
         → ((rs : List Record) → elementsOf t ≡ through rs → p ≡ orZero (firstNaming zoneNamed (zones rs) 16 rs))
         → Refused 13 p ≡ conclude d (elementsOf t)
     refused-13 e p f =
-        let w = one-undeclared zu zs (allNamed zoneNamed rs) (zones rs) (g .zone-use) (g .zone) a l e in
+        let w = one-undeclared zu zs (gathered zoneNamed rs) (zones rs) (g .zone-use) (g .zone) a l e in
         let q = one-named zoneNamed (zones rs) rs 16 (w .0) (w .1) (w .2) in
         let r : p ≡ q .0 = f rs (g .table .whole) ∙ ap orZero (q .1) in
         to-all (rw (q .1, r) refl)
@@ -95,7 +94,7 @@ module _ (t : List ℕ) (s : State) (zs ss zu su : List Bool) (g : Gathered t s 
           → Refused 14 p ≡ conclude d (elementsOf t)
       refused-14 e n q k h p f =
           let u : among (byte t 4) (0 ∷ strings rs) ≡ true = rw q at (sym (g .string .flag n k) ∙ h) in
-          let w = one-undeclared su ss (byte t 4 ∷ allNamed stringNamed rs) (0 ∷ strings rs) (g .string-use) (g .string) b m e in
+          let w = one-undeclared su ss (byte t 4 ∷ gathered stringNamed rs) (0 ∷ strings rs) (g .string-use) (g .string) b m e in
           let i = w .0 in
           let v = one-named stringNamed (0 ∷ strings rs) rs 16 i (other i (w .1) (w .2) u (eqb i (byte t 4)) refl) (w .2) in
           let r : p ≡ v .0 = f rs (g .table .whole) ∙ ap orZero (v .1) in
@@ -103,26 +102,26 @@ module _ (t : List ℕ) (s : State) (zs ss zu su : List Bool) (g : Gathered t s 
         where
           other :
               (i : ℕ)
-              → among i (byte t 4 ∷ allNamed stringNamed rs) ≡ true
+              → among i (byte t 4 ∷ gathered stringNamed rs) ≡ true
               → among i (0 ∷ strings rs) ≡ false
               → among (byte t 4) (0 ∷ strings rs) ≡ true
               → (c : Bool)
               → eqb i (byte t 4) ≡ c
-              → among i (allNamed stringNamed rs) ≡ true
+              → among i (gathered stringNamed rs) ≡ true
           other i h n y true x = absurd (false≢true (sym n ∙ rw (eqb-true i (byte t 4) x) y))
-          other i h n y false x = sym (ap (λ (c : Bool). c || among i (allNamed stringNamed rs)) x) ∙ h
+          other i h n y false x = sym (ap (λ (c : Bool). c || among i (gathered stringNamed rs)) x) ∙ h
 
       module _ (y : b ≡ false) where
-        all-named : (i : ℕ) → among i (byte t 4 ∷ allNamed stringNamed rs) ≡ true → among i (0 ∷ strings rs) ≡ true
+        all-named : (i : ℕ) → among i (byte t 4 ∷ gathered stringNamed rs) ≡ true → among i (0 ∷ strings rs) ≡ true
         all-named i h =
-            all-declared su ss (byte t 4 ∷ allNamed stringNamed rs) (0 ∷ strings rs) (g .string-use) (g .string) b m y i h
+            all-declared su ss (byte t 4 ∷ gathered stringNamed rs) (0 ∷ strings rs) (g .string-use) (g .string) b m y i h
 
         named : nameless d rs ≡ none
         named =
-            rw (all-named (byte t 4) (ap (λ (c : Bool). c || among (byte t 4) (allNamed stringNamed rs)) (eq-eqb (byte t 4) (byte t 4) refl)))
+            rw (all-named (byte t 4) (ap (λ (c : Bool). c || among (byte t 4) (gathered stringNamed rs)) (eq-eqb (byte t 4) (byte t 4) refl)))
             (none-named stringNamed (0 ∷ strings rs) rs 16 (λ i h. all-named i (later i (eqb i (byte t 4)) h)))
           where
-            later : (i : ℕ) (c : Bool) → among i (allNamed stringNamed rs) ≡ true → c || among i (allNamed stringNamed rs) ≡ true
+            later : (i : ℕ) (c : Bool) → among i (gathered stringNamed rs) ≡ true → c || among i (gathered stringNamed rs) ≡ true
             later i true h = refl
             later i false h = h
 

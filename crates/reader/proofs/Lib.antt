@@ -5,4 +5,4 @@ pub mod Accepting
 pub mod Bounds
 pub mod Asking
 pub mod Only
-pub mod Each
+pub mod PartPlaces

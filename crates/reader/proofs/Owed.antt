@@ -11,9 +11,8 @@ use borrow.Author.Tests.{eqb-true, eqb-false}
 use Rattle.format.specs.Records.{Record}
 use Rattle.format.specs.Layout.{layout}
 use Rattle.format.specs.Pins.{among}
-use Rattle.format.specs.Numbers.{Role, role, allAmong, firstNaming}
+use Rattle.format.specs.ZonesAndStrings.{Role, role, gathered, allAmong, firstNaming}
 use Rattle.flags.specs.Marks.{Marks, Lacks}
-use Rattle.pass.specs.Tracks.{allNamed}
 
 -- lists
 among-left : (i : ℕ) (xs ys : List ℕ) → among i xs ≡ true → among i (xs ++ ys) ≡ true
@@ -77,17 +76,17 @@ module _ (names : Role → List ℕ) (declared : List ℕ) where
   -- no element names one
   pub none-named :
       (rs : List Record) (p : ℕ)
-      → ((i : ℕ) → among i (allNamed names rs) ≡ true → among i declared ≡ true)
+      → ((i : ℕ) → among i (gathered names rs) ≡ true → among i declared ≡ true)
       → firstNaming names declared p rs ≡ none
   none-named [] p f = refl
   none-named (r ∷ rs) p f =
-      rw (all-among (names (role r)) declared (λ i h. f i (among-left i (names (role r)) (allNamed names rs) h)))
-      (none-named rs (p + length (layout r)) (λ i h. f i (among-right i (names (role r)) (allNamed names rs) h)))
+      rw (all-among (names (role r)) declared (λ i h. f i (among-left i (names (role r)) (gathered names rs) h)))
+      (none-named rs (p + length (layout r)) (λ i h. f i (among-right i (names (role r)) (gathered names rs) h)))
 
   -- some element names one
   pub one-named :
       (rs : List Record) (p i : ℕ)
-      → among i (allNamed names rs) ≡ true
+      → among i (gathered names rs) ≡ true
       → among i declared ≡ false
       → (q : ℕ) × (firstNaming names declared p rs ≡ some q)
   one-named [] p i h e = absurd (false≢true h)
@@ -99,12 +98,12 @@ module _ (names : Role → List ℕ) (declared : List ℕ) where
           → among i (names (role r)) ≡ t
           → (u : Bool)
           → allAmong (names (role r)) declared ≡ u
-          → (among i (allNamed names rs) ≡ true → (q : ℕ) × (firstNaming names declared (p + length (layout r)) rs ≡ some q))
+          → (among i (gathered names rs) ≡ true → (q : ℕ) × (firstNaming names declared (p + length (layout r)) rs ≡ some q))
           → (q : ℕ) × (firstNaming names declared p (r ∷ rs) ≡ some q)
       go t a false v f = (p, rw v refl)
       go true a true v f = absurd (false≢true (sym (not-all i (names (role r)) declared a e) ∙ v))
       go false a true v f =
-          let w = f (among-split i (names (role r)) (allNamed names rs) h a) in
+          let w = f (among-split i (names (role r)) (gathered names rs) h a) in
           (w .0, rw v (w .1))
 
 -- what the search over the flags says of the lists

@@ -7,11 +7,11 @@ use mathlib.Core.Bool.{Bool, true, false}
 use mathlib.Core.List.{List, [], _∷_, append-nil}
 use mathlib.Core.Option.{Option, none, some}
 use lib.ListN.{length, set, drop, replicate}
-use borrow.Author.Tests.{eq-eqb, ne-eqb, le-leb, lt-leb}
+use borrow.Author.Tests.{eq-eqb, le-leb}
 use Rattle.format.specs.Slots.{byte, Bytes}
-use Rattle.format.specs.Numbers.{strings}
-use Rattle.format.specs.Rules.{numbered, unlessKept, descriptionRules, typed, powered, strapped}
-use Rattle.format.specs.Claims.{firstClaims}
+use Rattle.format.specs.ZonesAndStrings.{strings}
+use Rattle.format.specs.Rules.{numbered, descriptionRules, strapped}
+use Rattle.format.specs.Claims.{madeAt, firstClaims}
 use Rattle.format.specs.Table.{descriptionBreaks}
 use Rattle.format.specs.Verdict.{stated}
 use Rattle.format.specs.Decode.{readDescription}
@@ -19,10 +19,11 @@ use Rattle.format.specs.Reader.{Result, halted, through, pass, elementsOf, conc
 use Rattle.format.specs.declared.records.Description.{Description}
 use Rattle.format.specs.declared.answers.Answer.{Answer}
 use Rattle.format.specs.declared.answers.Answer.the-variants.{Refused}
+use Rattle.format.proofs.Kept.{zero-none, some-number, description-numbered, description-kept}
 use Rattle.flags.specs.Marks.{Marks}
 use Rattle.flags.proofs.Marked.{marks-clear, marks-put, marks-front}
 use Rattle.claims.specs.Taken.{HeldIs}
-use Rattle.pass.specs.Tracks.{Tracks, WalkIs}
+use Rattle.pass.specs.Tracks.{flags, Tracks, WalkIs}
 use Rattle.pass.specs.declared.State.{State}
 use Rattle.pass.specs.declared.Over.{Over}
 use Rattle.reader.specs.Whole.{Gathered}
@@ -34,8 +35,8 @@ pub at-start :
     → n ≡ d .string
     → s .count ≡ 0
     → s .zones ≡ 0
-    → HeldIs (s .held) (firstClaims d)
-    → Tracks d s (replicate 256 false) (replicate 256 false) (replicate 256 false) (set (replicate 256 false) n true) []
+    → HeldIs (s .held) (madeAt 0 (firstClaims d))
+    → Tracks d s (flags (replicate 256 false) (replicate 256 false) (replicate 256 false) (set (replicate 256 false) n true)) []
 at-start d s n low e c z h =
     record {
       count = c;
@@ -52,7 +53,7 @@ at-start d s n low e c z h =
 -- where the pass stopped
 pub stopped-there :
     (d : Description) (r : Over) (zs ss zu su : List Bool) (o : Result)
-    → WalkIs d r zs ss zu su o
+    → WalkIs d r (flags zs ss zu su) o
     → (r .stop ≡ 0 → ⊥)
     → Refused (r .stop) (r .place) ≡ conclude d o
 stopped-there d r zs ss zu su (halted k p) h n = let x = h .over .0 in let y = h .over .2 in cc
@@ -62,7 +63,7 @@ stopped-there d r zs ss zu su (through rs) h n = absurd (n (h .over .0))
 pub came-through :
     (t : List ℕ) (r : Over) (zs ss zu su : List Bool) (o : Result)
     → elementsOf t ≡ o
-    → WalkIs (readDescription (byte t)) r zs ss zu su o
+    → WalkIs (readDescription (byte t)) r (flags zs ss zu su) o
     → r .stop ≡ 0
     → Bytes t
     → 16 ≤ length t
@@ -82,38 +83,13 @@ came-through t r zs ss zu su (through rs) e h n b l m =
     }
 
 -- the description
-chain-strapped :
-    (a b c : Bool) → numbered (unlessKept a 4 (unlessKept b 5 (unlessKept c 10 none))) ≡ 0 → c ≡ true
-chain-strapped true true true h = refl
-chain-strapped true true false h = absurd (omega (arith, h))
-chain-strapped true false c h = absurd (omega (arith, h))
-chain-strapped false b c h = absurd (omega (arith, h))
-
-strapped-of : (d : Description) → numbered (descriptionBreaks d) ≡ 0 → strapped d ≡ true
-unfolding descriptionRules
-strapped-of d h = chain-strapped (typed d) (powered d) (strapped d) h
-
-chain-none :
-    (a b c : Bool)
-    → numbered (unlessKept a 4 (unlessKept b 5 (unlessKept c 10 none))) ≡ 0
-    → unlessKept a 4 (unlessKept b 5 (unlessKept c 10 none)) ≡ none
-chain-none true true true h = refl
-chain-none true true false h = absurd (omega (arith, h))
-chain-none true false c h = absurd (omega (arith, h))
-chain-none false b c h = absurd (omega (arith, h))
-
 good-none : (d : Description) → numbered (descriptionBreaks d) ≡ 0 → descriptionBreaks d ≡ none
-unfolding descriptionRules
-good-none d h = chain-none (typed d) (powered d) (strapped d) h
-
-bad-some : (o : Option ℕ) → (numbered o ≡ 0 → ⊥) → o ≡ some (numbered o)
-bad-some none n = absurd (n refl)
-bad-some (some k) n = refl
+good-none d h = zero-none (descriptionRules d) (description-numbered d) h
 
 pub misdescribed-there :
     (d : Description) (bs : List ℕ) (k : ℕ) → k ≡ numbered (descriptionBreaks d) → (k ≡ 0 → ⊥) → Refused k 0 ≡ afterDescription d bs
 misdescribed-there d bs k e n =
-    rw e (sym (ap (λ (o : Option ℕ). unlessMisdescribed o (conclude d (pass (length bs) [] 16 bs))) (bad-some (descriptionBreaks d) (λ z. n (e ∙ z)))))
+    rw e (sym (ap (λ (o : Option ℕ). unlessMisdescribed o (conclude d (pass (length bs) [] 16 bs))) (some-number (descriptionBreaks d) (λ z. n (e ∙ z)))))
 
 well-described :
     (d : Description) (bs : List ℕ) (k : ℕ) (a : Answer)
@@ -127,7 +103,7 @@ well-described d bs k a e z p =
 -- after a good description
 module _ (t : List ℕ) (d : Description) (k : ℕ) (e : d ≡ readDescription (byte t)) (f : k ≡ numbered (descriptionBreaks d)) (z : k ≡ 0) where
   pub good-strapped : strapped d ≡ true
-  good-strapped = strapped-of d (sym f ∙ z)
+  good-strapped = description-kept d (good-none d (sym f ∙ z)) .pins-10
 
   pub after-elements :
       (a : Answer)
@@ -135,25 +111,8 @@ module _ (t : List ℕ) (d : Description) (k : ℕ) (e : d ≡ readDescription (
       → a ≡ afterDescription (readDescription (byte t)) (drop 16 t)
   after-elements a p = well-described (readDescription (byte t)) (drop 16 t) k a (rw e at f) z p
 
--- the first three rules
+-- after the first three rules
 module _ (t : List ℕ) where
-  pub answer-1 : length t < 16 → Refused 1 0 ≡ verdictOf t
-  unfolding verdictOf
-  answer-1 h = sym (simp (lt-leb 16 (length t) h))
-
-  pub answer-2 : 16 ≤ length t → (byte t 0 ≡ 1 → ⊥) → Refused 2 0 ≡ verdictOf t
-  unfolding verdictOf
-  answer-2 h n = sym (simp (le-leb 16 (length t) h, ne-eqb (byte t 0) 1 n))
-
-  pub answer-3 : 16 ≤ length t → byte t 0 ≡ 1 → (stated t ≡ length t → ⊥) → Refused 3 0 ≡ verdictOf t
-  unfolding verdictOf
-  answer-3 h e n = sym (simp (le-leb 16 (length t) h, eq-eqb (byte t 0) 1 e, ne-eqb (stated t) (length t) n))
-
-  pub answer-3-over : 16 ≤ length t → byte t 0 ≡ 1 → stated t ≡ length t → 4096 < length t → Refused 3 0 ≡ verdictOf t
-  unfolding verdictOf
-  answer-3-over h e p n =
-      sym (simp (le-leb 16 (length t) h, eq-eqb (byte t 0) 1 e, eq-eqb (stated t) (length t) p, lt-leb (stated t) 4096 (omega (arith, p))))
-
   pub answer-on :
       16 ≤ length t
       → byte t 0 ≡ 1

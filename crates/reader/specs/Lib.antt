@@ -1,3 +1,4 @@
 pub mod Whole
 pub mod Bare
 pub mod Answered
+pub mod PartPlace

@@ -6,13 +6,12 @@ use mathlib.Core.Bool.{Bool}
 use mathlib.Core.List.{List, _∷_, _++_}
 use lib.ListN.{length}
 use Rattle.format.specs.Slots.{byte}
-use Rattle.format.specs.Numbers.{zones, strings, zoneNamed, stringNamed}
+use Rattle.format.specs.ZonesAndStrings.{gathered, zones, strings, zoneNamed, stringNamed}
 use Rattle.format.specs.Claims.{claims}
 use Rattle.format.specs.Decode.{readDescription}
 use Rattle.flags.specs.Marks.{Marks}
 use Rattle.claims.specs.Taken.{HeldIs}
 use Rattle.places.specs.Walks.{Walkable}
-use Rattle.pass.specs.Tracks.{allNamed}
 use Rattle.pass.specs.declared.State.{State}
 
 pub record Gathered (t : List ℕ) (s : State) (zs ss zu su : List Bool) : Type 0 where
@@ -20,6 +19,6 @@ pub record Gathered (t : List ℕ) (s : State) (zs ss zu su : List Bool) : Type 
   pub count : s .count ≡ length (table .rs)
   pub zone : Marks zs (zones (table .rs))
   pub string : Marks ss (0 ∷ strings (table .rs))
-  pub zone-use : Marks zu (allNamed zoneNamed (table .rs))
-  pub string-use : Marks su (readDescription (byte t) .string ∷ allNamed stringNamed (table .rs))
+  pub zone-use : Marks zu (gathered zoneNamed (table .rs))
+  pub string-use : Marks su (readDescription (byte t) .string ∷ gathered stringNamed (table .rs))
   pub held : HeldIs (s .held) (claims (readDescription (byte t)) (table .rs))

@@ -2,28 +2,195 @@
 ghost use mathlib.Core.Path.{_≡_};
 ghost use Prim.Native.Nat.{_≤_};
 ghost use lib.ListN.{length, drop};
-ghost use Rattle.format.specs.Slots.{byte, written, Bytes};
-ghost use Rattle.format.specs.Claims.{firstClaims};
-ghost use Rattle.format.specs.Verdict.{stated, Stands, Verdict};
+ghost use Rattle.format.specs.Slots.{byte, Bytes};
+ghost use Rattle.format.specs.Claims.{madeAt, firstClaims};
+ghost use Rattle.format.specs.Verdict.{stated, Verdict};
 ghost use Rattle.format.specs.Decode.{readDescription};
-ghost use Rattle.format.specs.Reader.{elementsOf, conclude, afterDescription, verdictOf};
+ghost use Rattle.format.specs.Reader.{elementsOf, conclude, afterDescription};
 ghost use Rattle.claims.specs.Taken.{HeldIs};
-ghost use Rattle.format.specs.Records.{Record, elementOf};
-ghost use Rattle.format.specs.Layout.{part};
+ghost use Rattle.format.specs.Answers.{numberOf, valueOf};
 ghost use Rattle.format.specs.Asked.{Describes};
 ghost use Rattle.reader.specs.Whole.{Gathered};
 ghost use Rattle.reader.specs.Bare.{plain, bareTable};
-ghost use Rattle.reader.specs.Answered.{notDescribed, notGiven, GivesElement, GivesPart};
+ghost use Rattle.reader.specs.Answered.{GivesElement, GivesPart};
+ghost use Rattle.reader.specs.PartPlace.{GivesPlace};
 use claims::Held;
 use flags::lacks;
-use flags::wide;
 use format::answers::Answer;
 use format::answers::Asked;
 use format::answers::Described;
 use format::records::Description;
-use format::records::Element;
 use pass::State;
 use pass::walk;
+use walking::element_at;
+use walking::length_at;
+use walking::part_at;
+use walking::place_of;
+use words::wide;
+
+// Accepted with the number of elements, or the number and the place of the first rule that is broken.
+// A bare table is answered before the flags are laid out, which takes longer than all its tests (docs/BENCH.md). The other
+// calls go to `read`: so `check` stays small enough to be laid into its callers.
+pub fn check(table: &[u8]) -> Answer
+    ensures { λ r. ⌜ Verdict (now (table .entry)) r ⌝ }
+{
+    if bare(table) {
+        return Answer::Accepted(0);
+    }
+    read(table)
+}
+
+// The description of an accepted table, or the table's refusal.
+pub fn description(table: &[u8]) -> Described
+    ensures { λ r. ⌜ Describes (now (table .entry)) r ⌝ }
+{
+    let answer = read(table);
+    let Answer::Accepted(_) = answer else {
+        let r = handed_on(answer);
+        return Described::Refused(r.number, r.place);
+    };
+    Described::Description(fields::description(table))
+}
+
+// Element k of an accepted table; the table's refusal, or 17.
+pub fn element(table: &[u8], k: usize) -> Asked
+    ensures { λ r. ⌜ GivesElement (now (table .entry)) k r ⌝ }
+{
+    let answer = read(table);
+    let Answer::Accepted(n) = answer else {
+        let r = handed_on(answer);
+        return Asked::Refused(r.number, r.place);
+    };
+    if n <= k {
+        return Asked::Refused(17, 0);
+    }
+    Asked::Element(element_at(table, place_of(table, k)))
+}
+
+// Its variable part, as that part of the lent table; an empty part with a refusal.
+pub fn part(table: &[u8], k: usize) -> &[u8]
+    ensures { λ r. ⌜ GivesPart (now (table .entry)) k (now r) ⌝ }
+{
+    let answer = read(table);
+    let Answer::Accepted(n) = answer else {
+        return &table[0..0];
+    };
+    if n <= k {
+        return &table[0..0];
+    }
+    part_at(table, place_of(table, k))
+}
+
+// Where the variable part of an element stands in the table and how long it is, or a refusal.
+pub enum Placed {
+    At(usize, usize),
+    Refused(u8, usize),
+}
+
+// The place of the variable part of element k, behind the element's fixed fields also where the part is empty, and its length; or
+// what `element` refuses with.
+pub fn part_place(table: &[u8], k: usize) -> Placed
+    ensures { λ r. ⌜ GivesPlace (now (table .entry)) k r ⌝ }
+{
+    let answer = read(table);
+    let Answer::Accepted(n) = answer else {
+        let r = handed_on(answer);
+        return Placed::Refused(r.number, r.place);
+    };
+    if n <= k {
+        return Placed::Refused(17, 0);
+    }
+    let at = place_of(table, k);
+    let from = walking::part_place(table, at);
+    Placed::At(from, at + length_at(table, at) - from)
+}
+
+// What a refusal says: its number, and the place.
+pub struct Refusal {
+    pub number: u8,
+    pub place: usize,
+}
+
+// The refusal in an answer, for another call to hand on.
+pub fn handed_on(answer: Answer) -> Refusal
+    ensures { λ r. ⌜ (r .number ≡ numberOf answer) × (r .place ≡ valueOf answer) ⌝ }
+{
+    match answer {
+        Answer::Accepted(n) => Refusal {
+            number: 0,
+            place: n,
+        },
+        Answer::Refused(k, p) => Refusal {
+            number: k,
+            place: p,
+        },
+    }
+}
+
+// All rules in their order.
+fn read(t: &[u8]) -> Answer
+    ensures { λ r. ⌜ Verdict (now (t .entry)) r ⌝ }
+{
+    if t.len() < 16 {
+        return Answer::Refused(1, 0);
+    }
+    if t[0] != 1 {
+        return Answer::Refused(2, 0);
+    }
+    if stated(t) != t.len() {
+        return Answer::Refused(3, 0);
+    }
+    if 4096 < t.len() {
+        return Answer::Refused(3, 0);
+    }
+    described(t)
+}
+
+// The length that bytes 1-2 give.
+fn stated(t: &[u8]) -> usize
+    requires { ⌜ 3 ≤ length (now t) ⌝ }
+    ensures { λ r. ⌜ r ≡ stated (now (t .entry)) ⌝ }
+{
+    wide(t[1]) + 256 * wide(t[2])
+}
+
+// What follows the first three rules.
+fn described(t: &[u8]) -> Answer
+    requires { ⌜ (16 ≤ length (now t)) × (length (now t) ≤ 4096) × Bytes (now t) ⌝ }
+    ensures { λ r. ⌜ r ≡ afterDescription (readDescription (byte (now (t .entry)))) (drop 16 (now (t .entry))) ⌝ }
+{
+    let d = fields::description(t);
+    let fault = rules::description_breaks(d);
+    if fault != 0 {
+        return Answer::Refused(fault, 0);
+    }
+    elements(t, claims::first_claims(d))
+}
+
+// The elements, after a good description. All flags are clear at the start.
+fn elements(t: &[u8], held: Held) -> Answer
+    requires { ⌜ (16 ≤ length (now t)) × (length (now t) ≤ 4096) × Bytes (now t) × HeldIs held (madeAt 0 (firstClaims (readDescription (byte (now t))))) ⌝ }
+    ensures { λ r. ⌜ r ≡ conclude (readDescription (byte (now (t .entry)))) (elementsOf (now (t .entry))) ⌝ }
+{
+    let mut zs = [false; 256];
+    let mut ss = [false; 256];
+    let mut zu = [false; 256];
+    let mut su = [false; 256];
+    let n = wide(t[4]);
+    su[n] = true;
+    let start = State {
+        count: 0,
+        zones: 0,
+        held,
+    };
+    let r = walk(t, start, &mut zs, &mut ss, &mut zu, &mut su);
+    if r.stop != 0 {
+        return Answer::Refused(r.stop, r.place);
+    }
+    ss[0] = true;
+    let s = r.state;
+    concluded(t, s, &zs, &ss, &zu, &su)
+}
 
 // The rules over the whole table: 13, 14, 15.
 fn concluded(
@@ -54,69 +221,14 @@ fn concluded(
     Answer::Accepted(s.count)
 }
 
-// The elements, after a good description. All flags are clear at the start.
-fn elements(t: &[u8], held: Held) -> Answer
-    requires { ⌜ (16 ≤ length (now t)) × (length (now t) ≤ 4096) × Bytes (now t) × HeldIs held (firstClaims (readDescription (byte (now t)))) ⌝ }
-    ensures { λ r. ⌜ r ≡ conclude (readDescription (byte (now (t .entry)))) (elementsOf (now (t .entry))) ⌝ }
+// 16 bytes with a plain description break no rule.
+fn bare(t: &[u8]) -> bool
+    ensures { λ r. ⌜ r ≡ bareTable (now (t .entry)) ⌝ }
 {
-    let mut zs = [false; 256];
-    let mut ss = [false; 256];
-    let mut zu = [false; 256];
-    let mut su = [false; 256];
-    let n = wide(t[4]);
-    su[n] = true;
-    let start = State {
-        count: 0,
-        zones: 0,
-        held,
-    };
-    let r = walk(t, start, &mut zs, &mut ss, &mut zu, &mut su);
-    if r.stop != 0 {
-        return Answer::Refused(r.stop, r.place);
+    if t.len() != 16 {
+        return false;
     }
-    ss[0] = true;
-    let s = r.state;
-    concluded(t, s, &zs, &ss, &zu, &su)
-}
-
-// What follows the first three rules.
-fn described(t: &[u8]) -> Answer
-    requires { ⌜ (16 ≤ length (now t)) × (length (now t) ≤ 4096) × Bytes (now t) ⌝ }
-    ensures { λ r. ⌜ r ≡ afterDescription (readDescription (byte (now (t .entry)))) (drop 16 (now (t .entry))) ⌝ }
-{
-    let d = fields::description(t);
-    let fault = rules::description_breaks(d);
-    if fault != 0 {
-        return Answer::Refused(fault, 0);
-    }
-    elements(t, claims::first_claims(d))
-}
-
-// The length that bytes 1-2 give.
-fn stated(t: &[u8]) -> usize
-    requires { ⌜ 3 ≤ length (now t) ⌝ }
-    ensures { λ r. ⌜ r ≡ stated (now (t .entry)) ⌝ }
-{
-    wide(t[1]) + 256 * wide(t[2])
-}
-
-// All rules in their order.
-fn read(t: &[u8]) -> Answer
-    ensures { λ r. ⌜ r ≡ verdictOf (now (t .entry)) ⌝ }
-{
-    if t.len() < 16 {
-        return Answer::Refused(1, 0);
-    }
-    if t[0] != 1 {
-        return Answer::Refused(2, 0);
-    }
-    if stated(t) != t.len() {
-        return Answer::Refused(3, 0);
-    }
-    if 4096 < t.len() {
-        return Answer::Refused(3, 0);
-    }
-    described(t)
+    (t[0] == 1) & (stated(t) == 16) & plain(fields::description(t))
 }
 
 // A description that breaks neither 4 nor 5, without string index and hardware revision pins.
@@ -132,109 +244,4 @@ fn plain(d: Description) -> bool
         & rules::unused(a)
         & rules::unused(b)
         & rules::unused(c)
-}
-
-// 16 bytes with a plain description break no rule.
-fn bare(t: &[u8]) -> bool
-    ensures { λ r. ⌜ r ≡ bareTable (now (t .entry)) ⌝ }
-{
-    if t.len() != 16 {
-        return false;
-    }
-    (t[0] == 1) & (stated(t) == 16) & plain(fields::description(t))
-}
-
-// Accepted with the number of elements, or the number and the place of the first rule that is broken.
-// A bare table is answered before the flags are laid out, which takes longer than all its tests (docs/BENCH.md). The other
-// calls go to `read`: so `check` stays small enough to be laid into its callers.
-pub fn check(table: &[u8]) -> Answer
-    ensures { λ r. ⌜ Verdict (now (table .entry)) r ⌝ }
-{
-    if bare(table) {
-        return Answer::Accepted(0);
-    }
-    read(table)
-}
-
-// The table's refusal, as asking for the description gives it.
-fn not_described(a: Answer) -> Described
-    ensures { λ r. ⌜ r ≡ notDescribed a ⌝ }
-{
-    match a {
-        Answer::Accepted(_) => Described::Refused(0, 0),
-        Answer::Refused(k, p) => Described::Refused(k, p),
-    }
-}
-
-// The description of an accepted table, or the table's refusal.
-pub fn description(table: &[u8]) -> Described
-    ensures { λ r. ⌜ Describes (now (table .entry)) r ⌝ }
-{
-    let answer = read(table);
-    let Answer::Accepted(_) = answer else {
-        return not_described(answer);
-    };
-    Described::Description(fields::description(table))
-}
-
-// The element that stands at a place.
-fn element_at(t: &[u8], at: usize) -> Element
-    requires { ⌜ ((x : Record) × Stands (drop at (now t)) x) ⌝ }
-    ensures { λ r. ⌜ ((x : Record) → Stands (drop at (now (t .entry))) x → r ≡ elementOf x) ⌝ }
-{
-    let len = places::length_at(t, at);
-    let from = at + 3;
-    let to = at + len;
-    elements::element_of(t[at], &t[from..to])
-}
-
-// The variable part of the element that stands at a place.
-fn part_at(t: &[u8], at: usize) -> &[u8]
-    requires { ⌜ ((x : Record) × Stands (drop at (now t)) x) ⌝ }
-    ensures { λ r. ⌜ ((x : Record) → Stands (drop at (now (t .entry))) x → now r ≡ written (part x)) ⌝ }
-{
-    let len = places::length_at(t, at);
-    let from = at + elements::part_start(t[at], len);
-    let to = at + len;
-    &t[from..to]
-}
-
-// The table's refusal, as asking for an element gives it.
-fn not_given(a: Answer) -> Asked
-    ensures { λ r. ⌜ r ≡ notGiven a ⌝ }
-{
-    match a {
-        Answer::Accepted(_) => Asked::Refused(0, 0),
-        Answer::Refused(k, p) => Asked::Refused(k, p),
-    }
-}
-
-// Element k of an accepted table; the table's refusal, or 17.
-pub fn element(table: &[u8], k: usize) -> Asked
-    ensures { λ r. ⌜ GivesElement (now (table .entry)) k r ⌝ }
-{
-    let answer = read(table);
-    let Answer::Accepted(n) = answer else {
-        return not_given(answer);
-    };
-    if n <= k {
-        return Asked::Refused(17, 0);
-    }
-    let at = places::place_of(table, k);
-    Asked::Element(element_at(table, at))
-}
-
-// Its variable part, as that part of the lent table; an empty part with a refusal.
-pub fn part(table: &[u8], k: usize) -> &[u8]
-    ensures { λ r. ⌜ GivesPart (now (table .entry)) k (now r) ⌝ }
-{
-    let answer = read(table);
-    let Answer::Accepted(n) = answer else {
-        return &table[0..0];
-    };
-    if n <= k {
-        return &table[0..0];
-    }
-    let at = places::place_of(table, k);
-    part_at(table, at)
 }

@@ -3,18 +3,15 @@
 use Prim.Native.Nat.{ℕ, _<_, _≤_}
 use mathlib.Core.Path.{_≡_}
 use mathlib.Core.List.{List, _++_}
-use lib.ListN.{length, take, drop}
+use lib.ListN.{length, drop}
 use Rattle.format.specs.Records.{Record}
 use Rattle.format.specs.Layout.{table}
 use Rattle.format.specs.Cleared.{cleared}
-use Rattle.format.specs.Slots.{Bytes}
 use Rattle.format.specs.Verdict.{Accepts, Verdict}
 use Rattle.format.specs.declared.records.Description.{Description}
-use Rattle.format.specs.declared.answers.Answer.{Answer}
-use Rattle.format.specs.declared.answers.Answer.the-variants.{Accepted, Refused as RefusedTable}
+use Rattle.format.specs.declared.answers.Answer.the-variants.{Refused as RefusedTable}
 use Rattle.format.specs.declared.answers.Written.{Written}
 use Rattle.format.specs.declared.answers.Written.the-variants.{Length, Refused}
-use Rattle.writer.specs.Runs.{standing}
 
 -- of the table's bytes and the buffer's: the answer, and the buffer's bytes afterwards
 pub data Rewritten (b c : List ℕ) : Written → List ℕ → Type 0 where
@@ -26,18 +23,3 @@ pub data Rewritten (b c : List ℕ) : Written → List ℕ → Type 0 where
   -- 16: 'no room'
   no-room : (d : Description) (rs : List Record) → Accepts b d rs → length c < length b → Rewritten b c (Refused 16 0) c
   refused : {k p : ℕ} → Verdict b (RefusedTable k p) → Rewritten b c (Refused k p) c
-
--- a refusal of the table, handed on
-abbrev pub refusedAgain : Answer → Written
-refusedAgain (Accepted n) = Refused 0 0
-refusedAgain (RefusedTable k p) = Refused k p
-
--- the first k of the n records of the table written into the buffer
-pub record Midway (b c : List ℕ) (n k : ℕ) (now : List ℕ) : Type 0 where
-  pub bytes : Bytes b
-  pub d : Description
-  pub rs : List Record
-  pub accepts : Accepts b d rs
-  pub count : length rs ≡ n
-  pub long : length b ≤ length c
-  pub stands : now ≡ standing d (take k rs) c

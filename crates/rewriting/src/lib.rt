@@ -1,35 +1,10 @@
 // A table's records read one by one and written again by start and append: demand 2 as one call.
-ghost use mathlib.Core.Path.{_≡_};
-ghost use mathlib.Core.List.{List};
-ghost use Prim.Native.Nat.{ℕ, _+_, _<_};
-ghost use Rattle.rewriting.specs.Again.{Rewritten, Midway, refusedAgain};
+ghost use Rattle.rewriting.specs.Again.{Rewritten};
 use format::answers::Answer;
-use format::answers::Asked;
-use format::answers::Described;
 use format::answers::Written;
-
-// Element k, read and appended.
-fn append_again(table: &[u8], k: usize, out: &mut [u8])
-    requires { ⌜ ((c : List ℕ) × (n : ℕ) × Midway (now table) c n k (now out) × (k < n)) ⌝ }
-    ensures { λ _. ⌜ ((c : List ℕ) (n : ℕ) → Midway (now (table .entry)) c n k (now (out .entry)) → k < n → Midway (now (table .entry)) c n (k + 1) (now (out .exit))) ⌝ }
-{
-    let asked = reader::element(table, k);
-    let Asked::Element(e) = asked else {
-        return;
-    };
-    let part = reader::part(table, k);
-    writer::append(out, e, part);
-}
-
-// The table's refusal, as rewriting gives it.
-fn not_rewritten(answer: Answer) -> Written
-    ensures { λ r. ⌜ r ≡ refusedAgain answer ⌝ }
-{
-    match answer {
-        Answer::Accepted(_) => Written::Refused(0, 0),
-        Answer::Refused(k, p) => Written::Refused(k, p),
-    }
-}
+use walking::element_at;
+use walking::length_at;
+use walking::part_at;
 
 // Writes the records of an accepted table into a buffer that is long enough: 0 with the length. The table's refusal, or 16 at
 // 0 where the buffer is too short; then no byte of it alters.
@@ -37,21 +12,19 @@ pub fn rewrite(table: &[u8], out: &mut [u8]) -> Written
     ensures { λ r. ⌜ Rewritten (now (table .entry)) (now (out .entry)) r (now (out .exit)) ⌝ }
 {
     let answer = reader::check(table);
-    let Answer::Accepted(n) = answer else {
-        return not_rewritten(answer);
+    let Answer::Accepted(_) = answer else {
+        let r = reader::handed_on(answer);
+        return Written::Refused(r.number, r.place);
     };
     if out.len() < table.len() {
         return Written::Refused(16, 0);
     }
-    let described = reader::description(table);
-    let Described::Description(d) = described else {
-        return Written::Refused(0, 0);
-    };
-    writer::start(out, d);
-    let mut k: usize = 0;
-    while k < n {
-        append_again(table, k, out);
-        k += 1;
+    writer::start(out, fields::description(table));
+    let mut at: usize = 16;
+    while at < table.len() {
+        let e = element_at(table, at);
+        writer::append(out, e, part_at(table, at));
+        at += length_at(table, at);
     }
     Written::Length(table.len())
 }

@@ -1,8 +1,8 @@
-// What a record breaks by itself: 4, 5, 10 of the description, 9 and 10 of each kind of element. One place for the reader
-// and the writer. A rule's number, or 0.
+// What a record breaks by itself: 4, 5, 10 of the description, 8, 9 and 10 of each kind of element (8 of 09h and 0Ah is found
+// in `blocks`). One place for the reader and the writer. A rule's number, or 0.
 ghost use mathlib.Core.Path.{_≡_};
-ghost use Rattle.format.specs.Records.{digital, analogue, fan, led, current, rgb};
-ghost use Rattle.format.specs.Rules.{numbered, firstBroken, ownRules, typed, powered, strapped, addressed, selected, scaled, coded, rises, coloured};
+ghost use Rattle.format.specs.Records.{Record, digital, analogue, fan, led, current, zone, string, rgb};
+ghost use Rattle.format.specs.Rules.{numbered, firstBroken, ownRules, typed, powered, strapped, addressed, selected, scaled, shaped, coded, pinned, rises, coloured};
 ghost use Rattle.format.specs.Pins.{unused};
 ghost use Rattle.format.specs.Table.{descriptionBreaks};
 ghost use Rattle.rules.specs.Broken.{orElse, DeviceBreaks};
@@ -66,6 +66,13 @@ pub fn description_breaks(d: Description) -> u8
     )
 }
 
+// 8, 9 and 10 of a record of any kind, in their order.
+fn own_breaks(shape: bool, codes: bool, pins: bool) -> u8
+    ensures { λ r. ⌜ ((x : Record) → shape ≡ shaped x → codes ≡ coded x → pins ≡ pinned x → r ≡ numbered (firstBroken (ownRules x))) ⌝ }
+{
+    or_else(shape, 8, or_else(codes, 9, or_else(pins, 10, 0)))
+}
+
 // 9: the bus type has a code, and the address is of its kind.
 fn addressed(bus: u8, a: Address) -> bool
     ensures { λ r. ⌜ r ≡ addressed bus a ⌝ }
@@ -91,7 +98,7 @@ pub fn digital_breaks(d: DigitalSensor) -> u8
     ensures { λ r. ⌜ r ≡ numbered (firstBroken (ownRules (digital d))) ⌝ }
 {
     let a = d.address;
-    or_else(addressed(d.bus, a), 9, or_else(selected(a), 10, 0))
+    own_breaks(true, addressed(d.bus, a), selected(a))
 }
 
 fn scaled(c: Counts) -> bool
@@ -112,11 +119,7 @@ pub fn analogue_breaks(a: AnalogueSensor) -> u8
     ensures { λ r. ⌜ r ≡ numbered (firstBroken (ownRules (analogue a))) ⌝ }
 {
     let p = a.pin;
-    or_else(
-        calibrated(a),
-        9,
-        or_else(allowed(Use::AnaloguePin, p), 10, 0),
-    )
+    own_breaks(true, calibrated(a), allowed(Use::AnaloguePin, p))
 }
 
 pub fn unused(p: OptionalPin) -> bool
@@ -139,7 +142,7 @@ pub fn fan_breaks(f: PwmFan) -> u8
     let q = f.tachometer;
     let coded = !unused(q) | (f.ppr == 0);
     let pinned = allowed(Use::FanPin, p) & (allowed_or_unused(Use::FanPin, q) & rises(p, q));
-    or_else(coded, 9, or_else(pinned, 10, 0))
+    own_breaks(true, coded, pinned)
 }
 
 fn coloured(l: Lamp) -> bool
@@ -162,7 +165,7 @@ pub fn led_breaks(l: StatusLed) -> u8
     let coded = coloured(a) & (coloured(b) & coloured(c));
     let pinned = allowed_or_unused(Use::StatusLed, p)
         & (allowed_or_unused(Use::StatusLed, q) & allowed_or_unused(Use::StatusLed, r));
-    or_else(coded, 9, or_else(pinned, 10, 0))
+    own_breaks(true, coded, pinned)
 }
 
 // 08h
@@ -170,7 +173,7 @@ pub fn current_breaks(c: CurrentSensor) -> u8
     ensures { λ r. ⌜ r ≡ numbered (firstBroken (ownRules (current c))) ⌝ }
 {
     let p = c.pin;
-    or_else(allowed(Use::AnaloguePin, p), 10, 0)
+    own_breaks(true, true, allowed(Use::AnaloguePin, p))
 }
 
 // 09h, where `filled` says that each speed block has a pair; 0Ah, with true
@@ -178,7 +181,24 @@ pub fn device_breaks(d: BusDevice, filled: bool) -> u8
     ensures { λ r. ⌜ DeviceBreaks d filled r ⌝ }
 {
     let a = d.address;
-    or_else(addressed(d.bus, a) & filled, 9, or_else(selected(a), 10, 0))
+    own_breaks(true, addressed(d.bus, a) & filled, selected(a))
+}
+
+// 0Bh, of all bytes after the header: 30 bytes with it.
+pub fn zone_breaks(part: &[u8]) -> u8
+    ensures { λ r. ⌜ r ≡ numbered (firstBroken (ownRules (zone (now (part .entry))))) ⌝ }
+{
+    own_breaks(part.len() == 27, true, true)
+}
+
+// 0Ch, of all bytes after the header: its number and two bytes more, and the number not 0.
+pub fn text_breaks(part: &[u8]) -> u8
+    ensures { λ r. ⌜ r ≡ numbered (firstBroken (ownRules (string (now (part .entry))))) ⌝ }
+{
+    if part.len() < 3 {
+        return 8;
+    }
+    own_breaks(true, part[0] != 0, true)
 }
 
 // 0Eh
@@ -190,5 +210,5 @@ pub fn rgb_breaks(c: RgbLed) -> u8
     let b = c.blue;
     let pinned = allowed(Use::FanPin, r)
         & (allowed(Use::FanPin, g) & (allowed(Use::FanPin, b) & ((r.0 < g.0) & (g.0 < b.0))));
-    or_else(pinned, 10, 0)
+    own_breaks(true, true, pinned)
 }

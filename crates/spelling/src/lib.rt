@@ -15,6 +15,55 @@ pub fn put(out: &mut [u8], at: usize, text: &[u8]) -> usize
     at + text.len()
 }
 
+// A number in plain decimals.
+pub fn put_decimal(out: &mut [u8], at: usize, n: usize) -> usize
+    requires { ⌜ at + 8 ≤ length (now out) ⌝ }
+    ensures { λ r. ⌜ Put (now (out .entry)) at (decimal n) r (now (out .exit)) × (r ≤ at + 8) ⌝ }
+{
+    let a = put_upper(out, at, n);
+    let b = put_digit(out, a, n, 1000);
+    let c = put_digit(out, b, n, 100);
+    let d = put_digit(out, c, n, 10);
+    put(out, d, &[digit(n)])
+}
+
+// Two capital hex digits.
+pub fn put_hex(out: &mut [u8], at: usize, n: u8) -> usize
+    requires { ⌜ at + 2 ≤ length (now out) ⌝ }
+    ensures { λ r. ⌜ Put (now (out .entry)) at (hexPair n) r (now (out .exit)) × (r ≡ at + 2) ⌝ }
+{
+    put(out, at, &[hex_digit(n / 16), hex_digit(n % 16)])
+}
+
+// A pin, or `-` of an unused place.
+pub fn put_pin_or_dash(out: &mut [u8], at: usize, p: u8) -> usize
+    requires { ⌜ at + 4 ≤ length (now out) ⌝ }
+    ensures { λ r. ⌜ Put (now (out .entry)) at (pinOrDash p) r (now (out .exit)) × (r ≤ at + 4) ⌝ }
+{
+    if p == 255 {
+        return put(out, at, &[45]);
+    }
+    let text = pin_text(p);
+    put(out, at, &text)
+}
+
+// Three pins, any of which may be unused, parted by commas; `-` where none is used.
+pub fn put_pins(out: &mut [u8], at: usize, one: u8, two: u8, three: u8) -> usize
+    requires { ⌜ at + 14 ≤ length (now out) ⌝ }
+    ensures { λ r. ⌜ Put (now (out .entry)) at (joined (used one ++ used two ++ used three)) r (now (out .exit)) × (r ≤ at + 14) ⌝ }
+{
+    if one != 255 {
+        let a = put_pin_or_dash(out, at, one);
+        let b = put_next(out, a, two);
+        return put_next(out, b, three);
+    }
+    if two != 255 {
+        let a = put_pin_or_dash(out, at, two);
+        return put_next(out, a, three);
+    }
+    put_pin_or_dash(out, at, three)
+}
+
 // The last digit of a number.
 fn digit(n: usize) -> u8
     ensures { λ r. ⌜ r ≡ digit n ⌝ }
@@ -44,18 +93,6 @@ fn put_upper(out: &mut [u8], at: usize, n: usize) -> usize
     put_digit(out, c, n, 10000)
 }
 
-// A number in plain decimals.
-pub fn put_decimal(out: &mut [u8], at: usize, n: usize) -> usize
-    requires { ⌜ at + 8 ≤ length (now out) ⌝ }
-    ensures { λ r. ⌜ Put (now (out .entry)) at (decimal n) r (now (out .exit)) × (r ≤ at + 8) ⌝ }
-{
-    let a = put_upper(out, at, n);
-    let b = put_digit(out, a, n, 1000);
-    let c = put_digit(out, b, n, 100);
-    let d = put_digit(out, c, n, 10);
-    put(out, d, &[digit(n)])
-}
-
 fn hex_digit(n: u8) -> u8
     requires { ⌜ n < 16 ⌝ }
     ensures { λ r. ⌜ r ≡ hexDigit n ⌝ }
@@ -63,31 +100,11 @@ fn hex_digit(n: u8) -> u8
     if n < 10 { 48 + n } else { 55 + n }
 }
 
-// Two capital hex digits.
-pub fn put_hex(out: &mut [u8], at: usize, n: u8) -> usize
-    requires { ⌜ at + 2 ≤ length (now out) ⌝ }
-    ensures { λ r. ⌜ Put (now (out .entry)) at (hexPair n) r (now (out .exit)) × (r ≡ at + 2) ⌝ }
-{
-    put(out, at, &[hex_digit(n / 16), hex_digit(n % 16)])
-}
-
 // `P`, port, `.`, pin.
 fn pin_text(p: u8) -> [u8; 4]
     ensures { λ r. ⌜ r ≡ pinText p ⌝ }
 {
     [80, digit((p / 16) as usize), 46, digit((p % 16) as usize)]
-}
-
-// A pin, or `-` of an unused place.
-pub fn put_pin_or_dash(out: &mut [u8], at: usize, p: u8) -> usize
-    requires { ⌜ at + 4 ≤ length (now out) ⌝ }
-    ensures { λ r. ⌜ Put (now (out .entry)) at (pinOrDash p) r (now (out .exit)) × (r ≤ at + 4) ⌝ }
-{
-    if p == 255 {
-        return put(out, at, &[45]);
-    }
-    let text = pin_text(p);
-    put(out, at, &text)
 }
 
 // A comma and a pin; nothing of an unused place.
@@ -101,21 +118,4 @@ fn put_next(out: &mut [u8], at: usize, p: u8) -> usize
     let a = put(out, at, &[44]);
     let text = pin_text(p);
     put(out, a, &text)
-}
-
-// Three pins, any of which may be unused, parted by commas; `-` where none is used.
-pub fn put_pins(out: &mut [u8], at: usize, one: u8, two: u8, three: u8) -> usize
-    requires { ⌜ at + 14 ≤ length (now out) ⌝ }
-    ensures { λ r. ⌜ Put (now (out .entry)) at (joined (used one ++ used two ++ used three)) r (now (out .exit)) × (r ≤ at + 14) ⌝ }
-{
-    if one != 255 {
-        let a = put_pin_or_dash(out, at, one);
-        let b = put_next(out, a, two);
-        return put_next(out, b, three);
-    }
-    if two != 255 {
-        let a = put_pin_or_dash(out, at, two);
-        return put_next(out, a, three);
-    }
-    put_pin_or_dash(out, at, three)
 }

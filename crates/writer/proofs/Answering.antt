@@ -3,7 +3,7 @@
 use Prim.Native.Nat.{ℕ, suc, _+_, _≤_, _<_}
 use native.Mathlib.Omega.{arith}
 use mathlib.Core.Path.{_≡_, refl, sym, _∙_, ap, subst}
-use mathlib.Core.Bool.{Bool, true, false, _&&_, not, false≢true}
+use mathlib.Core.Bool.{Bool, true, false, _&&_}
 use mathlib.Core.List.{List, [], _∷_, _++_, map}
 use mathlib.Core.Option.{Option, none, some}
 use lib.ListN.{length, length-append}
@@ -12,7 +12,7 @@ use borrow.Author.Tests.{le-leb, lt-leb, leb-true}
 use Rattle.format.specs.Slots.{Slot, whole, word, written}
 use Rattle.format.specs.Records.{Record}
 use Rattle.format.specs.Layout.{opening, fixed}
-use Rattle.format.specs.Rules.{numbered, unlessKept, firstBroken, ownRules, descriptionRules, descriptionHeld, held, typed, powered, strapped, shaped, coded, pinned}
+use Rattle.format.specs.Rules.{numbered, ownRules, descriptionRules, descriptionRoomy, elementRoomy}
 use Rattle.format.specs.Table.{descriptionBreaks}
 use Rattle.format.specs.Verdict.{stated}
 use Rattle.format.specs.Writing.{assemble, assembledBreaks, partBreaks, elementSlots, orRefused, unlessBrokenAt, hasRoom, lengthStands, newLength, startAnswer, startLeaves, appendAnswer, appendLeaves, overwritten}
@@ -21,28 +21,12 @@ use Rattle.format.specs.declared.records.Element.{Element}
 use Rattle.format.specs.declared.records.Element.the-variants.{Digital, Analogue, Fan, Led, Current, Controller, Tachometer, Zone, Text, Rgb}
 use Rattle.format.specs.declared.answers.Written.{Written}
 use Rattle.format.specs.declared.answers.Written.the-variants.{Length, Refused}
+use Rattle.format.proofs.Kept.{and-true, zero-none, some-number, own-numbered, description-numbered}
 use Rattle.writer.specs.Calls.{Started, Appended, roomAnswer}
 
--- a number that is not 0 is a rule's, and 0 is none's
-chain-none :
-    (i j k : ℕ) (a b c : Bool)
-    → 0 < i
-    → 0 < j
-    → 0 < k
-    → numbered (unlessKept a i (unlessKept b j (unlessKept c k none))) ≡ 0
-    → unlessKept a i (unlessKept b j (unlessKept c k none)) ≡ none
-chain-none i j k true true true p q r h = refl
-chain-none i j k true true false p q r h = absurd (omega (arith, h))
-chain-none i j k true false c p q r h = absurd (omega (arith, h))
-chain-none i j k false b c p q r h = absurd (omega (arith, h))
-
+-- 0 is no rule's number
 description-none : (d : Description) → numbered (descriptionBreaks d) ≡ 0 → descriptionBreaks d ≡ none
-unfolding descriptionRules
-description-none d h = chain-none 4 5 10 (typed d) (powered d) (strapped d) (omega arith) (omega arith) (omega arith) h
-
-record-none : (r : Record) → numbered (firstBroken (ownRules r)) ≡ 0 → firstBroken (ownRules r) ≡ none
-unfolding ownRules
-record-none r h = chain-none 8 9 10 (shaped r) (coded r) (pinned r) (omega arith) (omega arith) (omega arith) h
+description-none d h = zero-none (descriptionRules d) (description-numbered d) h
 
 part-none : (e : Element) (p : List ℕ) → numbered (partBreaks e p) ≡ 0 → partBreaks e p ≡ none
 unfolding partBreaks
@@ -50,11 +34,7 @@ part-none e p h = go (assemble e p) h
   where
     go : (o : Option Record) → numbered (assembledBreaks o) ≡ 0 → assembledBreaks o ≡ none
     go none k = absurd (omega (arith, k))
-    go (some r) k = record-none r k
-
-some-of : (o : Option ℕ) → (numbered o ≡ 0 → ⊥) → o ≡ some (numbered o)
-some-of none n = absurd (n refl)
-some-of (some k) n = refl
+    go (some r) k = zero-none (ownRules r) (own-numbered r) k
 
 -- start
 module _ (b : List ℕ) (d : Description) where
@@ -62,24 +42,24 @@ module _ (b : List ℕ) (d : Description) where
   unfolding startAnswer
   start-1 h = sym (simp (lt-leb 16 (length b) h))
 
-  pub start-25 : 16 ≤ length b → descriptionHeld d ≡ false → Refused 25 0 ≡ startAnswer b d
+  pub start-25 : 16 ≤ length b → descriptionRoomy d ≡ false → Refused 25 0 ≡ startAnswer b d
   unfolding startAnswer
   start-25 h k = sym (rw (le-leb 16 (length b) h, k) refl)
 
   pub start-fault :
       16 ≤ length b
-      → descriptionHeld d ≡ true
+      → descriptionRoomy d ≡ true
       → (f : ℕ)
       → f ≡ numbered (descriptionBreaks d)
       → (f ≡ 0 → ⊥)
       → Refused f 0 ≡ startAnswer b d
   unfolding startAnswer
   start-fault h k f e n =
-      let q : descriptionBreaks d ≡ some f = some-of (descriptionBreaks d) (λ z. n (e ∙ z)) ∙ ap some (sym e) in
+      let q : descriptionBreaks d ≡ some f = some-number (descriptionBreaks d) (λ z. n (e ∙ z)) ∙ ap some (sym e) in
       sym (rw (le-leb 16 (length b) h, k, q) refl)
 
   pub start-16 :
-      16 ≤ length b → descriptionHeld d ≡ true → (f : ℕ) → f ≡ numbered (descriptionBreaks d) → f ≡ 0 → Length 16 ≡ startAnswer b d
+      16 ≤ length b → descriptionRoomy d ≡ true → (f : ℕ) → f ≡ numbered (descriptionBreaks d) → f ≡ 0 → Length 16 ≡ startAnswer b d
   unfolding startAnswer
   start-16 h k f e z = sym (rw (le-leb 16 (length b) h, k, description-none d (sym e ∙ z)) refl)
 
@@ -127,32 +107,27 @@ module _ (b : List ℕ) (e : Element) (p : List ℕ) where
     append-3 k = sym (rw (le-leb 16 (length b) long, k) refl)
 
     module _ (stands : lengthStands b ≡ true) where
-      pub append-25 : held e ≡ false → Refused 25 0 ≡ appendAnswer b e p
+      pub append-25 : elementRoomy e ≡ false → Refused 25 0 ≡ appendAnswer b e p
       unfolding appendAnswer
       append-25 k = sym (rw (le-leb 16 (length b) long, stands, k) refl)
 
-      module _ (h : held e ≡ true) (f : ℕ) (q : f ≡ numbered (partBreaks e p)) where
+      module _ (h : elementRoomy e ≡ true) (f : ℕ) (q : f ≡ numbered (partBreaks e p)) where
         pub append-fault : (f ≡ 0 → ⊥) → Refused f (stated b) ≡ appendAnswer b e p
         unfolding appendAnswer
         append-fault n =
-            let w : partBreaks e p ≡ some f = some-of (partBreaks e p) (λ z. n (q ∙ z)) ∙ ap some (sym q) in
+            let w : partBreaks e p ≡ some f = some-number (partBreaks e p) (λ z. n (q ∙ z)) ∙ ap some (sym q) in
             sym (rw (le-leb 16 (length b) long, stands, h, w) refl)
 
         pub append-room : f ≡ 0 → roomAnswer b (stated b) e p ≡ appendAnswer b e p
         unfolding appendAnswer
         append-room z = sym (rw (le-leb 16 (length b) long, stands, h, part-none e p (sym q ∙ z)) refl)
 
--- what an answer with a length says
-and-both : (a b : Bool) → a && b ≡ true → (a ≡ true) × (b ≡ true)
-and-both true b h = (refl, h)
-and-both false b h = absurd (false≢true h)
-
 -- append, where the length so far is a number that was read
 abbrev standsAt : List ℕ → ℕ → Bool
 standsAt b n = leb 16 n && (leb n 4096 && leb n (length b))
 
 pub at-most : (b : List ℕ) (n : ℕ) → standsAt b n ≡ true → n ≤ 4096
-at-most b n h = leb-true n 4096 (and-both (leb n 4096) (leb n (length b)) (and-both (leb 16 n) _ h .1) .0)
+at-most b n h = leb-true n 4096 (and-true (leb n 4096) (leb n (length b)) (and-true (leb 16 n) _ h .1) .0)
 
 module _ (b : List ℕ) (e : Element) (p : List ℕ) (long : 16 ≤ length b) (n : ℕ) (is : n ≡ stated b) where
   stands : (t : Bool) → standsAt b n ≡ t → lengthStands b ≡ t
@@ -162,10 +137,10 @@ module _ (b : List ℕ) (e : Element) (p : List ℕ) (long : 16 ≤ length b) (n
   read-3 h = append-3 b e p long (stands false h)
 
   module _ (h : standsAt b n ≡ true) where
-    pub read-25 : held e ≡ false → Refused 25 0 ≡ appendAnswer b e p
+    pub read-25 : elementRoomy e ≡ false → Refused 25 0 ≡ appendAnswer b e p
     read-25 k = append-25 b e p long (stands true h) k
 
-    module _ (k : held e ≡ true) (f : ℕ) (q : f ≡ numbered (partBreaks e p)) where
+    module _ (k : elementRoomy e ≡ true) (f : ℕ) (q : f ≡ numbered (partBreaks e p)) where
       pub read-fault : (f ≡ 0 → ⊥) → Refused f n ≡ appendAnswer b e p
       read-fault z = ap (λ (m : ℕ). Refused f m) is ∙ append-fault b e p long (stands true h) k f q z
 
@@ -175,7 +150,7 @@ module _ (b : List ℕ) (e : Element) (p : List ℕ) (long : 16 ≤ length b) (n
 pub record Good (b : List ℕ) (e : Element) (p : List ℕ) (m : ℕ) : Type 0 where
   pub long : 16 ≤ length b
   pub least : 16 ≤ stated b
-  pub keeps : held e ≡ true
+  pub keeps : elementRoomy e ≡ true
   pub is-new : m ≡ newLength b e p
   pub within : newLength b e p ≤ length b
   pub top : newLength b e p ≤ 4096
@@ -188,11 +163,11 @@ broken-length : (o : Option ℕ) (p : ℕ) (w : Written) (m : ℕ) → unlessBro
 broken-length none p w m h = h
 broken-length (some k) p w m h = let z : _≡_ {A = ℕ} 0 1 = cc in absurd (omega arith)
 
-pub start-good : (b : List ℕ) (d : Description) (m : ℕ) → startAnswer b d ≡ Length m → (16 ≤ length b) × (descriptionHeld d ≡ true)
+pub start-good : (b : List ℕ) (d : Description) (m : ℕ) → startAnswer b d ≡ Length m → (16 ≤ length b) × (descriptionRoomy d ≡ true)
 unfolding startAnswer
 start-good b d m h =
     let x = or-length (leb 16 (length b)) 1 0 _ m h in
-    let y = or-length (descriptionHeld d) 25 0 _ m (x .1) in
+    let y = or-length (descriptionRoomy d) 25 0 _ m (x .1) in
     (leb-true 16 (length b) (x .0), y .0)
 
 broken-none : (o : Option ℕ) (p : ℕ) (w : Written) (m : ℕ) → unlessBrokenAt o p w ≡ Length m → o ≡ none
@@ -204,7 +179,7 @@ unfolding appendAnswer
 unbroken b e p m h =
     let x = or-length (leb 16 (length b)) 1 0 _ m h in
     let y = or-length (lengthStands b) 3 0 _ m (x .1) in
-    let z = or-length (held e) 25 0 _ m (y .1) in
+    let z = or-length (elementRoomy e) 25 0 _ m (y .1) in
     broken-none (partBreaks e p) (stated b) _ m (z .1)
 
 pub good : (b : List ℕ) (e : Element) (p : List ℕ) (m : ℕ) → appendAnswer b e p ≡ Length m → Good b e p m
@@ -212,11 +187,11 @@ unfolding appendAnswer
 good b e p m h =
     let x = or-length (leb 16 (length b)) 1 0 _ m h in
     let y = or-length (lengthStands b) 3 0 _ m (x .1) in
-    let z = or-length (held e) 25 0 _ m (y .1) in
+    let z = or-length (elementRoomy e) 25 0 _ m (y .1) in
     let w = broken-length (partBreaks e p) (stated b) _ m (z .1) in
     let v = or-length (hasRoom b (newLength b e p)) 16 0 _ m w in
-    let r = and-both (leb (newLength b e p) (length b)) (leb (newLength b e p) 4096) (v .0) in
-    let s = and-both (leb 16 (stated b)) _ (y .0) in
+    let r = and-true (leb (newLength b e p) (length b)) (leb (newLength b e p) 4096) (v .0) in
+    let s = and-true (leb 16 (stated b)) _ (y .0) in
     let u = v .1 in
     record {
       long = leb-true 16 (length b) (x .0);

@@ -1,8 +1,2 @@
 pub mod Answering
-pub mod Assembled
-pub mod Standing
-pub mod Demand2
 pub mod Only
-pub mod Refusals
-pub mod Tried
-pub mod BadWriters

@@ -6,10 +6,10 @@ ghost use lib.ListN.{length};
 ghost use Rattle.format.specs.Verdict.{stated};
 ghost use Rattle.format.specs.Writing.{startAnswer, appendAnswer};
 ghost use Rattle.writer.specs.Calls.{Started, Appended, roomAnswer};
-use flags::wide;
 use format::answers::Written;
 use format::records::Description;
 use format::records::Element;
+use words::wide;
 
 // What starting a table answers.
 fn start_verdict(buffer: &[u8], d: Description) -> Written
@@ -18,7 +18,7 @@ fn start_verdict(buffer: &[u8], d: Description) -> Written
     if buffer.len() < 16 {
         return Written::Refused(1, 0);
     }
-    if !checks::description_held(d) {
+    if !checks::description_roomy(d) {
         return Written::Refused(25, 0);
     }
     let fault = rules::description_breaks(d);
@@ -77,7 +77,7 @@ fn append_verdict(buffer: &[u8], e: Element, part: &[u8]) -> Written
     if !((16 <= n) & ((n <= 4096) & (n <= buffer.len()))) {
         return Written::Refused(3, 0);
     }
-    if !checks::element_held(e) {
+    if !checks::element_roomy(e) {
         return Written::Refused(25, 0);
     }
     let fault = checks::part_breaks(e, part);

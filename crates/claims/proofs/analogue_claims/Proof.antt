@@ -9,7 +9,7 @@ bit-of-requires : tie.Need-bit-of-requires
 bit-of-requires c κs = search needs
 
 returns : tie.Need-returns
-returns c = λ at h k. rw (c .bit-of .ensures) (on-reference at h (c .before .args .a .pin .0) k)
+returns c = λ k. rw (c .bit-of .ensures) (on-reference (c .before .args .p .0) k)
 
 pub analogue-claims-spec : {M : Type 1} → statement M
 analogue-claims-spec = tie.close (tie.spec bit-of-requires returns)

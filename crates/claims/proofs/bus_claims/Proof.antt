@@ -15,13 +15,13 @@ bit-of-requires : tie.Need-bit-of-requires
 bit-of-requires c κs = search needs
 
 returns : tie.Need-returns
-returns c = λ at h k. rw (c .enum-told .given .1) (on-bus at h)
+returns c = λ k. rw (c .enum-told .given .1) on-bus
 
 returns-2 : tie.Need-returns-2
 returns-2 c =
-    λ at h k.
+    λ k.
     let e = c .before .before .a .given .1 in
-    rw (c .bit-of .ensures, e) (on-select at h _ (rw e at k))
+    rw (c .bit-of .ensures, e) (on-select _ (rw e at k))
 
 pub bus-claims-spec : {M : Type 1} → statement M
 bus-claims-spec = tie.close (tie.spec enum-told enum-known-a bit-of-requires returns returns-2)

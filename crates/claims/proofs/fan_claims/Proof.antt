@@ -23,20 +23,18 @@ used-bit-requires c κs = search needs
 
 returns : tie.Need-returns
 returns c =
-    λ at h k.
+    λ k.
     let p = c .before .before .before .args .f .pwm in
     let t = c .before .before .before .args .f .tachometer in
     let m = and-right (allowed FanPin p) (allowedOrUnused FanPin t && rises p t) k in
     let e = permitted-pin FanPin (p .0) (and-left (allowed FanPin p) (allowedOrUnused FanPin t && rises p t) k) in
     let o = or-unused FanPin t (and-left (allowedOrUnused FanPin t) (rises p t) m) in
     rw (c .before .bit-of .ensures)
-    (rw (lone-used at t) at
+    (rw (lone-used t) at
     (claims-alone
     _
     0
-    at
     (p .0 ∷ usedPin t)
-    h
     (union (one-pin (p .0) e) (c .used-bit .ensures o))
     (both _ _ e (used-within t o))
     (two-distinct (unused t) (p .0) (t .0) (and-right (allowedOrUnused FanPin t) (rises p t) m))))

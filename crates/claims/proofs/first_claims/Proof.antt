@@ -1,10 +1,9 @@
 -- The claims of the three pins after that of the fault LED.
 -- Assumes nothing.
 use native.Mathlib.Omega.{arith}
-use mathlib.Core.List.{_∷_, [], _++_}
-use Rattle.format.specs.Claims.{alone, claim}
-use Rattle.claims.specs.Taken.{usedPin, ownThree}
-use Rattle.claims.proofs.Lone.{lone-at, lone-three}
+use mathlib.Core.List.{_∷_, []}
+use Rattle.format.specs.Claims.{alone, claim, madeAt}
+use Rattle.claims.specs.Taken.{ownThree}
 use borrow.Author.Needs.{needs}
 use Rattle.claims.proofs.first_claims.Statement.{statement}
 use Rattle.claims.proofs.first_claims.Tie as tie
@@ -25,11 +24,11 @@ returns c =
     let q = c .before .before .before .args .d .revision1 in
     let r = c .before .before .before .args .d .revision2 in
     c .claim .ensures
-    (claim alone 0 0x10 ∷ [])
-    (ownThree 0 p q r)
+    (madeAt 0 (claim alone 0x10 ∷ []))
+    (ownThree p q r)
+    (omega arith)
     (c .before .before .fault-led .ensures)
-    (c .before .three .ensures 0 (omega arith) k)
-    (rw (lone-three 0 p q r) at (lone-at 0 (usedPin p ++ usedPin q ++ usedPin r)))
+    (c .before .three .ensures k)
 
 pub first-claims-spec : {M : Type 1} → statement M
 first-claims-spec = tie.close (tie.spec fault-led-requires three-requires claim-requires returns)

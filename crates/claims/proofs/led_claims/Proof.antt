@@ -15,7 +15,7 @@ three-requires c κs = search needs
 
 returns : tie.Need-returns
 returns c =
-    λ at h k.
+    λ k.
     let p = c .before .args .l .one .pin in
     let q = c .before .args .l .two .pin in
     let r = c .before .args .l .three .pin in
@@ -26,7 +26,7 @@ returns c =
     let kp = or-unused StatusLed p (and-left x (y && z) k) in
     let kq = or-unused StatusLed q (and-left y z m) in
     let kr = or-unused StatusLed r (and-right y z m) in
-    c .three .ensures at h (rw (kp, kq, kr) refl)
+    c .three .ensures (rw (kp, kq, kr) refl)
 
 pub led-claims-spec : {M : Type 1} → statement M
 led-claims-spec = tie.close (tie.spec three-requires returns)

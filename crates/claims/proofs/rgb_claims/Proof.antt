@@ -26,7 +26,7 @@ bit-of-requires-3 c κs = search needs
 
 returns : tie.Need-returns
 returns c =
-    λ at h k.
+    λ k.
     let r = c .before .before .before .args .c .red in
     let g = c .before .before .before .args .c .green in
     let b = c .before .before .before .args .c .blue in
@@ -42,9 +42,7 @@ returns c =
     (claims-alone
     _
     0
-    at
     (r .0 ∷ g .0 ∷ b .0 ∷ [])
-    h
     (union (union (one-pin (r .0) er) (one-pin (g .0) eg)) (one-pin (b .0) eb))
     (both _ _ er (both _ _ eg (both _ true eb refl)))
     (three-distinct (r .0) (g .0) (b .0) (and-left rg gb k₃) (and-right rg gb k₃)))

@@ -21,7 +21,7 @@ used-bit-requires-3 c κs = search needs
 
 returns : tie.Need-returns
 returns c =
-    λ at h k.
+    λ k.
     let p = c .before .before .before .args .p in
     let q = c .before .before .before .args .q in
     let r = c .before .before .before .args .r in
@@ -38,8 +38,6 @@ returns c =
     (c .before .before .used-bit .ensures kp)
     (c .before .used-bit2 .ensures kq)
     (c .used-bit3 .ensures kr)
-    at
-    h
     (used-within p kp)
     (used-within q kq)
     (used-within r kr)

@@ -1,43 +1,24 @@
 -- `fan_found` meets its contract: the length decides whether a record is there, and the record is judged.
 -- Assumes nothing.
-use native.Mathlib.Omega.{arith}
-use Rattle.format.specs.Records.{fan}
-use Rattle.found.proofs.Judging.{none-there, judged, fan-none, fan-some}
+use mathlib.Core.Path.{refl}
 use borrow.Author.Needs.{needs}
+use Rattle.format.specs.Records.{fan}
+use Rattle.format.specs.Decode.{decode, readFan}
+use Rattle.found.proofs.Judging.{wrong-length, right-length}
 use Rattle.found.proofs.fan_found.Statement.{statement}
 use Rattle.found.proofs.fan_found.Tie as tie
 
-refused-requires : tie.Need-refused-requires
-refused-requires c κs = search needs
-
 returns : tie.Need-returns
-returns c = none-there 3 _ _ (fan-none _ (c .before .if1 .taken)) (c .refused .ensures)
-
-fan-requires : tie.Need-fan-requires
-fan-requires c κs = search needs
-
-fan-breaks-requires : tie.Need-fan-breaks-requires
-fan-breaks-requires c κs = search needs
-
-fan-claims-requires : tie.Need-fan-claims-requires
-fan-claims-requires c κs = search needs
-
-both-requires : tie.Need-both-requires
-both-requires c κs = search needs
+unfolding decode
+returns c = wrong-length 3 _ _ fan readFan 13 refl (c .before .if1 .taken) (c .refused .ensures)
 
 returns-2 : tie.Need-returns-2
+unfolding decode
 returns-2 c =
-    let l = c .before .before .before .before .if1 .left in
-    judged 3 _ _ fan _ _ (fan-some _ l) (c .before .before .before .fan .ensures) (omega (arith, l)) (c .before .before .fan-breaks .ensures) (c .before .fan-claims .ensures) (c .both .ensures .0) (c .both .ensures .1)
+    let r = c .before .before .before in
+    right-length 3 _ _ fan readFan 13 refl _ (r .before .if1 .left) refl (r .fan .ensures) (c .before .before .fan-breaks .ensures) (c .before .fan-claims .ensures) (c .both .ensures)
 
 pub fan-found-spec : {M : Type 1} → statement M
 fan-found-spec =
     tie.close
-    (tie.spec
-    refused-requires
-    returns
-    fan-requires
-    fan-breaks-requires
-    fan-claims-requires
-    both-requires
-    returns-2)
+    (tie.spec (search needs) returns (search needs) (search needs) (search needs) (search needs) returns-2)

@@ -1,43 +1,24 @@
 -- `rgb_found` meets its contract: the length decides whether a record is there, and the record is judged.
 -- Assumes nothing.
-use native.Mathlib.Omega.{arith}
-use Rattle.format.specs.Records.{rgb}
-use Rattle.found.proofs.Judging.{none-there, judged, rgb-none, rgb-some}
+use mathlib.Core.Path.{refl}
 use borrow.Author.Needs.{needs}
+use Rattle.format.specs.Records.{rgb}
+use Rattle.format.specs.Decode.{decode, readRgb}
+use Rattle.found.proofs.Judging.{wrong-length, right-length}
 use Rattle.found.proofs.rgb_found.Statement.{statement}
 use Rattle.found.proofs.rgb_found.Tie as tie
 
-refused-requires : tie.Need-refused-requires
-refused-requires c κs = search needs
-
 returns : tie.Need-returns
-returns c = none-there 14 _ _ (rgb-none _ (c .before .if1 .taken)) (c .refused .ensures)
-
-rgb-requires : tie.Need-rgb-requires
-rgb-requires c κs = search needs
-
-rgb-breaks-requires : tie.Need-rgb-breaks-requires
-rgb-breaks-requires c κs = search needs
-
-rgb-claims-requires : tie.Need-rgb-claims-requires
-rgb-claims-requires c κs = search needs
-
-both-requires : tie.Need-both-requires
-both-requires c κs = search needs
+unfolding decode
+returns c = wrong-length 14 _ _ rgb readRgb 8 refl (c .before .if1 .taken) (c .refused .ensures)
 
 returns-2 : tie.Need-returns-2
+unfolding decode
 returns-2 c =
-    let l = c .before .before .before .before .if1 .left in
-    judged 14 _ _ rgb _ _ (rgb-some _ l) (c .before .before .before .rgb .ensures) (omega (arith, l)) (c .before .before .rgb-breaks .ensures) (c .before .rgb-claims .ensures) (c .both .ensures .0) (c .both .ensures .1)
+    let r = c .before .before .before in
+    right-length 14 _ _ rgb readRgb 8 refl _ (r .before .if1 .left) refl (r .rgb .ensures) (c .before .before .rgb-breaks .ensures) (c .before .rgb-claims .ensures) (c .both .ensures)
 
 pub rgb-found-spec : {M : Type 1} → statement M
 rgb-found-spec =
     tie.close
-    (tie.spec
-    refused-requires
-    returns
-    rgb-requires
-    rgb-breaks-requires
-    rgb-claims-requires
-    both-requires
-    returns-2)
+    (tie.spec (search needs) returns (search needs) (search needs) (search needs) (search needs) returns-2)

@@ -1,69 +1,75 @@
--- `list` meets its contract. The loop's invariant: if the table's line alone stood in the buffer before it, the lines of the first k elements do now.
+-- `list` meets its contract. The loop's invariant: the lines of the elements behind the place stand in the buffer.
 -- Assumes nothing.
-use Prim.Native.Nat.{ℕ, _-_, _≤_}
+use Prim.Native.Nat.{_-_}
 use native.Mathlib.Omega.{arith}
-use mathlib.Core.List.{List, []}
+use lib.ListN.{length}
 use borrow.Author.Needs.{needs}
-use Rattle.listing.specs.Midway.{Midway}
-use Rattle.listing.proofs.Ends.{handed-on, undescribed-never, begun, ended}
+use Rattle.reader.proofs.Asking.{handed, long}
+use Rattle.walking.specs.Walk.{Walk}
+use Rattle.walking.proofs.Left.{top, here}
+use Rattle.listing.proofs.Turn.{Lined, refusal, begun, room, turned, whole}
 use Rattle.listing.proofs.list.Statement.{statement}
 use Rattle.listing.proofs.list.Tie as tie
 
 abbrev Inv-loop : tie.InvT-loop
-Inv-loop table out₀ n at here₀ k₀ out here k = (k ≤ n) × ((c : List ℕ) → Midway table c n 0 here₀ out₀ → Midway table c n k here out)
+Inv-loop table out₀ end₀ at₀ out end at = Walk table at (Lined out₀ end₀ end out)
 
 abbrev μ-loop : tie.MeasureT-loop
-μ-loop table out₀ n at here₀ k₀ out here k = n - k
+μ-loop table out₀ end₀ at₀ out end at = length table - at
 
 returns : tie.Need-returns Inv-loop μ-loop
 returns c =
-    let told = c .before .before in
-    handed-on _ _ _ _ _ _ _ (told .before .before .check .ensures) (told .enum-told .given .1) (c .list-refusal .ensures _ _ (told .enum-told .given .1))
+    let t = c .before .before .before in
+    refusal _ _ _ (handed _ _ (t .before .before .check .ensures) (t .enum-told2 .given .1) (c .before .before .handed-on .ensures)) (c .put-refused .ensures)
 
-returns-2 : tie.Need-returns-2 Inv-loop μ-loop
-returns-2 c =
-    let an = c .before .before .before .before in
-    let ck = an .before .before in
-    absurd (undescribed-never _ [] _ (λ i. omega (arith, ck .before .shared-slice-known .given i)) (rw (an .answer .given .1) at (ck .check .ensures)) _ _ _ (c .before .before .description .ensures) (c .enum-told2 .given .1))
+description-requires : tie.Need-description-requires Inv-loop μ-loop
+description-requires c κs =
+    omega (arith, long _ (rw (c .before .enum-told .given .1) at (c .before .before .before .check .ensures)))
 
 loop-holds : tie.Need-loop-holds Inv-loop μ-loop
-loop-holds c = (omega arith, λ x m. m)
+loop-holds c =
+    let a = c .before .before .before in
+    begun _ _ _ (rw (a .enum-told .given .1) at (a .before .before .check .ensures))
 
-list-element-requires : tie.Need-list-element-requires Inv-loop μ-loop
-list-element-requires c κs =
-    let lp = c .before .before in
-    let pt = lp .before in
-    let de = pt .before .before .before in
-    let ds = de .before .before in
-    let an = ds .before .before in
-    let ck = an .before .before in
-    let m =
-    begun _ _ _ (λ i. omega (arith, ck .before .shared-slice-known .given i)) (rw (an .answer .given .1) at (ck .check .ensures)) _ _ _ _ (ds .description .ensures) (de .described .given .1) (pt .put-table .ensures .0) (pt .put-table .ensures .1) in
-    (_, _, lp .loop .inv .1 _ m, c .before .loop-test .taken)
+element-at-requires : tie.Need-element-at-requires Inv-loop μ-loop
+element-at-requires c κs = here _ _ _ (c .before .loop .inv) (c .loop-test .taken)
 
-add-k : tie.Need-add-k Inv-loop μ-loop
-add-k c = omega arith
+part-at-requires : tie.Need-part-at-requires Inv-loop μ-loop
+part-at-requires c κs = let t = c .before .before in here _ _ _ (t .before .loop .inv) (t .loop-test .taken)
+
+put-element-requires : tie.Need-put-element-requires Inv-loop μ-loop
+put-element-requires c κs =
+    let t = c .before .before .before in
+    let l = t .before in
+    omega (arith, room _ _ _ _ _ _ (l .loop .inv) (t .loop-test .taken) (l .before .put-table .ensures .1), c .before .put-element-arg .given)
+
+length-at-requires : tie.Need-length-at-requires Inv-loop μ-loop
+length-at-requires c κs =
+    let t = c .before .before .before .before in
+    let h = here _ _ _ (t .before .loop .inv) (t .loop-test .taken) .1 in
+    omega (arith, h .size, h .within)
+
+add-at : tie.Need-add-at Inv-loop μ-loop
+add-at c =
+    let t = c .before .before .before .before .before in
+    let w = t .before .loop .inv in
+    omega (arith, c .length-at .ensures, here _ _ _ w (t .loop-test .taken) .1 .within, top _ _ _ w)
 
 loop-less : tie.Need-loop-less Inv-loop μ-loop
-loop-less c = omega arith
+loop-less c =
+    let t = c .before .before .before .before .before in
+    omega (arith, c .length-at .ensures, here _ _ _ (t .before .loop .inv) (t .loop-test .taken) .1 .size, t .loop-test .taken)
 
 loop-again : tie.Need-loop-again Inv-loop μ-loop
 loop-again c =
-    let test = c .before .before in
-    let lp = test .before in
-    (omega arith, λ x m. c .list-element .ensures x _ (lp .loop .inv .1 x m) (test .loop-test .taken))
+    let e = c .before .before .before .before in
+    let t = e .before in
+    turned _ _ _ _ _ _ (t .before .loop .inv) _ _ _ (t .loop-test .taken) (c .length-at .ensures) (e .element-at .ensures) (c .before .before .part-at .ensures) (c .before .put-element .ensures)
 
-returns-3 : tie.Need-returns-3 Inv-loop μ-loop
-returns-3 c =
-    let lp = c .before in
-    let pt = lp .before in
-    let de = pt .before .before .before in
-    let ds = de .before .before in
-    let an = ds .before .before in
-    let ck = an .before .before in
-    let m =
-    begun _ _ _ (λ i. omega (arith, ck .before .shared-slice-known .given i)) (rw (an .answer .given .1) at (ck .check .ensures)) _ _ _ _ (ds .description .ensures) (de .described .given .1) (pt .put-table .ensures .0) (pt .put-table .ensures .1) in
-    ended _ _ _ _ _ _ (lp .loop .inv .1 _ m) (omega (arith, lp .loop .inv .0, c .loop-test .left))
+returns-2 : tie.Need-returns-2 Inv-loop μ-loop
+returns-2 c =
+    let p = c .before .before in
+    whole _ _ _ _ _ _ (c .before .loop .inv) _ _ (c .loop-test .left) (p .before .description .ensures) (p .put-table .ensures .0)
 
 pub list-spec : {M : Type 1} → statement M
 list-spec =
@@ -75,15 +81,16 @@ list-spec =
     (search needs)
     (search needs)
     (λ c κs. search needs)
-    returns
     (λ c κs. search needs)
-    (search needs)
-    (search needs)
-    returns-2
+    returns
+    description-requires
     (λ c κs. search needs)
     loop-holds
-    list-element-requires
-    add-k
+    element-at-requires
+    part-at-requires
+    put-element-requires
+    length-at-requires
+    add-at
     loop-less
     loop-again
-    returns-3)
+    returns-2)

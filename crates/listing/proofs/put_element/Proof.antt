@@ -11,7 +11,7 @@ returns : tie.Need-returns
 unfolding elementLine
 returns c =
     let p5 = c .before .before in
-    let p4 = p5 .before .before .before .before in
+    let p4 = p5 .before .before .before .before .before in
     let p3 = p4 .before .before .before .before in
     let p2 = p3 .before .before .before .before .before in
     let p1 = p2 .before .before .before .before in (
@@ -21,7 +21,7 @@ returns c =
           (p2 .put-number .ensures .0)
           (then
           (rw (p3 .before .id-of .ensures) at (p3 .put-id .ensures .0))
-          (then (rw (p1 .before .before .before .zone-of .ensures) at (p4 .put-zone .ensures .0)) (p5 .put-own .ensures .0)))),
+          (then (rw (p1 .before .before .before .shown .ensures .0) at (p4 .put-zone .ensures .0)) (rw (p1 .before .before .before .shown .ensures .1) at (p5 .put-own .ensures .0))))),
       omega (arith, p1 .put .ensures .ends, p2 .put-number .ensures .1, p3 .put-id .ensures .1, p4 .put-zone .ensures .1, p5 .put-own .ensures .1),
     )
 

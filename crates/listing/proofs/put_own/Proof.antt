@@ -10,9 +10,9 @@ returns : tie.Need-returns
 returns c =
     let q = c .before .before in
     let p = q .before .before .before .before .before in (
-      rw (← p .before .before .own-pins .ensures) (then (p .put-pins .ensures .0) (q .put .ensures)),
+      then (p .put-pins .ensures .0) (q .put .ensures),
       omega (arith, p .put-pins .ensures .1, q .put .ensures .ends),
     )
 
 pub put-own-spec : {M : Type 1} → statement M
-put-own-spec = tie.close (tie.spec (λ c κs. search needs) (λ c κs. search needs) (search needs) (λ c κs. search needs) (search needs) returns)
+put-own-spec = tie.close (tie.spec (λ c κs. search needs) (search needs) (λ c κs. search needs) (search needs) returns)

@@ -1,60 +1,49 @@
--- `text_step` meets its contract: each answer by the test that gave it.
+-- `text_step` meets its contract: its own fault, a number that comes a second time, or one element more.
 -- Assumes nothing.
+use native.Mathlib.Omega.{arith}
 use mathlib.Core.Path.{refl}
-use Rattle.pass.proofs.Answers.{text-8, text-9, text-12, text-0}
+use Rattle.pass.proofs.Stepped.{own-fault}
+use Rattle.pass.proofs.Taking.{text-long, text-fault, text-good}
 use borrow.Author.Needs.{needs}
 use Rattle.pass.proofs.text_step.Statement.{statement}
 use Rattle.pass.proofs.text_step.Tie as tie
 
-stopped-requires : tie.Need-stopped-requires
-stopped-requires c κs = search needs
-
 returns : tie.Need-returns
-returns c = text-8 _ _ _ _ _ (c .stopped .ensures .0) (c .before .if1 .taken)
+returns c =
+    λ at zs zu su.
+    own-fault _ at _ _ _ _ (c .before .before .text-breaks .ensures) (c .before .if1 .taken) (c .stopped .ensures .0) (c .stopped .ensures .1) refl
 
 shared-slice-read-wide : tie.Need-shared-slice-read-wide
-shared-slice-read-wide c = search needs
-
-wide-requires : tie.Need-wide-requires
-wide-requires c κs = search needs
-
-stopped-requires-2 : tie.Need-stopped-requires-2
-stopped-requires-2 c κs = search needs
+shared-slice-read-wide c = omega (arith, text-long _ (c .before .before .text-breaks .ensures) (c .before .if1 .left))
 
 returns-2 : tie.Need-returns-2
-returns-2 c = text-9 _ _ _ _ _ (c .stopped2 .ensures .0) (c .before .before .before .before .if1 .left) (c .before .before .wide .ensures .0) (c .before .if2 .taken)
-
-element-copy-out-if3 : tie.Need-element-copy-out-if3
-element-copy-out-if3 c = search needs
-
-stopped-requires-3 : tie.Need-stopped-requires-3
-stopped-requires-3 c κs = search needs
+returns-2 c =
+    λ at zs zu su.
+    let w = c .before .before .before in
+    text-fault _ (λ i. omega (arith, w .before .shared-slice-known2 .given i)) at _ zs _ zu su _
+    (w .before .before .before .text-breaks .ensures) (w .before .before .if1 .left) (w .wide .ensures .0)
+    (c .before .if2 .taken) (c .stopped2 .ensures .0) (c .stopped2 .ensures .1)
 
 returns-3 : tie.Need-returns-3
-returns-3 c = text-12 _ _ _ _ _ (c .stopped3 .ensures .0) (c .before .before .before .before .before .before .if1 .left) (c .before .before .before .before .wide .ensures .0) (c .before .before .before .if2 .left) (c .before .if3 .taken)
-
-element-write-ss : tie.Need-element-write-ss
-element-write-ss c = search needs
-
-add-t6 : tie.Need-add-t6
-add-t6 c = search needs
-
-returns-4 : tie.Need-returns-4
-returns-4 c = text-0 _ _ _ _ _ refl (c .before .before .before .before .before .before .before .if1 .left) (c .before .before .before .before .before .wide .ensures .0) (c .before .before .before .before .if2 .left) (c .before .before .if3 .left) refl refl refl refl
+returns-3 c =
+    λ at zs zu su.
+    let w = c .before .before .before .before in
+    text-good _ (λ i. omega (arith, w .before .shared-slice-known2 .given i)) at _ zs _ zu su _
+    (w .before .before .before .text-breaks .ensures) (w .before .before .if1 .left) (w .wide .ensures .0)
+    (c .before .before .if2 .left) refl refl refl refl refl
 
 pub text-step-spec : {M : Type 1} → statement M
 text-step-spec =
     tie.close
     (tie.spec
-    stopped-requires
+    (λ c κs. search needs)
+    (λ c κs. search needs)
     returns
     shared-slice-read-wide
-    wide-requires
-    stopped-requires-2
+    (λ c κs. search needs)
+    (λ c. search needs)
+    (λ c κs. search needs)
     returns-2
-    element-copy-out-if3
-    stopped-requires-3
-    returns-3
-    element-write-ss
-    add-t6
-    returns-4)
+    (λ c. search needs)
+    (λ c. search needs)
+    returns-3)

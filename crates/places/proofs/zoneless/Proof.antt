@@ -4,7 +4,7 @@ use Prim.Native.Nat.{_+_, _-_, _≤_}
 use native.Mathlib.Omega.{arith}
 use mathlib.Core.List.{_∷_}
 use lib.ListN.{length}
-use Rattle.format.specs.Numbers.{zoneNamed, zones}
+use Rattle.format.specs.ZonesAndStrings.{zoneNamed, zones}
 use Rattle.places.proofs.Search.{Search, begin, some-role, room, go-on, found, finish}
 use Rattle.places.proofs.zoneless.Statement.{statement}
 use Rattle.places.proofs.zoneless.Tie as tie

@@ -1,4 +1,4 @@
--- `check` meets its contract: a bare table breaks no rule, and of any other the reader's function gives the verdict.
+-- `check` meets its contract: a bare table breaks no rule, and of any other `read` gives the verdict.
 -- Assumes nothing.
 use native.Mathlib.Omega.{arith}
 use mathlib.Core.Path.{sym, _∙_}
@@ -13,8 +13,5 @@ returns c =
     verdict _ _ (λ i. omega (arith, c .before .before .shared-slice-known .given i))
     (bare-accepted _ (sym (c .before .bare .ensures) ∙ c .if1 .taken))
 
-returns-2 : tie.Need-returns-2
-returns-2 c = verdict _ _ (λ i. omega (arith, c .before .before .before .shared-slice-known .given i)) (c .read .ensures)
-
 pub check-spec : {M : Type 1} → statement M
-check-spec = tie.close (tie.spec (search needs) returns (search needs) returns-2)
+check-spec = tie.close (tie.spec (search needs) returns (search needs) (λ c. c .read .ensures))

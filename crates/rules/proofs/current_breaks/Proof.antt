@@ -1,15 +1,13 @@
--- The number is that of the first rule broken, test by test.
+-- The tests are those of its rules.
 -- Assumes nothing.
-use Rattle.format.specs.Rules.{ownRules}
-use Rattle.rules.proofs.Numbering.{numbering}
+use mathlib.Core.Path.{refl}
+use Rattle.format.specs.Records.{current}
 use borrow.Author.Needs.{needs}
 use Rattle.rules.proofs.current_breaks.Statement.{statement}
 use Rattle.rules.proofs.current_breaks.Tie as tie
 
 returns : tie.Need-returns
-unfolding ownRules
-returns c =
-    rw (c .or-else .ensures, c .before .allowed .ensures) (simp numbering)
+returns c = c .own-breaks .ensures (current _) refl refl (c .before .allowed .ensures)
 
 pub current-breaks-spec : {M : Type 1} → statement M
 current-breaks-spec = tie.close (tie.spec (search needs) (search needs) returns)

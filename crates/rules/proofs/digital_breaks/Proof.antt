@@ -1,22 +1,13 @@
--- The number is that of the first rule broken, test by test.
+-- The tests are those of its rules.
 -- Assumes nothing.
-use Rattle.format.specs.Rules.{ownRules}
-use Rattle.rules.proofs.Numbering.{numbering}
+use mathlib.Core.Path.{refl}
+use Rattle.format.specs.Records.{digital}
 use borrow.Author.Needs.{needs}
 use Rattle.rules.proofs.digital_breaks.Statement.{statement}
 use Rattle.rules.proofs.digital_breaks.Tie as tie
 
 returns : tie.Need-returns
-unfolding ownRules
-returns c =
-    let tested = c .before .before in
-    rw (
-      c .or-else2 .ensures,
-      c .before .or-else .ensures,
-      tested .selected .ensures,
-      tested .before .addressed .ensures,
-    ) (simp numbering)
+returns c = c .own-breaks .ensures (digital _) refl (c .before .before .addressed .ensures) (c .before .selected .ensures)
 
 pub digital-breaks-spec : {M : Type 1} → statement M
-digital-breaks-spec =
-    tie.close (tie.spec (search needs) (search needs) (search needs) (search needs) returns)
+digital-breaks-spec = tie.close (tie.spec (search needs) (search needs) (search needs) returns)

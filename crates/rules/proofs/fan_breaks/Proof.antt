@@ -1,24 +1,17 @@
--- The number is that of the first rule broken, test by test.
+-- The tests are those of its rules.
 -- Assumes nothing.
-use Rattle.format.specs.Rules.{ownRules}
-use Rattle.rules.proofs.Numbering.{numbering}
+use mathlib.Core.Path.{refl}
+use Rattle.format.specs.Records.{fan}
 use borrow.Author.Needs.{needs}
 use Rattle.rules.proofs.fan_breaks.Statement.{statement}
 use Rattle.rules.proofs.fan_breaks.Tie as tie
 
 returns : tie.Need-returns
-unfolding ownRules
 returns c =
-    let tested = c .before .before in
-    rw (
-      c .or-else2 .ensures,
-      c .before .or-else .ensures,
-      tested .rises .ensures,
-      tested .before .allowed-or-unused .ensures,
-      tested .before .before .allowed .ensures,
-      tested .before .before .before .before .unused .ensures,
-    ) (simp numbering)
+    let tested = c .before in
+    c .own-breaks .ensures (fan _) refl
+    (rw (tested .before .before .before .before .unused .ensures) refl)
+    (rw (tested .rises .ensures, tested .before .allowed-or-unused .ensures, tested .before .before .allowed .ensures) refl)
 
 pub fan-breaks-spec : {M : Type 1} → statement M
-fan-breaks-spec =
-    tie.close (tie.spec (search needs) (search needs) (search needs) (search needs) (search needs) (search needs) returns)
+fan-breaks-spec = tie.close (tie.spec (search needs) (search needs) (search needs) (search needs) (search needs) returns)

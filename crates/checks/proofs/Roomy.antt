@@ -1,0 +1,175 @@
+-- 25 of each kind is what the code tests: the other numbers fit by their types. Each slot that has room is left out in turn.
+-- Assumes nothing.
+use Prim.Native.Nat.{ℕ, _/_, _%_, _<_, _≤_}
+use native.Mathlib.Omega.{arith}
+use mathlib.Core.Path.{_≡_, refl, sym, _∙_, ap}
+use mathlib.Core.Bool.{Bool, true, false, _&&_}
+use lib.Dec.{ltb}
+use borrow.Author.Tests.{ltb-true, ltb-false, lt-ltb, le-ltb}
+use Rattle.format.specs.Slots.{halves, roomy, allRoomy}
+use Rattle.format.specs.Layout.{address, device}
+use Rattle.format.specs.Rules.{descriptionRoomy, elementRoomy}
+use Rattle.format.specs.declared.records.Description.{Description}
+use Rattle.format.specs.declared.records.Placement.{Placement}
+use Rattle.format.specs.declared.records.DigitalSensor.{DigitalSensor}
+use Rattle.format.specs.declared.records.AnalogueSensor.{AnalogueSensor}
+use Rattle.format.specs.declared.records.PwmFan.{PwmFan}
+use Rattle.format.specs.declared.records.Lamp.{Lamp}
+use Rattle.format.specs.declared.records.StatusLed.{StatusLed}
+use Rattle.format.specs.declared.records.CurrentSensor.{CurrentSensor}
+use Rattle.format.specs.declared.records.BusDevice.{BusDevice}
+use Rattle.format.specs.declared.records.RgbLed.{RgbLed}
+use Rattle.format.specs.declared.records.Address.{Address}
+use Rattle.format.specs.declared.records.Element.the-variants.{Digital, Analogue, Fan, Led, Current, Controller, Tachometer, Rgb}
+
+-- slots with room are left out
+module _ (n : ℕ) {u v : Bool} where
+  one : n < 256 → u ≡ v → u ≡ ltb n 256 && v
+  one h e = rw (lt-ltb n 256 h) e
+
+module _ (n : ℕ) {u v : Bool} where
+  two : n < 65536 → u ≡ v → u ≡ ltb (n % 256) 256 && (ltb (n / 256) 256 && v)
+  two h e = one (n % 256) (omega arith) (one (n / 256) (omega arith) e)
+
+-- what follows two tests has room
+room : (a b : Bool) {w : Bool} → true ≡ w → a && (b && true) ≡ a && (b && w)
+room a b e = rw (← e) refl
+
+-- tests stand
+also : (a : Bool) {w : Bool} → true ≡ w → a ≡ a && w
+also true e = e
+also false e = refl
+
+beside : (a : Bool) {b c : Bool} → b ≡ c → a && b ≡ a && c
+beside a e = ap (λ (b : Bool). a && b) e
+
+abbrev pub Placed : Placement → Type 0
+Placed p = (p .string < 256) × (p .x .0 < 256) × (p .y .0 < 256) × (p .z .0 < 256) × (p .zone < 256)
+
+placed :
+    (p : Placement) {u v : Bool}
+    → Placed p
+    → u ≡ v
+    → u
+    ≡ ltb (p .string) 256 && (ltb (p .x .0) 256 && (ltb (p .y .0) 256 && (ltb (p .z .0) 256 && (ltb (p .zone) 256 && v))))
+placed p h e = one (p .string) (h .0) (one (p .x .0) (h .1) (one (p .y .0) (h .2) (one (p .z .0) (h .3) (one (p .zone) (h .4) e))))
+
+-- 24 bits: the highest byte has room
+high-byte : (n : ℕ) → ltb n 16777216 ≡ ltb (n / 65536) 256
+high-byte n = go (ltb n 16777216) refl
+  where
+    go : (t : Bool) → ltb n 16777216 ≡ t → t ≡ ltb (n / 65536) 256
+    go true e = sym (lt-ltb (n / 65536) 256 (omega (arith, ltb-true n 16777216 e)))
+    go false e = sym (le-ltb (n / 65536) 256 (omega (arith, ltb-false n 16777216 e)))
+
+pub description-roomy :
+    (d : Description)
+    → d .device < 256
+    → d .string < 256
+    → d .revision0 .0 < 256
+    → d .revision1 .0 < 256
+    → d .revision2 .0 < 256
+    → ltb (d .serial) 16777216 && ltb (d .power .0) 128 ≡ descriptionRoomy d
+description-roomy d h i j k l =
+    let s = d .serial in
+    one (d .device) h
+    (one (d .string) i
+    (one (s % 256) (omega arith)
+    (one (s / 256 % 256) (omega arith)
+    (ap (λ (a : Bool). a && ltb (d .power .0) 128) (high-byte s)
+    ∙ beside (ltb (s / 65536) 256)
+    (also (ltb (d .power .0) 128) (one (d .revision0 .0) j (one (d .revision1 .0) k (one (d .revision2 .0) l refl))))))))
+
+pub digital-roomy :
+    (d : DigitalSensor) (t : Bool)
+    → Placed (d .placement)
+    → d .lsb < 65536
+    → d .msb < 65536
+    → d .minvalue < 65536
+    → d .mintemp .0 < 256
+    → d .maxvalue < 65536
+    → d .maxtemp .0 < 256
+    → t ≡ allRoomy (device (d .bus) (d .address))
+    → t ≡ elementRoomy (Digital d)
+digital-roomy d t p h i j k l m e =
+    placed (d .placement) p
+    (e
+    ∙ room (ltb (d .bus) 16) (roomy (address (d .address)))
+    (two (d .lsb) h (two (d .msb) i (two (d .minvalue) j (one (d .mintemp .0) k (two (d .maxvalue) l (one (d .maxtemp .0) m refl)))))))
+
+pub analogue-roomy :
+    (a : AnalogueSensor)
+    → Placed (a .placement)
+    → a .pin .0 < 256
+    → a .at0 .0 < 65536
+    → a .at25 .0 < 65536
+    → a .at50 .0 < 65536
+    → a .at75 .0 < 65536
+    → a .at100 .0 < 65536
+    → ltb (a .thermal) 16 ≡ elementRoomy (Analogue a)
+analogue-roomy a p h i j k l m =
+    placed (a .placement) p
+    (also (ltb (a .thermal) 16)
+    (one (a .pin .0) h (two (a .at0 .0) i (two (a .at25 .0) j (two (a .at50 .0) k (two (a .at75 .0) l (two (a .at100 .0) m refl)))))))
+
+pub fan-roomy :
+    (f : PwmFan)
+    → Placed (f .placement)
+    → f .pwm .0 < 256
+    → f .tachometer .0 < 256
+    → f .ppr < 256
+    → f .minrpm .0 < 65536
+    → f .maxrpm .0 < 65536
+    → f .duty < 256
+    → true ≡ elementRoomy (Fan f)
+fan-roomy f p h i j k l m =
+    placed (f .placement) p
+    (one (f .pwm .0) h (one (f .tachometer .0) i (one (f .ppr) j (two (f .minrpm .0) k (two (f .maxrpm .0) l (one (f .duty) m refl))))))
+
+-- COLOR and PURPOSE of a lamp
+abbrev pub codes : Lamp → Bool
+codes l = roomy (halves (l .colour) (l .purpose))
+
+pub led-roomy :
+    (l : StatusLed) {a b c : Bool}
+    → Placed (l .placement)
+    → l .one .pin .0 < 256
+    → l .two .pin .0 < 256
+    → l .three .pin .0 < 256
+    → a ≡ codes (l .one)
+    → b ≡ codes (l .two)
+    → c ≡ codes (l .three)
+    → a && (b && c) ≡ elementRoomy (Led l)
+led-roomy l p h i j e f g =
+    rw (e, f, g)
+    (placed (l .placement) p
+    (one (l .one .pin .0) h
+    (beside (codes (l .one)) (one (l .two .pin .0) i (beside (codes (l .two)) (one (l .three .pin .0) j (also (codes (l .three)) refl)))))))
+
+pub current-roomy :
+    (c : CurrentSensor)
+    → Placed (c .placement)
+    → c .pin .0 < 256
+    → c .imin .0 < 65536
+    → c .imax .0 < 65536
+    → true ≡ elementRoomy (Current c)
+current-roomy c p h i j = placed (c .placement) p (one (c .pin .0) h (two (c .imin .0) i (two (c .imax .0) j refl)))
+
+-- 09h and 0Ah: what a tachometer has more is reserved
+pub device-roomy :
+    (d : BusDevice) (t : Bool)
+    → Placed (d .placement)
+    → t ≡ allRoomy (device (d .bus) (d .address))
+    → (t ≡ elementRoomy (Controller d)) × (t ≡ elementRoomy (Tachometer d))
+device-roomy d t p e = (placed (d .placement) p e, placed (d .placement) p e)
+
+pub rgb-roomy :
+    (r : RgbLed) → Placed (r .placement) → r .red .0 < 256 → r .green .0 < 256 → r .blue .0 < 256 → true ≡ elementRoomy (Rgb r)
+rgb-roomy r p h i j = placed (r .placement) p (one (r .red .0) h (one (r .green .0) i (one (r .blue .0) j refl)))
+
+-- the address, by its kind
+pub bus-roomy : (a b : Bool) → a && b ≡ a && (b && true)
+bus-roomy a b = beside a (also b refl)
+
+pub select-roomy : (a : Bool) (n : ℕ) → n < 256 → a ≡ a && (ltb n 256 && true)
+select-roomy a n h = also a (one n h refl)

@@ -1,0 +1,75 @@
+-- A record is assembled again from its element and its part, and what append lays out is the layout of `format`.
+-- Assumes nothing.
+use Prim.Native.Nat.{ℕ, _+_}
+use native.Mathlib.Omega.{arith}
+use mathlib.Core.Path.{_≡_, refl, sym, _∙_, ap}
+use mathlib.Core.Bool.{true}
+use mathlib.Core.List.{List, [], _∷_, _++_, map}
+use mathlib.Core.Option.{none, some}
+use lib.ListN.{length, length-append}
+use Rattle.format.specs.Slots.{Slot, whole, word, written, allRoomy, byte}
+use Rattle.format.specs.Records.{Record, digital, analogue, fan, led, current, controller, tachometer, zone, string, rgb, elementOf}
+use Rattle.format.specs.Layout.{fixed, part, entries, blocks, body, layout, idOf, headed}
+use Rattle.format.specs.Rules.{ofItsKind}
+use Rattle.format.specs.Table.{elementBreaks}
+use Rattle.format.specs.Decode.{decode, content}
+use Rattle.format.specs.Writing.{assemble, assembledBreaks, partBreaks, elementSlots}
+use Rattle.format.proofs.Blocks.{blocks-only, two-only}
+use Rattle.format.proofs.Kept.{own-unbroken}
+use Rattle.format.proofs.Slots.{roomy-split}
+use Rattle.format.proofs.Written.{written-fits, length-written, record-reads-back}
+use Rattle.format.proofs.Whole.{written-append, written-whole, length-whole}
+
+-- a record is assembled again from its element and its part
+pub assembles : (r : Record) → allRoomy (part r) ≡ true → assemble (elementOf r) (written (part r)) ≡ some r
+assembles (digital d) h = refl
+assembles (analogue a) h = refl
+assembles (fan f) h = refl
+assembles (led l) h = refl
+assembles (current c) h = refl
+assembles (controller d l) h =
+    rw (blocks-only l (length (written (blocks l))) (written (blocks l)) (omega arith) (written-fits (blocks l) h)) refl
+assembles (tachometer d a b) h =
+    rw (two-only (written (entries a ++ entries b)) a b (written-fits (entries a ++ entries b) h)) refl
+assembles (zone bytes) h = ap (λ (l : List ℕ). some (zone l)) (written-whole bytes)
+assembles (string bytes) h = ap (λ (l : List ℕ). some (string l)) (written-whole bytes)
+assembles (rgb r) h = refl
+
+-- what append lays out is the layout of the record
+pub slots-written : (r : Record) → written (elementSlots (elementOf r) (written (part r))) ≡ written (layout r)
+slots-written r =
+    let e = elementOf r in
+    let p = written (part r) in
+    let n : length (fixed e ++ map whole p) ≡ length (body r) =
+    omega (arith, length-append (fixed e) (map whole p), length-append (fixed e) (part r), length-whole p, length-written (part r)) in
+    let w : written (fixed e ++ map whole p) ≡ written (body r) =
+    written-append (fixed e) (map whole p)
+    ∙ ap (λ (l : List ℕ). written (fixed e) ++ l) (written-whole p)
+    ∙ sym (written-append (fixed e) (part r)) in
+    again (idOf e) (fixed e ++ map whole p) (body r) n w
+  where
+    again : (id : ℕ) (ss ts : List Slot) → length ss ≡ length ts → written ss ≡ written ts → written (headed id ss) ≡ written (headed id ts)
+    again id ss ts n w = rw (n, w) refl
+
+pub slots-length : (r : Record) → length (elementSlots (elementOf r) (written (part r))) ≡ length (layout r)
+slots-length r =
+    sym (length-written (elementSlots (elementOf r) (written (part r)))) ∙ ap length (slots-written r) ∙ length-written (layout r)
+
+-- and is read back as the same record
+pub append-reads-back :
+    (r : Record) (more : List ℕ)
+    → allRoomy (layout r) ≡ true
+    → ofItsKind r ≡ true
+    → decode (byte (written (elementSlots (elementOf r) (written (part r))) ++ more) 0) (content (written (elementSlots (elementOf r) (written (part r))) ++ more))
+    ≡ some r
+append-reads-back r more h k =
+    ap (λ (l : List ℕ). decode (byte (l ++ more) 0) (content (l ++ more))) (slots-written r) ∙ record-reads-back r more h k
+
+-- what keeps the rules is not refused by 25, 8, 9 or 10
+pub body-roomy : (r : Record) → allRoomy (layout r) ≡ true → allRoomy (body r) ≡ true
+body-roomy r h = roomy-split (whole (idOf (elementOf r)) ∷ word (3 + length (body r))) (body r) h .1
+
+pub kept-break : (before : List Record) (r : Record) → elementBreaks before r ≡ none → allRoomy (part r) ≡ true → partBreaks (elementOf r) (written (part r)) ≡ none
+unfolding partBreaks
+kept-break before r h k =
+    ap assembledBreaks (assembles r k) ∙ own-unbroken before r h

@@ -1,0 +1,3 @@
+pub mod Runs
+pub mod Bargain
+pub mod Made

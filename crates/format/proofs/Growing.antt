@@ -1,0 +1,55 @@
+-- One element more: what numbers, places, claims and the pass's rules of a list become.
+-- Assumes nothing.
+use Prim.Native.Nat.{ℕ, _+_, _<_}
+use native.Mathlib.Omega.{arith}
+use mathlib.Core.Path.{_≡_, refl, sym}
+use mathlib.Core.List.{List, [], _∷_, _++_, append-nil, append-assoc}
+use mathlib.Core.Option.{none}
+use lib.ListN.{length, length-append}
+use lib.Seq.{append-snoc}
+use Rattle.format.specs.Records.{Record}
+use Rattle.format.specs.Layout.{layout, layouts, placeAfter}
+use Rattle.format.specs.ZonesAndStrings.{Role, role, gathered}
+use Rattle.format.specs.Claims.{Claim, Made, madeAt, claimsOf, firstClaims, claimsFrom, claims}
+use Rattle.format.specs.Table.{elementBreaks, PassKept}
+use Rattle.format.specs.declared.records.Description.{Description}
+use Rattle.format.proofs.Lengths.{snoc-length}
+
+pub gathered-append :
+    (numbers : Role → List ℕ) (rs ss : List Record) → gathered numbers (rs ++ ss) ≡ gathered numbers rs ++ gathered numbers ss
+gathered-append numbers [] ss = refl
+gathered-append numbers (r ∷ rs) ss =
+    rw (gathered-append numbers rs ss) (sym (append-assoc (numbers (role r)) (gathered numbers rs) (gathered numbers ss)))
+
+pub gathered-snoc :
+    (numbers : Role → List ℕ) (rs : List Record) (r : Record) → gathered numbers (rs ++ r ∷ []) ≡ gathered numbers rs ++ numbers (role r)
+gathered-snoc numbers rs r = rw (gathered-append numbers rs (r ∷ []), append-nil (numbers (role r))) refl
+
+pub place-snoc : (rs : List Record) (r : Record) → placeAfter (rs ++ r ∷ []) ≡ placeAfter rs + length (layout r)
+place-snoc rs r = omega (arith, snoc-length rs r)
+
+pub claims-from :
+    (at : ℕ) (rs ss : List Record) → claimsFrom at (rs ++ ss) ≡ claimsFrom at rs ++ claimsFrom (at + length (layouts rs)) ss
+claims-from at [] ss = let e : at + 0 ≡ at = omega arith in rw e refl
+claims-from at (r ∷ rs) ss =
+    let e : at + length (layout r) + length (layouts rs) ≡ at + length (layout r ++ layouts rs) =
+    omega (arith, length-append (layout r) (layouts rs)) in
+    rw (claims-from (at + length (layout r)) rs ss, e)
+    (sym (append-assoc (madeAt at (claimsOf r)) (claimsFrom (at + length (layout r)) rs) (claimsFrom (at + length (layout r ++ layouts rs)) ss)))
+
+pub claims-snoc :
+    (d : Description) (rs : List Record) (r : Record) → claims d (rs ++ r ∷ []) ≡ claims d rs ++ madeAt (placeAfter rs) (claimsOf r)
+claims-snoc d rs r =
+    rw (claims-from 16 rs (r ∷ []), append-nil (madeAt (placeAfter rs) (claimsOf r)))
+    (sym (append-assoc (madeAt 0 (firstClaims d)) (claimsFrom 16 rs) (madeAt (placeAfter rs) (claimsOf r))))
+
+-- the pass over a list with one element more
+pub pass-snoc :
+    (before rs : List Record) (r : Record)
+    → PassKept before rs
+    → length (before ++ rs) < 96
+    → elementBreaks (before ++ rs) r ≡ none
+    → PassKept before (rs ++ r ∷ [])
+pass-snoc before [] r k few e = (rw append-nil at few, rw append-nil at e, tt)
+pass-snoc before (x ∷ rs) r k few e =
+    (k .0, k .1, pass-snoc (before ++ x ∷ []) rs r (k .2) (rw append-snoc few) (rw append-snoc e))

@@ -1,0 +1,58 @@
+-- A record with another placement: its layout differs in bytes 3 to 7 alone, and no rule of the record alone looks at them. By
+-- cases, each computed.
+-- Assumes nothing.
+use Prim.Native.Nat.{ℕ}
+use mathlib.Core.Path.{_≡_, refl}
+use mathlib.Core.List.{List, [], _∷_, _++_}
+use lib.ListN.{take, drop}
+use Rattle.format.specs.Slots.{Slot}
+use Rattle.format.specs.Records.{Record, digital, analogue, fan, led, current, controller, tachometer, zone, string, rgb}
+use Rattle.format.specs.Layout.{placement, layout}
+use Rattle.format.specs.Rules.{ownRules}
+use Rattle.format.specs.ZonesAndStrings.{Role, placed, zoning, naming, role}
+use Rattle.format.specs.Claims.{claimsOf}
+use Rattle.format.specs.Placed.{withPlacement}
+use Rattle.format.specs.declared.records.Placement.{Placement}
+
+-- the slots of an element with those of a placement in bytes 3 to 7, where it has one
+abbrev pub replaced : Placement → Role → List Slot → List Slot
+replaced p (placed q) ss = take 3 ss ++ placement p ++ drop 8 ss
+replaced p (zoning bytes) ss = ss
+replaced p (naming bytes) ss = ss
+
+pub placement-layout : (p : Placement) (r : Record) → layout (withPlacement p r) ≡ replaced p (role r) (layout r)
+placement-layout p (digital d) = refl
+placement-layout p (analogue a) = refl
+placement-layout p (fan f) = refl
+placement-layout p (led l) = refl
+placement-layout p (current c) = refl
+placement-layout p (controller d bs) = refl
+placement-layout p (tachometer d a b) = refl
+placement-layout p (zone bytes) = refl
+placement-layout p (string bytes) = refl
+placement-layout p (rgb r) = refl
+
+pub placement-rules : (p : Placement) (r : Record) → ownRules (withPlacement p r) ≡ ownRules r
+unfolding ownRules
+placement-rules p (digital d) = refl
+placement-rules p (analogue a) = refl
+placement-rules p (fan f) = refl
+placement-rules p (led l) = refl
+placement-rules p (current c) = refl
+placement-rules p (controller d bs) = refl
+placement-rules p (tachometer d a b) = refl
+placement-rules p (zone bytes) = refl
+placement-rules p (string bytes) = refl
+placement-rules p (rgb r) = refl
+
+pub placement-claims : (p : Placement) (r : Record) → claimsOf (withPlacement p r) ≡ claimsOf r
+placement-claims p (digital d) = refl
+placement-claims p (analogue a) = refl
+placement-claims p (fan f) = refl
+placement-claims p (led l) = refl
+placement-claims p (current c) = refl
+placement-claims p (controller d bs) = refl
+placement-claims p (tachometer d a b) = refl
+placement-claims p (zone bytes) = refl
+placement-claims p (string bytes) = refl
+placement-claims p (rgb r) = refl
