@@ -15,7 +15,10 @@ returns c =
     let s = c .before .before .before .before in
     let g = s .before .before .before .before .element .ensures in
     let e = s .before .before .e .given .1 in
-    fields-for _ _ _ _ g e _ _ _ _ (gives-beside _ _ _ _ g e _ (λ i. omega (arith, s .before .before .before .before .before .shared-slice-known .given i)) (s .part .ensures)) (rw (c .pack .ensures, c .before .wide .ensures .0, c .before .before .id-of .ensures) refl) (c .before .before .before .element2 .ensures)
+    fields-for _ _ _ _ g e _ _ _ _
+    (gives-beside _ _ _ _ g e _ (λ i. omega (arith, s .before .before .before .before .before .shared-slice-known .given i)) (s .part .ensures))
+    (rw (c .pack .ensures, c .before .wide .ensures .0, c .before .before .id-of .ensures) refl)
+    (c .before .before .before .element2 .ensures)
 
 returns-2 : tie.Need-returns-2
 returns-2 c =

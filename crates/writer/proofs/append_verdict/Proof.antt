@@ -34,7 +34,10 @@ returns-5 : tie.Need-returns-5
 returns-5 c =
     let h = c .before .before .before .before in
     let n = h .before .before in
-    read-room _ _ _ (n .before .if1 .left) _ (n .length-so-far .ensures .0) (not-false _ (h .before .if2 .left)) (sym (h .element-roomy .ensures) ∙ not-false _ (c .before .before .before .if3 .left)) _ (c .before .before .part-breaks .ensures) (c .before .if4 .left) _ (c .room .ensures)
+    let stands = not-false _ (h .before .if2 .left) in
+    let roomy = sym (h .element-roomy .ensures) ∙ not-false _ (c .before .before .before .if3 .left) in
+    read-room _ _ _ (n .before .if1 .left) _ (n .length-so-far .ensures .0) stands roomy _ (c .before .before .part-breaks .ensures)
+    (c .before .if4 .left) _ (c .room .ensures)
 
 pub append-verdict-spec : {M : Type 1} → statement M
 append-verdict-spec =

@@ -18,4 +18,10 @@ returns : tie.Need-returns
 returns c = rw (c .before .before .before .before .before .before .before .before .before .before .placement .ensures)
 
 pub analogue-spec : {M : Type 1} → statement M
-analogue-spec = tie.close (tie.spec (λ c κs. search needs) (search needs) (search needs) (search needs) (search needs) (search needs) (search needs) (search needs) (search needs) (search needs) (search needs) (search needs) (search needs) cast-n-6 (search needs) (search needs) (search needs) cast-n-8 (search needs) (search needs) (search needs) cast-n-10 (search needs) returns)
+analogue-spec =
+    tie.close
+    (tie.spec
+    (λ c κs. search needs) (search needs) (search needs) (search needs) (search needs) (search needs)
+    (search needs) (search needs) (search needs) (search needs) (search needs) (search needs) (search needs)
+    cast-n-6 (search needs) (search needs) (search needs) cast-n-8 (search needs) (search needs) (search needs)
+    cast-n-10 (search needs) returns)

@@ -14,4 +14,10 @@ returns c =
     rw (a .before .before .placement .ensures, a .before .kind .ensures, a .address .ensures)
 
 pub digital-spec : {M : Type 1} → statement M
-digital-spec = tie.close (tie.spec (λ c κs. search needs) (search needs) (λ c κs. search needs) (search needs) (λ c κs. search needs) (search needs) (search needs) (search needs) (search needs) (search needs) (search needs) (search needs) (search needs) (search needs) (search needs) (search needs) (search needs) (search needs) (search needs) (search needs) (search needs) cast-n-8 (search needs) (search needs) returns)
+digital-spec =
+    tie.close
+    (tie.spec
+    (λ c κs. search needs) (search needs) (λ c κs. search needs) (search needs) (λ c κs. search needs)
+    (search needs) (search needs) (search needs) (search needs) (search needs) (search needs) (search needs)
+    (search needs) (search needs) (search needs) (search needs) (search needs) (search needs) (search needs)
+    (search needs) (search needs) cast-n-8 (search needs) (search needs) returns)

@@ -38,4 +38,12 @@ returns-10 : tie.Need-returns-10
 returns-10 c = rw (c .before .before .e8 .given .1, c .rgb .ensures) refl
 
 pub element-spec : {M : Type 1} → statement M
-element-spec = tie.close (tie.spec (search needs) (λ c κs. search needs) (search needs) (λ c κs. search needs) (search needs) (λ c κs. search needs) (search needs) (λ c κs. search needs) (search needs) (λ c κs. search needs) (search needs) (λ c κs. search needs) (search needs) (λ c κs. search needs) (search needs) (λ c κs. search needs) (λ c κs. search needs) (λ c κs. search needs) (search needs) (λ c κs. search needs) (λ c κs. search needs) (search needs) (λ c κs. search needs) returns returns-2 returns-3 returns-4 returns-5 returns-6 returns-7 returns-8 returns-9 returns-10)
+element-spec =
+    tie.close
+    (tie.spec
+    (search needs) (λ c κs. search needs) (search needs) (λ c κs. search needs) (search needs)
+    (λ c κs. search needs) (search needs) (λ c κs. search needs) (search needs) (λ c κs. search needs)
+    (search needs) (λ c κs. search needs) (search needs) (λ c κs. search needs) (search needs)
+    (λ c κs. search needs) (λ c κs. search needs) (λ c κs. search needs) (search needs) (λ c κs. search needs)
+    (λ c κs. search needs) (search needs) (λ c κs. search needs) returns returns-2 returns-3 returns-4 returns-5
+    returns-6 returns-7 returns-8 returns-9 returns-10)
