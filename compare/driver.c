@@ -12,19 +12,20 @@ void *memset(void *to, int value, number count);
 int memcmp(const void *one, const void *other, number count);
 void _exit(int status);
 
-number esa_check(const byte *table, number length);
+/* Settings are one number: bit 0 set is the 321. */
+number esa_check(const byte *table, number length, number settings);
 /* Weak, so that an archive without them links too: their modes then answer NO_SUCH_CALL. */
-__attribute__((weak)) number esa_element(const byte *table, number length, number k);
-__attribute__((weak)) number esa_part_length(const byte *table, number length, number k);
-__attribute__((weak)) number esa_start(byte *buffer, number length, const byte *numbers);
-__attribute__((weak)) number esa_append(byte *buffer, number length, byte id, const byte *numbers, const byte *part,
-                                        number part_length);
-__attribute__((weak)) number esa_rewrite(const byte *table, number length, byte *out, number room);
-__attribute__((weak)) number esa_list(const byte *table, number length, byte *out);
-__attribute__((weak)) number esa_describe(const byte *table, number length, byte *numbers);
-__attribute__((weak)) number esa_fields(const byte *table, number length, number k, byte *numbers);
-__attribute__((weak)) number esa_part(const byte *table, number length, number k);
-__attribute__((weak)) number esa_text(const byte *table, number length, number k);
+__attribute__((weak)) number esa_element(const byte *table, number length, number k, number settings);
+__attribute__((weak)) number esa_part_length(const byte *table, number length, number k, number settings);
+__attribute__((weak)) number esa_start(byte *buffer, number length, number settings, const byte *numbers);
+__attribute__((weak)) number esa_append(byte *buffer, number length, byte id, number settings, const byte *numbers,
+                                        const byte *part, number part_length);
+__attribute__((weak)) number esa_rewrite(const byte *table, number length, number settings, byte *out, number room);
+__attribute__((weak)) number esa_list(const byte *table, number length, number settings, byte *out);
+__attribute__((weak)) number esa_describe(const byte *table, number length, number settings, byte *numbers);
+__attribute__((weak)) number esa_fields(const byte *table, number length, number k, number settings, byte *numbers);
+__attribute__((weak)) number esa_part(const byte *table, number length, number k, number settings);
+__attribute__((weak)) number esa_text(const byte *table, number length, number k, number settings);
 __attribute__((weak)) number esa_block(const byte *part, number length, number j);
 __attribute__((weak)) number esa_pair(const byte *part, number length, number j, number i);
 __attribute__((weak)) number esa_entries(const byte *part, number length, number w);
@@ -33,7 +34,7 @@ __attribute__((weak)) number esa_entry(const byte *part, number length, number w
 enum { CHECK = 0, ELEMENT = 1, PART = 2, START = 3, APPEND = 4, REWRITE = 5, LIST = 6, READINGS = 7 };
 /* exit status; TOUCHED: bytes in front of the buffer, the numbers, the part or the table have changed */
 enum { BROKEN_REQUEST = 3, NO_INPUT_OR_OUTPUT = 4, NO_MEMORY = 5, TOUCHED = 6 };
-enum { HEADER = 13, NUMBERS = 32, LISTING = 4096, LONGEST = 70000, READING = 17, MOST_READINGS = 1 << 15 };
+enum { HEADER = 21, NUMBERS = 32, LISTING = 4096, LONGEST = 70000, READING = 17, MOST_READINGS = 1 << 15 };
 enum { FRONT = 256, FRONT_BYTE = 0xC3, ROOM = 1 << 17, GUARD = 1 << 16 };
 #define NO_SUCH_CALL (~0UL)
 
@@ -83,28 +84,29 @@ static byte *guarded_end(void)
     return end;
 }
 
-static number call(byte mode, const byte *table, number length, number k)
+static number call(byte mode, const byte *table, number length, number k, number settings)
 {
     switch (mode) {
-    case CHECK: return esa_check(table, length);
-    case ELEMENT: return esa_element ? esa_element(table, length, k) : NO_SUCH_CALL;
+    case CHECK: return esa_check(table, length, settings);
+    case ELEMENT: return esa_element ? esa_element(table, length, k, settings) : NO_SUCH_CALL;
     /* a length alone, packed as the number 0 and what stands beside it */
-    case PART: return esa_part_length ? 256 * esa_part_length(table, length, k) : NO_SUCH_CALL;
+    case PART: return esa_part_length ? 256 * esa_part_length(table, length, k, settings) : NO_SUCH_CALL;
     default: return NO_SUCH_CALL;
     }
 }
 
-static number write_call(byte mode, byte id, byte *buffer, number length, const byte *numbers, number part_length)
+static number write_call(byte mode, byte id, number settings, byte *buffer, number length, const byte *numbers,
+                         number part_length)
 {
-    if (mode == START) return esa_start ? esa_start(buffer, length, numbers) : NO_SUCH_CALL;
+    if (mode == START) return esa_start ? esa_start(buffer, length, settings, numbers) : NO_SUCH_CALL;
     const byte *part = part_end - part_length;
-    if (mode == REWRITE) return esa_rewrite ? esa_rewrite(part, part_length, buffer, length) : NO_SUCH_CALL;
-    return esa_append ? esa_append(buffer, length, id, numbers, part, part_length) : NO_SUCH_CALL;
+    if (mode == REWRITE) return esa_rewrite ? esa_rewrite(part, part_length, settings, buffer, length) : NO_SUCH_CALL;
+    return esa_append ? esa_append(buffer, length, id, settings, numbers, part, part_length) : NO_SUCH_CALL;
 }
 
 /* A call of the writer: body is the buffer, the numbers and the part (of a rewriting, the table in the part's stead). The
    answer goes out, and then the buffer. */
-static void answer_writer(byte mode, byte id, const byte *body, number length, number part_length)
+static void answer_writer(byte mode, byte id, number settings, const byte *body, number length, number part_length)
 {
     byte *buffer = table_end - length;
     byte *numbers = numbers_end - NUMBERS;
@@ -113,7 +115,7 @@ static void answer_writer(byte mode, byte id, const byte *body, number length, n
     memcpy(buffer, body, length);
     memcpy(numbers, body + length, NUMBERS);
     memcpy(part, body + length + NUMBERS, part_length);
-    number value = write_call(mode, id, buffer, length, numbers, part_length);
+    number value = write_call(mode, id, settings, buffer, length, numbers, part_length);
     if (memcmp(buffer - FRONT, front, FRONT) || memcmp(numbers, body + length, NUMBERS) ||
         memcmp(part, body + length + NUMBERS, part_length))
         _exit(TOUCHED);
@@ -121,11 +123,11 @@ static void answer_writer(byte mode, byte id, const byte *body, number length, n
     put(buffer, length);
 }
 
-static void answer_reader(byte mode, const byte *body, number length, number k)
+static void answer_reader(byte mode, const byte *body, number length, number k, number settings)
 {
     byte *table = table_end - length;
     memcpy(table, body, length);
-    number value = call(mode, table, length, k);
+    number value = call(mode, table, length, k, settings);
     put(&value, 8);
 }
 
@@ -143,12 +145,12 @@ static number altered(const byte *buffer, number answered)
 
 /* The length goes out, packed as that of a part; then the number of bytes that altered tells of, and these bytes. The buffer
    is the pattern again for the next call. */
-static void answer_list(const byte *body, number length)
+static void answer_list(const byte *body, number length, number settings)
 {
     byte *buffer = text_end - LISTING;
     byte *table = table_end - length;
     memcpy(table, body, length);
-    number answered = esa_list ? esa_list(table, length, buffer) : 0;
+    number answered = esa_list ? esa_list(table, length, settings, buffer) : 0;
     if (memcmp(buffer - FRONT, front, FRONT) || memcmp(table, body, length)) _exit(TOUCHED);
     number value = esa_list ? 256 * answered : NO_SUCH_CALL;
     number count = altered(buffer, answered);
@@ -158,14 +160,14 @@ static void answer_list(const byte *body, number length)
     memcpy(buffer, pattern.bytes, count);
 }
 
-/* One call of those that read. Those with numbers write them to 'numbers'. */
-static number reading(byte which, const byte *lent, number length, number a, number b, byte *numbers)
+/* One call of those that read. Those with numbers write them to 'numbers'; those on a part take no settings. */
+static number reading(byte which, const byte *lent, number length, number a, number b, number settings, byte *numbers)
 {
     switch (which) {
-    case 0: return esa_describe ? esa_describe(lent, length, numbers) : NO_SUCH_CALL;
-    case 1: return esa_fields ? esa_fields(lent, length, a, numbers) : NO_SUCH_CALL;
-    case 2: return esa_part ? esa_part(lent, length, a) : NO_SUCH_CALL;
-    case 3: return esa_text ? esa_text(lent, length, a) : NO_SUCH_CALL;
+    case 0: return esa_describe ? esa_describe(lent, length, settings, numbers) : NO_SUCH_CALL;
+    case 1: return esa_fields ? esa_fields(lent, length, a, settings, numbers) : NO_SUCH_CALL;
+    case 2: return esa_part ? esa_part(lent, length, a, settings) : NO_SUCH_CALL;
+    case 3: return esa_text ? esa_text(lent, length, a, settings) : NO_SUCH_CALL;
     case 4: return esa_block ? esa_block(lent, length, a) : NO_SUCH_CALL;
     case 5: return esa_pair ? esa_pair(lent, length, a, b) : NO_SUCH_CALL;
     case 6: return esa_entries ? esa_entries(lent, length, a) : NO_SUCH_CALL;
@@ -176,7 +178,7 @@ static number reading(byte which, const byte *lent, number length, number a, num
 
 /* Many calls on the same bytes, a table or a part. The answer to each goes out, and after those of esa_describe and
    esa_fields the numbers, which hold the pattern before each call. */
-static void answer_readings(const byte *body, number length, number count)
+static void answer_readings(const byte *body, number length, number count, number settings)
 {
     byte *lent = table_end - length;
     byte *numbers = numbers_end - NUMBERS;
@@ -188,7 +190,7 @@ static void answer_readings(const byte *body, number length, number count)
         memcpy(&a, asked + 1, 8);
         memcpy(&b, asked + 9, 8);
         memcpy(numbers, pattern.bytes, NUMBERS);
-        number value = reading(asked[0], lent, length, a, b, numbers);
+        number value = reading(asked[0], lent, length, a, b, settings, numbers);
         put(&value, 8);
         if (asked[0] <= 1) put(numbers, NUMBERS);
     }
@@ -204,18 +206,19 @@ static number answer_all(number held)
         byte mode = request[0];
         int writes = mode == START || mode == APPEND || mode == REWRITE;
         unsigned length;
-        number k;
+        number k, settings;
         memcpy(&length, request + 1, 4);
         memcpy(&k, request + 5, 8);
+        memcpy(&settings, request + 13, 8);
         number part_length = writes ? k >> 8 : 0;
         number readings = mode == READINGS ? k : 0;
         if (length > LONGEST || part_length > LONGEST || readings > MOST_READINGS) _exit(BROKEN_REQUEST);
         number size = HEADER + (number)length + (writes ? NUMBERS + part_length : readings * READING);
         if (held - used < size) break;
-        if (writes) answer_writer(mode, (byte)k, request + HEADER, length, part_length);
-        else if (mode == LIST) answer_list(request + HEADER, length);
-        else if (mode == READINGS) answer_readings(request + HEADER, length, readings);
-        else answer_reader(mode, request + HEADER, length, k);
+        if (writes) answer_writer(mode, (byte)k, settings, request + HEADER, length, part_length);
+        else if (mode == LIST) answer_list(request + HEADER, length, settings);
+        else if (mode == READINGS) answer_readings(request + HEADER, length, readings, settings);
+        else answer_reader(mode, request + HEADER, length, k, settings);
         used += size;
     }
     return used;

@@ -46,7 +46,8 @@ enum esa_numbers {
     ESA_IDENTIFIER = 7,        /* not one of the ten identifiers; element. Of append: 0 */
     ESA_LAYOUT = 8,            /* the length differs from the layout, or the blocks do not fill it; element */
     ESA_CODE = 9,              /* a reserved code or a number that no rule allows in its field; element */
-    ESA_PIN = 10,              /* a pin that does not exist, is not permitted, or out of order; element, or 0 */
+    ESA_PIN = 10,              /* a pin that does not exist, is not on the chip, is not permitted, or out of order; element, or
+                                  0. Of start and append also: a pin of the other chip */
     ESA_TOO_MANY = 11,         /* a 97th element, or a 13th zone; element */
     ESA_TWICE = 12,            /* a string or zone number a second time; element */
     ESA_NO_ZONE = 13,          /* the zone of an element has no descriptor; element */
@@ -71,7 +72,7 @@ static inline const char *esa_words(unsigned number)
     case ESA_IDENTIFIER: return "the identifier is none of the ten that are taken";
     case ESA_LAYOUT: return "the length of an element is not that of its layout";
     case ESA_CODE: return "a reserved code, or a number that no rule allows there";
-    case ESA_PIN: return "a pin that does not exist, is not permitted there, or stands out of order";
+    case ESA_PIN: return "a pin that does not exist, is not on the chip, is not permitted there, or stands out of order";
     case ESA_TOO_MANY: return "more than 96 elements or 12 zones";
     case ESA_TWICE: return "a string or zone number a second time";
     case ESA_NO_ZONE: return "the zone of an element has no descriptor";
@@ -84,8 +85,14 @@ static inline const char *esa_words(unsigned number)
     }
 }
 
-/* NUMBERS. A record is handed over as 32 bytes, 'numbers': each number as wide as its bytes below, lowest byte first. The bytes
-   that a kind does not name are ignored when a record is written, and 0 when one is read.
+/* SETTINGS. One number, behind the other plain numbers of a call: which chip the board carries. Bit 0 set is the C8051F321, which
+   lacks P2.4 to P2.7; all other bits are ignored. No table names its chip. */
+enum { ESA_C8051F320 = 0, ESA_C8051F321 = 1 };
+
+/* NUMBERS. A record is handed over as 32 bytes, 'numbers': each number as wide as its bytes below, lowest byte first. Byte 31
+   names the chip of the record's pins: 0 the C8051F320, any other number the C8051F321; read, it is the chip of the settings, 0
+   or 1, and of 0Bh and 0Ch 0. start and append refuse a pin of another chip than that of their settings, even one that both
+   chips have. The other bytes that a kind does not name are ignored when a record is written, and 0 when one is read.
 
    description       0 device type, 1 string, 2-5 serial number, 6 SPWR (0 is no; read as 0 or 1), 7 power units (4 mA each),
                      8, 9, 10 hardware revision pins
@@ -103,34 +110,35 @@ static inline const char *esa_words(unsigned number)
                      of 0Ch 0 the string's number */
 enum { ESA_NUMBERS = 32 };
 
-/* READING. The table is read only; no byte of it can alter. Every call that takes a table checks the whole of it first. */
+/* READING. The table is read only; no byte of it can alter. Every call that takes a table checks the whole of it first, for the
+   chip of its settings. What is accepted for the C8051F321 is accepted for the C8051F320 too. */
 
 /* Is it a table? 0, and beside it the number of elements, exactly when the bytes keep every rule; otherwise the first rule
    that they break (1 to 15) and its place. */
-uint64_t esa_check(const uint8_t *table, size_t length);
+uint64_t esa_check(const uint8_t *table, size_t length, uint64_t settings);
 
 /* What does the description say? 0, and beside it 0, with the description in 'numbers'; or the table's own refusal as esa_check
    gives it, and then no byte of 'numbers' alters. */
-uint64_t esa_describe(const uint8_t *table, size_t length, uint8_t numbers[ESA_NUMBERS]);
+uint64_t esa_describe(const uint8_t *table, size_t length, uint64_t settings, uint8_t numbers[ESA_NUMBERS]);
 
 /* Of which kind is element k, counted from 0? 0, and beside it its identifier; the table's own refusal as esa_check gives
    it; or 17 at 0 when the table has no element k. */
-uint64_t esa_element(const uint8_t *table, size_t length, size_t k);
+uint64_t esa_element(const uint8_t *table, size_t length, size_t k, uint64_t settings);
 
 /* What does element k say? The answer of esa_element, and with 0 the element in 'numbers': esa_append takes it as it stands. With
    a refusal no byte of 'numbers' alters. */
-uint64_t esa_fields(const uint8_t *table, size_t length, size_t k, uint8_t numbers[ESA_NUMBERS]);
+uint64_t esa_fields(const uint8_t *table, size_t length, size_t k, uint64_t settings, uint8_t numbers[ESA_NUMBERS]);
 
 /* How long is the variable part of element k? These are the last bytes of the element: the blocks of 09h and 0Ah, all bytes
    after the header of a string or a zone descriptor, none of the others. 0 also where esa_element refuses. */
-size_t esa_part_length(const uint8_t *table, size_t length, size_t k);
+size_t esa_part_length(const uint8_t *table, size_t length, size_t k, uint64_t settings);
 
 /* Where does it stand? 0, and beside it the place of the part in the table and its length, which esa_place and esa_length take
    apart; the place is behind the element's fixed fields also where the part is empty. Or the refusal of esa_element. */
-uint64_t esa_part(const uint8_t *table, size_t length, size_t k);
+uint64_t esa_part(const uint8_t *table, size_t length, size_t k, uint64_t settings);
 
 /* The same of the text of a string, which is its part from byte 3 on. 0, and beside it 0, for an element that is no string. */
-uint64_t esa_text(const uint8_t *table, size_t length, size_t k);
+uint64_t esa_text(const uint8_t *table, size_t length, size_t k, uint64_t settings);
 
 static inline size_t esa_place(uint64_t answer)
 {
@@ -167,26 +175,26 @@ static inline uint16_t esa_data(uint64_t answer)
    front of 'out'; the answer is its length in bytes, and the bytes behind it are as they were. Of a refused table the text is
    the one line R, number, place. Every listing fits into 'out', and none is ended by a zero. */
 enum { ESA_LISTING = 4096 };
-size_t esa_list(const uint8_t *table, size_t length, uint8_t out[ESA_LISTING]);
+size_t esa_list(const uint8_t *table, size_t length, uint64_t settings, uint8_t out[ESA_LISTING]);
 
 /* WRITING. A table is started in a buffer and each element appended to it; bytes 1-2 of the buffer hold the length so far.
    With a refusal no byte of the buffer alters. A table that is still being written may break rules over the whole of it (11
-   to 15): ask esa_check when it is done. */
+   to 15): ask esa_check, with the same settings, when it is done. */
 
 /* Starts a table with the description in the numbers. 0, and beside it 16, the length, with the description in the first 16
    bytes; or, in this order, 1 (a buffer under 16 bytes), 25, 4, 5, 10, all at 0. */
-uint64_t esa_start(uint8_t *buffer, size_t length, const uint8_t numbers[ESA_NUMBERS]);
+uint64_t esa_start(uint8_t *buffer, size_t length, uint64_t settings, const uint8_t numbers[ESA_NUMBERS]);
 
 /* Appends the element of this identifier in the numbers, with its variable part. 0, and beside it the new length; only bytes
    1-2 and those of the new element alter. Or, in this order, 7 at 0 (an identifier of no kind); 1 at 0 (a buffer under 16
    bytes); 3 at 0; 25 at 0; 8, 9, 10 at the length so far; 16 at 0. A part beside a kind that has none is 8. */
-uint64_t esa_append(uint8_t *buffer, size_t length, uint8_t id, const uint8_t numbers[ESA_NUMBERS], const uint8_t *part,
-                    size_t part_length);
+uint64_t esa_append(uint8_t *buffer, size_t length, uint8_t id, uint64_t settings, const uint8_t numbers[ESA_NUMBERS],
+                    const uint8_t *part, size_t part_length);
 
 /* Reads the records of a table and writes them again. 0, and beside it the table's length: the front of 'out' is then that
    table with its reserved places at zero, and the bytes behind are as they were. Or the table's own refusal as esa_check
    gives it, or 16 at 0 when 'room' is under the table's length; with either no byte of 'out' alters. */
-uint64_t esa_rewrite(const uint8_t *table, size_t length, uint8_t *out, size_t room);
+uint64_t esa_rewrite(const uint8_t *table, size_t length, uint64_t settings, uint8_t *out, size_t room);
 
 /* NAMES. The ten identifiers, the bounds, and how a pin and a number of two or four bytes are put. */
 enum esa_identifiers {

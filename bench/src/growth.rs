@@ -1,8 +1,9 @@
-//! How the proved reader's time grows with the bytes of accepted tables of one sort.
+//! How the proved reader's time on the 320 grows with the bytes of accepted tables of one sort.
 
 use crate::rounds;
-use crate::sides::{self, ours, second, Side};
-use ::second::generator::raw;
+use crate::sides;
+use second::generator::raw;
+use second::Chip;
 
 const SIZES: [usize; 6] = [16, 64, 256, 1_024, 2_048, 4_096];
 
@@ -17,6 +18,8 @@ pub fn report() -> usize {
 fn series(name: &str, make: fn(usize) -> Vec<u8>) -> usize {
     println!("\nGrowth, accepted tables: {name}.\n");
     println!("| Bytes | elements | ours, ns | ns a byte |\n|---|---|---|---|");
+    let sides = sides::both(Chip::F320);
+    let [ours, second] = sides;
     SIZES
         .iter()
         .map(|&size| {
@@ -27,13 +30,13 @@ fn series(name: &str, make: fn(usize) -> Vec<u8>) -> usize {
                 "a table made wrongly"
             );
             let tables = [table];
-            let [time] = rounds::medians([ours as Side], &tables);
+            let [time] = rounds::medians([ours], &tables);
             let for_a_byte = time / size as f64;
             println!(
                 "| {size} | {} | {time:.1} | {for_a_byte:.2} |",
                 answer / 256
             );
-            sides::differences(&tables)
+            sides::differences(sides, &tables)
         })
         .sum()
 }

@@ -5,13 +5,23 @@ use crate::rounds;
 use ::second::generator::mixed_of;
 use ::second::listing::LISTING;
 use ::second::random::Random;
-use ::second::Refusal;
+use ::second::{Chip, Refusal, Settings};
 use std::cell::RefCell;
 
 extern "C" {
-    fn esa_list(table: *const u8, length: usize, out: *mut [u8; LISTING]) -> usize;
-    fn esa_rewrite(table: *const u8, length: usize, out: *mut u8, room: usize) -> u64;
+    fn esa_list(table: *const u8, length: usize, settings: u64, out: *mut [u8; LISTING]) -> usize;
+    fn esa_rewrite(
+        table: *const u8,
+        length: usize,
+        settings: u64,
+        out: *mut u8,
+        room: usize,
+    ) -> u64;
 }
+
+/// Of the C face: the 320.
+const SETTINGS: u64 = 0;
+const CHIP: Chip = Chip::F320;
 
 const ELEMENTS: [usize; 5] = [1, 8, 24, 48, 96];
 /// Different tables of each number of elements.
@@ -42,12 +52,16 @@ impl Work {
 fn our_listing(work: &Work) -> u64 {
     let mut out = work.out.borrow_mut();
     // SAFETY: the call reads the table, writes to the 4,096 bytes alone and keeps nothing.
-    unsafe { esa_list(work.table.as_ptr(), work.table.len(), &mut **out) as u64 }
+    unsafe { esa_list(work.table.as_ptr(), work.table.len(), SETTINGS, &mut **out) as u64 }
 }
 
 #[inline(never)]
 fn second_listing(work: &Work) -> u64 {
-    ::second::list(&work.table, &mut work.out.borrow_mut()) as u64
+    ::second::list(
+        &work.table,
+        Settings::from(CHIP),
+        &mut work.out.borrow_mut(),
+    ) as u64
 }
 
 #[inline(never)]
@@ -55,13 +69,14 @@ fn our_rewriting(work: &Work) -> u64 {
     let mut out = work.out.borrow_mut();
     let (table, length) = (work.table.as_ptr(), work.table.len());
     // SAFETY: the call reads the table, writes to the buffer alone and keeps nothing.
-    unsafe { esa_rewrite(table, length, out.as_mut_ptr(), out.len()) }
+    unsafe { esa_rewrite(table, length, SETTINGS, out.as_mut_ptr(), out.len()) }
 }
 
 #[inline(never)]
 fn second_rewriting(work: &Work) -> u64 {
     packed(::second::rewrite(
         &work.table,
+        Settings::from(CHIP),
         &mut work.out.borrow_mut()[..],
     ))
 }
@@ -70,6 +85,7 @@ fn second_rewriting(work: &Work) -> u64 {
 fn second_by_records(work: &Work) -> u64 {
     packed(::second::rewrite_by_records(
         &work.table,
+        Settings::from(CHIP),
         &mut work.out.borrow_mut()[..],
     ))
 }
@@ -107,7 +123,7 @@ fn rows<const SIDES: usize>(sides: [Side; SIDES]) -> usize {
 fn row<const SIDES: usize>(elements: usize, sides: [Side; SIDES]) -> usize {
     let mut random = Random::new(1);
     let works: Vec<Work> = (0..TABLES)
-        .map(|_| Work::of(mixed_of(&mut random, elements)))
+        .map(|_| Work::of(mixed_of(&mut random, elements, CHIP)))
         .collect();
     let differs = |work: &&Work| {
         let ours = work.left(sides[0]);

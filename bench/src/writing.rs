@@ -9,20 +9,25 @@ use ::second::generator;
 use ::second::numbers::{put_description, put_element, Numbers};
 use ::second::random::Random;
 use ::second::record::{Description, Element};
-use ::second::{cleared, Refusal};
+use ::second::{cleared, Chip, Refusal};
 use std::cell::RefCell;
 
 extern "C" {
-    fn esa_start(buffer: *mut u8, length: usize, numbers: *const Numbers) -> u64;
+    fn esa_start(buffer: *mut u8, length: usize, settings: u64, numbers: *const Numbers) -> u64;
     fn esa_append(
         buffer: *mut u8,
         length: usize,
         id: u8,
+        settings: u64,
         numbers: *const Numbers,
         part: *const u8,
         part_length: usize,
     ) -> u64;
 }
+
+/// Of the C face: the 320.
+const SETTINGS: u64 = 0;
+const CHIP: Chip = Chip::F320;
 
 const TABLES: usize = 200;
 const ROOM: usize = 4_096;
@@ -46,9 +51,9 @@ struct Work {
 
 impl Work {
     fn of(table: &[u8]) -> Work {
-        let description = read_description(table);
+        let description = read_description(table, CHIP);
         let mut numbers = [0; 32];
-        put_description(&description, &mut numbers);
+        put_description(&description, CHIP, &mut numbers);
         Work {
             description,
             numbers,
@@ -68,9 +73,9 @@ impl Work {
 
 impl Piece {
     fn of(bytes: &[u8]) -> Piece {
-        let (record, part) = read_element(bytes).expect("an element of an accepted table");
+        let (record, part) = read_element(bytes, CHIP).expect("an element of an accepted table");
         let mut numbers = [0; 32];
-        put_element(&record, &mut numbers);
+        put_element(&record, CHIP, &mut numbers);
         Piece {
             record,
             id: bytes[0],
@@ -86,11 +91,12 @@ fn ours(work: &Work) -> u64 {
     let mut buffer = work.buffer.borrow_mut();
     let (to, room) = (buffer.as_mut_ptr(), buffer.len());
     // SAFETY: the calls write to the buffer alone, read what is lent and keep nothing.
-    let mut answer = unsafe { esa_start(to, room, &work.numbers) };
+    let mut answer = unsafe { esa_start(to, room, SETTINGS, &work.numbers) };
     for piece in &work.pieces {
         let (part, length) = (piece.part.as_ptr(), piece.part.len());
+        let (id, numbers) = (piece.id, &piece.numbers);
         // SAFETY: as above.
-        answer = unsafe { esa_append(to, room, piece.id, &piece.numbers, part, length) };
+        answer = unsafe { esa_append(to, room, id, SETTINGS, numbers, part, length) };
     }
     answer
 }
@@ -99,9 +105,9 @@ fn ours(work: &Work) -> u64 {
 #[inline(never)]
 fn second(work: &Work) -> u64 {
     let mut buffer = work.buffer.borrow_mut();
-    let mut answer = ::second::start(&mut buffer, &work.description);
+    let mut answer = ::second::start(&mut buffer, CHIP, &work.description);
     for piece in &work.pieces {
-        answer = ::second::append(&mut buffer, &piece.record, &piece.part);
+        answer = ::second::append(&mut buffer, CHIP, &piece.record, &piece.part);
     }
     match answer {
         Ok(length) => 256 * length as u64,
@@ -112,7 +118,7 @@ fn second(work: &Work) -> u64 {
 /// Tables of 4,096 bytes with all kinds and as many elements as a table may have.
 fn full_tables() -> Vec<Work> {
     let mut random = Random::new(1);
-    std::iter::repeat_with(|| generator::mixed(&mut random))
+    std::iter::repeat_with(|| generator::mixed(&mut random, CHIP))
         .filter(|table| walk(table).count() == MOST_ELEMENTS)
         .take(TABLES)
         .map(|table| Work::of(&table))

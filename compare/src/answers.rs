@@ -1,24 +1,44 @@
-//! How often each answer of a call came, both sides agreeing: told, and held to what must come.
+//! How often each answer of a call came on each chip, both sides agreeing: told, and held to what must come.
 
 use second::histogram::Histogram;
+use second::Chip;
 
-/// One line: number and count of each answer.
-pub fn print(name: &str, answers: &Histogram) {
-    let counts: Vec<String> = (0..=25)
-        .filter(|&number| answers.of(number) > 0)
-        .map(|number| format!("{number}: {}", answers.of(number)))
-        .collect();
-    println!("answers of {name}: {}", counts.join(", "));
-}
+#[derive(Default)]
+pub struct Answers([Histogram; 2]);
 
-/// Prints the answers that should have come and did not; true when all came.
-pub fn all_came(name: &str, answers: &Histogram, wanted: impl IntoIterator<Item = u8>) -> bool {
-    let missing: Vec<u8> = wanted
-        .into_iter()
-        .filter(|&number| answers.of(number) == 0)
-        .collect();
-    if !missing.is_empty() {
-        println!("answers of {name} that never came: {missing:?}");
+impl Answers {
+    pub fn add(&mut self, chip: Chip, number: u8) {
+        self.0[chip as usize].add(number);
     }
-    missing.is_empty()
+
+    /// One line for each chip that was asked: number and count of each answer.
+    pub fn print(&self, name: &str) {
+        for chip in Chip::BOTH {
+            let answers = &self.0[chip as usize];
+            if answers.total() == 0 {
+                continue;
+            }
+            let counts: Vec<String> = (0..=25)
+                .filter(|&number| answers.of(number) > 0)
+                .map(|number| format!("{number}: {}", answers.of(number)))
+                .collect();
+            let counts = counts.join(", ");
+            println!("answers of {name} on the {}: {counts}", chip.digits());
+        }
+    }
+
+    /// Prints the answers that should have come on each of these chips and did not; true when all came.
+    pub fn all_came(&self, name: &str, chips: &[Chip], wanted: &[u8]) -> bool {
+        let mut all = true;
+        for &chip in chips {
+            let mut missing = wanted.to_vec();
+            missing.retain(|&number| self.0[chip as usize].of(number) == 0);
+            if !missing.is_empty() {
+                let chip = chip.digits();
+                println!("answers of {name} on the {chip} that never came: {missing:?}");
+                all = false;
+            }
+        }
+        all
+    }
 }

@@ -2,6 +2,7 @@
 
 use crate::answer::Answer;
 use crate::outcome::Outcome;
+use second::Settings;
 use std::fmt;
 
 #[derive(Clone, Copy, Debug, PartialEq, Eq)]
@@ -42,25 +43,27 @@ impl Call {
         }
     }
 
-    /// Adds the request: mode, length, argument, bytes.
-    pub fn request(self, table: &[u8], to: &mut Vec<u8>) {
+    /// Adds the request: mode, length, argument, settings, bytes.
+    pub fn request(self, table: &[u8], settings: u64, to: &mut Vec<u8>) {
         to.push(self.mode());
         to.extend_from_slice(&(table.len() as u32).to_le_bytes());
         to.extend_from_slice(&self.argument().to_le_bytes());
+        to.extend_from_slice(&settings.to_le_bytes());
         to.extend_from_slice(table);
     }
 
     /// What the second program answers, and its text where there is one.
-    pub fn second(self, table: &[u8]) -> Outcome {
+    pub fn second(self, table: &[u8], settings: u64) -> Outcome {
+        let settings = Settings::of_number(settings);
         match self {
             Call::Check => {
-                let verdict = second::check(table);
+                let verdict = second::check(table, settings);
                 Answer::of(verdict.number(), verdict.beside()).into()
             }
-            Call::Element(k) => element(table, k).into(),
-            Call::Part(k) => part(table, k).into(),
+            Call::Element(k) => element(table, k, settings).into(),
+            Call::Part(k) => part(table, k, settings).into(),
             Call::List => {
-                let buffer = second::listing(table);
+                let buffer = second::listing(table, settings);
                 let answer = Answer::of(0, buffer.len());
                 Outcome { answer, buffer }
             }
@@ -73,13 +76,13 @@ pub fn index(k: u64) -> usize {
     usize::try_from(k).unwrap_or(usize::MAX)
 }
 
-fn element(table: &[u8], k: u64) -> Answer {
-    let element = second::element(table, index(k));
+fn element(table: &[u8], k: u64, settings: Settings) -> Answer {
+    let element = second::element(table, index(k), settings);
     Answer::from(element.map(|record| usize::from(record.identifier())))
 }
 
-fn part(table: &[u8], k: u64) -> Answer {
-    Answer::of(0, second::part(table, index(k)).len())
+fn part(table: &[u8], k: u64, settings: Settings) -> Answer {
+    Answer::of(0, second::part(table, index(k), settings).len())
 }
 
 impl fmt::Display for Call {

@@ -8,7 +8,11 @@ use crate::known::Row;
 use crate::options::Options;
 use crate::outcome::Outcome;
 use crate::question::{Origin, Question};
+use crate::settings;
 use crate::tally::Tally;
+use second::generator::{any, touches_the_four};
+use second::random::Random;
+use second::Chip;
 use std::rc::Rc;
 
 pub struct Comparison {
@@ -50,24 +54,41 @@ impl Comparison {
         })
     }
 
-    /// Compares all calls on one table.
-    pub fn table(&mut self, origin: Origin, table: Vec<u8>) -> Result<(), String> {
+    /// Compares all calls on a table of any sort; the chips that they are made for take turns.
+    pub fn seeded(&mut self, random: &mut Random, seed: u64, at: u64) -> Result<(), String> {
+        let chip = Chip::BOTH[at as usize % 2];
+        self.table(Origin::Seeded { seed, at }, chip, any(random, chip))
+    }
+
+    /// Compares all calls on one table: on the 320, and on the 321 if it was made for that or touches the
+    /// four pins that it lacks.
+    pub fn table(&mut self, origin: Origin, made_for: Chip, table: Vec<u8>) -> Result<(), String> {
         let table: Rc<[u8]> = table.into();
-        let check = Call::Check.second(&table);
+        self.exchange.tally.tables += 1;
+        self.calls(origin, Chip::F320, &table)?;
+        if made_for == Chip::F321 || touches_the_four(&table) {
+            self.calls(origin, Chip::F321, &table)?;
+        }
+        Ok(())
+    }
+
+    fn calls(&mut self, origin: Origin, chip: Chip, table: &Rc<[u8]>) -> Result<(), String> {
+        let settings = settings::reading(chip, self.exchange.tally.tables);
+        let check = Call::Check.second(table, settings);
         let places = if self.elements {
             places(check.answer, table.len())
         } else {
             Vec::new()
         };
-        self.exchange.tally.tables += 1;
-        self.ask(origin, Call::Check, &table, check)?;
+        self.ask(origin, Call::Check, settings, table, check)?;
         for k in places {
             for call in [Call::Element(k), Call::Part(k)] {
-                self.ask(origin, call, &table, call.second(&table))?;
+                let second = call.second(table, settings);
+                self.ask(origin, call, settings, table, second)?;
             }
         }
-        self.listing(origin, &table)?;
-        self.fields(origin, &table)
+        self.listing(origin, settings, table)?;
+        self.fields(origin, settings, table)
     }
 
     /// Holds both sides to an answer that the paper gives.
@@ -77,7 +98,8 @@ impl Comparison {
         }
         let origin = Origin::Known(row.name);
         let table: Rc<[u8]> = row.table.into();
-        let second = row.call.second(&table).answer;
+        let settings = settings::reading(row.chip, self.exchange.tally.tables);
+        let second = row.call.second(&table, settings).answer;
         if second != row.answer {
             self.exchange.tally.differences.note(|| {
                 let (call, answer) = (row.call, row.answer);
@@ -85,9 +107,9 @@ impl Comparison {
             });
         }
         self.exchange.tally.tables += 1;
-        self.ask(origin, row.call, &table, row.answer.into())?;
-        self.listing(origin, &table)?;
-        self.fields(origin, &table)
+        self.ask(origin, row.call, settings, &table, row.answer.into())?;
+        self.listing(origin, settings, &table)?;
+        self.fields(origin, settings, &table)
     }
 
     /// Compares the calls on parts at their edges.
@@ -95,24 +117,26 @@ impl Comparison {
         self.fields.as_mut().map_or(Ok(()), Fields::part_edges)
     }
 
-    fn fields(&mut self, origin: Origin, table: &Rc<[u8]>) -> Result<(), String> {
+    fn fields(&mut self, origin: Origin, settings: u64, table: &Rc<[u8]>) -> Result<(), String> {
         let Some(fields) = &mut self.fields else {
             return Ok(());
         };
-        fields.table(origin, table)
+        fields.table(origin, settings, table)
     }
 
-    fn listing(&mut self, origin: Origin, table: &Rc<[u8]>) -> Result<(), String> {
+    fn listing(&mut self, origin: Origin, settings: u64, table: &Rc<[u8]>) -> Result<(), String> {
         if !self.listing {
             return Ok(());
         }
-        self.ask(origin, Call::List, table, Call::List.second(table))
+        let second = Call::List.second(table, settings);
+        self.ask(origin, Call::List, settings, table, second)
     }
 
     fn ask(
         &mut self,
         origin: Origin,
         call: Call,
+        settings: u64,
         table: &Rc<[u8]>,
         expected: Outcome,
     ) -> Result<(), String> {
@@ -120,6 +144,7 @@ impl Comparison {
         let question = Question {
             origin,
             call,
+            settings,
             table,
         };
         self.exchange.ask(question, expected)

@@ -8,6 +8,7 @@ use crate::question::Origin;
 use crate::tally::Tally;
 use second::generator::{self, raw};
 use second::random::Random;
+use second::Chip;
 
 const SEEDS: [u64; 4] = [2007, 90, 16, 4096];
 const TABLES_OF_A_SEED: u64 = 15_000;
@@ -17,17 +18,19 @@ pub fn gate(options: &Options) -> Result<bool, String> {
     for row in known::rows() {
         comparison.known(row)?;
     }
-    for (name, table) in generator::targeted() {
-        comparison.table(Origin::Case(name), table.clone())?;
+    // Two and two, as many cases come in pairs.
+    for (at, (name, table)) in generator::targeted().iter().enumerate() {
+        let made_for = Chip::BOTH[at / 2 % 2];
+        comparison.table(Origin::Case(name), made_for, table.clone())?;
     }
     for (name, table) in oversized() {
-        comparison.table(Origin::Case(name), table)?;
+        comparison.table(Origin::Case(name), Chip::F321, table)?;
     }
     comparison.part_edges()?;
     for seed in SEEDS {
         let mut random = Random::new(seed);
         for at in 0..TABLES_OF_A_SEED {
-            comparison.table(Origin::Seeded { seed, at }, generator::any(&mut random))?;
+            comparison.seeded(&mut random, seed, at)?;
         }
     }
     Ok(judged(&comparison.finish()?, options.elements))
@@ -50,12 +53,13 @@ fn oversized() -> Vec<(&'static str, Vec<u8>)> {
     ]
 }
 
-/// Every answer of the reader must have come at least once.
+/// Every answer of the reader must have come at least once on each chip.
 fn judged(tally: &Tally, elements: bool) -> bool {
     tally.print_answers();
-    let mut good = tally.all_came(0, 0..=15);
+    let of_table: Vec<u8> = (0..=15).collect();
+    let mut good = tally.all_came(0, &of_table);
     if elements {
-        good &= tally.all_came(1, (0..=15).chain([17]));
+        good &= tally.all_came(1, &[&of_table[..], &[17]].concat());
     }
     good &= tally.fields.as_ref().is_none_or(fields::Tally::all_came);
     tally.print_sum();

@@ -1,11 +1,14 @@
 //! 'Known tables' of document 01, with the answers that stand there. The bytes are written out here
-//! and not taken from the second program.
+//! and not taken from the second program. No pin of theirs is one of the four, so that both chips answer so;
+//! rows with one of the four come in addition.
 
 use crate::answer::Answer;
 use crate::call::Call;
+use second::Chip;
 
 pub struct Row {
     pub name: &'static str,
+    pub chip: Chip,
     pub table: Vec<u8>,
     pub call: Call,
     pub answer: Answer,
@@ -60,16 +63,47 @@ fn asked(name: &'static str, table: Vec<u8>, call: Call, number: u8, beside: usi
     let answer = Answer::of(number, beside);
     Row {
         name,
+        chip: Chip::F320,
         table,
         call,
         answer,
     }
 }
 
+fn on(chip: Chip, row: Row) -> Row {
+    Row { chip, ..row }
+}
+
 pub fn rows() -> Vec<Row> {
-    let mut rows = descriptions();
-    rows.extend(elements());
-    rows.extend(elements_asked_for());
+    let mut rows = four_pins();
+    for chip in Chip::BOTH {
+        let lists = [descriptions(), elements(), elements_asked_for()];
+        rows.extend(lists.into_iter().flatten().map(|row| on(chip, row)));
+    }
+    rows
+}
+
+/// Not rows of the list itself: P2.4 to P2.7 are on the 320 alone (000, Annex A, note 3), P2.3 and P3.0 on both.
+fn four_pins() -> Vec<Row> {
+    let lit = |pin: u8| {
+        let lamp = [
+            0x04, 14, 0, 0, 0xFF, 0xFF, 0xFF, 1, pin, 0x11, 0xFF, 0, 0xFF, 0,
+        ];
+        with(&[&lamp, &ZONE_1])
+    };
+    let alone = |name, table: Vec<u8>, refusal: usize, good: usize| {
+        let refused = on(Chip::F321, row(name, table.clone(), 10, refusal));
+        [row(name, table, 0, good), refused]
+    };
+    let mut rows = vec![
+        on(Chip::F321, row("A, byte 9 23h", a(9, 0x23), 0, 0)),
+        on(Chip::F321, row("A, LED on P2.3", lit(0x23), 0, 2)),
+        on(Chip::F321, row("A, LED on P3.0", lit(0x30), 0, 2)),
+    ];
+    rows.extend(alone("A, byte 9 24h", a(9, 0x24), 0, 0));
+    rows.extend(alone("A, byte 11 27h", a(11, 0x27), 0, 0));
+    rows.extend(alone("A, LED on P2.4", lit(0x24), 16, 2));
+    rows.extend(alone("A, LED on P2.7", lit(0x27), 16, 2));
     rows
 }
 
@@ -135,12 +169,15 @@ fn elements_asked_for() -> Vec<Row> {
 
 #[cfg(test)]
 mod tests {
+    use crate::settings::reading;
+
     /// Needs no driver: the second program alone is held to the paper.
     #[test]
     fn the_second_program_gives_the_papers_answers() {
         for row in super::rows() {
-            let (name, call) = (row.name, row.call);
-            assert_eq!(call.second(&row.table).answer, row.answer, "{name}: {call}");
+            let (name, chip, call) = (row.name, row.chip, row.call);
+            let second = call.second(&row.table, reading(chip, 0)).answer;
+            assert_eq!(second, row.answer, "{name}: {call}, {chip:?}");
         }
     }
 }

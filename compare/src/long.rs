@@ -3,8 +3,6 @@
 use crate::comparison::Comparison;
 use crate::options::Options;
 use crate::progress::Progress;
-use crate::question::Origin;
-use second::generator;
 use second::random::Random;
 
 pub fn long(options: &Options, seed: u64, count: u64) -> Result<bool, String> {
@@ -13,7 +11,7 @@ pub fn long(options: &Options, seed: u64, count: u64) -> Result<bool, String> {
     let mut random = Random::new(seed);
     for at in 0..count {
         progress.step(at, comparison.differences());
-        comparison.table(Origin::Seeded { seed, at }, generator::any(&mut random))?;
+        comparison.seeded(&mut random, seed, at)?;
     }
     let tally = comparison.finish()?;
     progress.end(tally.tables);

@@ -15,6 +15,7 @@ mod options;
 mod outcome;
 mod progress;
 mod question;
+mod settings;
 mod tally;
 mod writer;
 

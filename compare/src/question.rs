@@ -29,6 +29,7 @@ impl fmt::Display for Origin {
 pub struct Question {
     pub origin: Origin,
     pub call: Call,
+    pub settings: u64,
     /// Shared by all calls on it.
     pub table: Rc<[u8]>,
 }
@@ -37,7 +38,7 @@ impl Asked for Question {
     type Reply = Outcome;
 
     fn request(&self, to: &mut Vec<u8>) {
-        self.call.request(&self.table, to);
+        self.call.request(&self.table, self.settings, to);
     }
 
     fn reply(&self, driver: &mut Driver) -> Result<Outcome, String> {
@@ -60,6 +61,8 @@ impl Asked for Question {
 
 impl fmt::Display for Question {
     fn fmt(&self, to: &mut fmt::Formatter) -> fmt::Result {
-        write!(to, "{}: {}: {}", self.origin, self.call, hex(&self.table))
+        let (origin, call, settings) = (self.origin, self.call, self.settings);
+        let table = hex(&self.table);
+        write!(to, "{origin}: {call}, settings {settings:X}h: {table}")
     }
 }

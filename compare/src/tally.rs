@@ -1,12 +1,13 @@
 //! What was asked, what came back, and where the two sides differ.
 
-use crate::answers;
+use crate::answers::Answers;
 use crate::call::Call;
 use crate::exchange::Takes;
 use crate::fields;
 use crate::outcome::{hex, text, Differences, Outcome};
 use crate::question::Question;
-use second::histogram::Histogram;
+use crate::settings;
+use second::Chip;
 
 /// By mode of the driver; a listing has no number and is only counted.
 const NAMES: [&str; 3] = ["check", "element", "part"];
@@ -20,7 +21,7 @@ pub struct Tally {
     /// Of the fields, where they were asked for, once all is over.
     pub fields: Option<fields::Tally>,
     /// By mode: how often each number came, both sides agreeing.
-    answers: [Histogram; 3],
+    answers: [Answers; 3],
 }
 
 impl Takes<Question> for Tally {
@@ -32,29 +33,27 @@ impl Takes<Question> for Tally {
         if proved != expected {
             differences.note(|| format!("{asked}: {}", proved.against(expected, shown)));
         } else if asked.call != Call::List {
-            self.answers[usize::from(asked.call.mode())].add(proved.answer.number());
+            let answers = &mut self.answers[usize::from(asked.call.mode())];
+            answers.add(settings::chip(asked.settings), proved.answer.number());
         }
         self.listings += u64::from(asked.call == Call::List);
     }
 }
 
 impl Tally {
-    /// One line for each mode that was asked for: number and count of each answer.
+    /// One line for each mode and chip that was asked for: number and count of each answer.
     pub fn print_answers(&self) {
         for (name, answers) in NAMES.iter().zip(&self.answers) {
-            if answers.total() == 0 {
-                continue;
-            }
-            answers::print(name, answers);
+            answers.print(name);
         }
         if let Some(fields) = &self.fields {
             fields.print_answers();
         }
     }
 
-    /// Prints the answers of this mode that should have come and did not; true when all came.
-    pub fn all_came(&self, mode: usize, numbers: impl Iterator<Item = u8>) -> bool {
-        answers::all_came(NAMES[mode], &self.answers[mode], numbers)
+    /// Prints the answers of this mode that should have come and did not; true when all came, on both chips.
+    pub fn all_came(&self, mode: usize, numbers: &[u8]) -> bool {
+        self.answers[mode].all_came(NAMES[mode], &Chip::BOTH, numbers)
     }
 
     pub fn all_differences(&self) -> u64 {
@@ -92,7 +91,8 @@ mod tests {
             listing_differences: Differences::unshown(),
             ..Tally::default()
         };
-        tally.take(asked, &asked.call.second(&asked.table), proved);
+        let second = asked.call.second(&asked.table, asked.settings);
+        tally.take(asked, &second, proved);
         let differences = tally.all_differences() - Differences::unshown().0;
         (tally.listings, differences)
     }
@@ -101,12 +101,14 @@ mod tests {
     fn an_altered_length_or_byte_of_a_listing_is_reported() {
         let mut random = Random::new(3);
         for at in 0..300 {
+            let chip = Chip::BOTH[at as usize % 2];
             let asked = Question {
                 origin: Origin::Seeded { seed: 3, at },
                 call: Call::List,
-                table: generator::any(&mut random).into(),
+                settings: settings::reading(chip, at),
+                table: generator::any(&mut random, chip).into(),
             };
-            let second = asked.call.second(&asked.table);
+            let second = asked.call.second(&asked.table, asked.settings);
             assert_eq!(counted(&asked, &second), (1, 0));
             let mut longer = second.clone();
             longer.answer = Answer(second.answer.0 + 256);

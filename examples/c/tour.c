@@ -1,4 +1,5 @@
-/* A tour of the library from C: is a file a table, what stands in it, how a new one is written, and written again.
+/* A tour of the library from C: is a file a table, what stands in it, how a new one is written, and written again; and
+   a lamp that one of the two chips has no pin for.
    tour [FILE]      without FILE it looks at a table of its own. On x86-64:
    rt staticlib esa && cc -std=c99 -I include examples/c/tour.c target/staticlib/libesa.a -o tour */
 #include <stdio.h>
@@ -15,6 +16,9 @@ static const uint8_t own_table[62] = {
     /* zone descriptor: 30 bytes, zone 1; its curve is all zeros */
     0x0B, 30, 0, 1
 };
+
+/* The chip that this board carries. */
+enum { CHIP = ESA_C8051F320 };
 
 /* An answer in words. 'beside' says what stands beside 0. Gives 1 for success. */
 static int told(const char *what, uint64_t answer, const char *beside)
@@ -39,22 +43,22 @@ static void walk(const uint8_t *table, size_t length, size_t count)
     size_t at = ESA_SHORTEST; /* the first element stands behind the description */
     for (size_t k = 0; k < count; k++) {
         uint8_t numbers[ESA_NUMBERS];
-        size_t id = esa_beside(esa_fields(table, length, k, numbers));
-        uint64_t part = esa_part(table, length, k);
+        size_t id = esa_beside(esa_fields(table, length, k, CHIP, numbers));
+        uint64_t part = esa_part(table, length, k, CHIP);
         printf("  element %zu at %zu: %s, variable part of %zu bytes at %zu\n", k, at, esa_kind((unsigned)id), esa_length(part),
                esa_place(part));
         if (id == ESA_PWM_FAN)
             fan(numbers);
         at = esa_place(part) + esa_length(part); /* the part ends the element */
     }
-    told("  one more", esa_element(table, length, count), "");
+    told("  one more", esa_element(table, length, count, CHIP), "");
 }
 
 /* The listing: a line for the table and one for each element, or the refusal. */
 static void list(const uint8_t *table, size_t length)
 {
     uint8_t text[ESA_LISTING];
-    fwrite(text, 1, esa_list(table, length, text), stdout);
+    fwrite(text, 1, esa_list(table, length, CHIP, text), stdout);
 }
 
 /* A table with a fan and its zone; without the zone it is refused. Gives the length, or 0 if the writer refuses. */
@@ -76,21 +80,38 @@ static size_t build(uint8_t *buffer, size_t length)
     const uint8_t nothing[ESA_NUMBERS] = { 0 };
     const uint8_t zone[27] = { 1 }; /* all bytes after the header */
 
-    if (!told("started", esa_start(buffer, length, description), "bytes"))
+    if (!told("started", esa_start(buffer, length, CHIP, description), "bytes"))
         return 0;
-    uint64_t answer = esa_append(buffer, length, ESA_PWM_FAN, fan, NULL, 0);
+    uint64_t answer = esa_append(buffer, length, ESA_PWM_FAN, CHIP, fan, NULL, 0);
     if (!told("fan appended", answer, "bytes"))
         return 0;
-    told("is it a table", esa_check(buffer, esa_beside(answer)), "elements");
-    answer = esa_append(buffer, length, ESA_ZONE, nothing, zone, sizeof zone);
+    told("is it a table", esa_check(buffer, esa_beside(answer), CHIP), "elements");
+    answer = esa_append(buffer, length, ESA_ZONE, CHIP, nothing, zone, sizeof zone);
     return told("zone appended", answer, "bytes") ? esa_beside(answer) : 0;
+}
+
+/* A lamp on P2.7, which the smaller chip lacks: the table is good for the C8051F320 alone. A record is written for the chip
+   that its byte 31 names, and for no other. */
+static void lamp(uint8_t *buffer, size_t length)
+{
+    uint8_t numbers[ESA_NUMBERS] = { 0, 0xFF, 0xFF, 0xFF, 1, 0, 2, 1 }; /* zone 1, green, good */
+    numbers[5] = esa_pin(2, 7);
+    numbers[8] = numbers[11] = ESA_UNUSED_PIN;
+    numbers[31] = ESA_C8051F321;
+    told("a lamp for the 321 appended", esa_append(buffer, length, ESA_STATUS_LED, ESA_C8051F320, numbers, NULL, 0), "bytes");
+    numbers[31] = ESA_C8051F320;
+    uint64_t answer = esa_append(buffer, length, ESA_STATUS_LED, ESA_C8051F320, numbers, NULL, 0);
+    if (!told("a lamp for the 320 appended", answer, "bytes"))
+        return;
+    told("is it a table for the 320", esa_check(buffer, esa_beside(answer), ESA_C8051F320), "elements");
+    told("is it a table for the 321", esa_check(buffer, esa_beside(answer), ESA_C8051F321), "elements");
 }
 
 /* Writes a table again: the same table, but for its reserved places, which become zero. */
 static void again(const uint8_t *table, size_t length)
 {
     uint8_t out[ESA_LONGEST];
-    if (!told("written again", esa_rewrite(table, length, out, sizeof out), "bytes"))
+    if (!told("written again", esa_rewrite(table, length, CHIP, out, sizeof out), "bytes"))
         return;
     for (size_t i = 0; i < length; i++)
         if (out[i] != table[i])
@@ -119,7 +140,7 @@ int main(int count, char **arguments)
         return 2;
     }
     printf("a table of %zu bytes\n", length);
-    uint64_t answer = esa_check(table, length);
+    uint64_t answer = esa_check(table, length, CHIP);
     int good = told("is it a table", answer, "elements");
     if (good)
         walk(table, length, esa_beside(answer));
@@ -128,10 +149,13 @@ int main(int count, char **arguments)
     printf("\na table of our own\n");
     uint8_t buffer[100];
     size_t written = build(buffer, sizeof buffer);
-    told("is it a table", esa_check(buffer, written), "elements");
+    told("is it a table", esa_check(buffer, written, CHIP), "elements");
 
     printf("\nthe same with a reserved place in use\n");
     buffer[12] = 0xA5;
     again(buffer, written);
+
+    printf("\nthe same with a lamp on P2.7\n");
+    lamp(buffer, sizeof buffer);
     return good ? 0 : 1;
 }

@@ -1,4 +1,5 @@
-//! A tour of the library from Rust: is a file a table, what stands in it, how a new one is written, and written again.
+//! A tour of the library from Rust: is a file a table, what stands in it, how a new one is written, and written again; and a
+//! lamp that one of the two chips has no pin for.
 //! tour [FILE]      without FILE it looks at a table of its own. On x86-64:
 //! rt staticlib esa && rustc --edition 2021 -L target/staticlib -l static=esa examples/rust/tour.rs
 
@@ -11,11 +12,19 @@ mod esa {
     /// The longest table.
     pub const LONGEST: usize = 4096;
     pub const PWM_FAN: u8 = 0x03;
+    pub const STATUS_LED: u8 = 0x04;
     pub const ZONE: u8 = 0x0B;
     pub const UNUSED_PIN: u8 = 0xFF;
 
-    /// The numbers of one record; include/esa.h says which stands where.
+    /// The numbers of one record; include/esa.h says which stands where. Byte 31 is the chip of its pins.
     pub type Numbers = [u8; 32];
+
+    /// The chip that the board carries; the settings of a call.
+    #[derive(Clone, Copy, Debug, PartialEq, Eq)]
+    pub enum Chip {
+        C8051F320 = 0,
+        C8051F321 = 1,
+    }
 
     /// The number of the rule, and its place in the table.
     #[derive(Clone, Copy, Debug, PartialEq, Eq)]
@@ -26,26 +35,49 @@ mod esa {
 
     mod c {
         extern "C" {
-            pub fn esa_check(table: *const u8, length: usize) -> u64;
-            pub fn esa_element(table: *const u8, length: usize, k: usize) -> u64;
+            pub fn esa_check(table: *const u8, length: usize, settings: u64) -> u64;
+            pub fn esa_element(
+                table: *const u8,
+                length: usize,
+                k: usize,
+                settings: u64,
+            ) -> u64;
             pub fn esa_fields(
                 table: *const u8,
                 length: usize,
                 k: usize,
+                settings: u64,
                 numbers: &mut [u8; 32],
             ) -> u64;
-            pub fn esa_part(table: *const u8, length: usize, k: usize) -> u64;
-            pub fn esa_start(buffer: *mut u8, length: usize, numbers: &[u8; 32]) -> u64;
+            pub fn esa_part(table: *const u8, length: usize, k: usize, settings: u64) -> u64;
+            pub fn esa_start(
+                buffer: *mut u8,
+                length: usize,
+                settings: u64,
+                numbers: &[u8; 32],
+            ) -> u64;
             pub fn esa_append(
                 buffer: *mut u8,
                 length: usize,
                 id: u8,
+                settings: u64,
                 numbers: &[u8; 32],
                 part: *const u8,
                 part_length: usize,
             ) -> u64;
-            pub fn esa_rewrite(table: *const u8, length: usize, out: *mut u8, room: usize) -> u64;
-            pub fn esa_list(table: *const u8, length: usize, out: &mut [u8; 4096]) -> usize;
+            pub fn esa_rewrite(
+                table: *const u8,
+                length: usize,
+                settings: u64,
+                out: *mut u8,
+                room: usize,
+            ) -> u64;
+            pub fn esa_list(
+                table: *const u8,
+                length: usize,
+                settings: u64,
+                out: &mut [u8; 4096],
+            ) -> usize;
         }
     }
 
@@ -65,53 +97,60 @@ mod esa {
     }
 
     /// The number of elements.
-    pub fn check(table: &[u8]) -> Answer {
-        unpacked(unsafe { c::esa_check(table.as_ptr(), table.len()) })
+    pub fn check(table: &[u8], chip: Chip) -> Answer {
+        unpacked(unsafe { c::esa_check(table.as_ptr(), table.len(), chip as u64) })
     }
 
     /// The identifier of element k, from 0.
-    pub fn element(table: &[u8], k: usize) -> Answer {
-        unpacked(unsafe { c::esa_element(table.as_ptr(), table.len(), k) })
+    pub fn element(table: &[u8], k: usize, chip: Chip) -> Answer {
+        unpacked(unsafe { c::esa_element(table.as_ptr(), table.len(), k, chip as u64) })
     }
 
     /// The same, and the numbers of element k.
-    pub fn fields(table: &[u8], k: usize) -> Result<(usize, Numbers), Refusal> {
+    pub fn fields(table: &[u8], k: usize, chip: Chip) -> Result<(usize, Numbers), Refusal> {
         let mut numbers = [0; 32];
-        let answer = unsafe { c::esa_fields(table.as_ptr(), table.len(), k, &mut numbers) };
+        let (at, length) = (table.as_ptr(), table.len());
+        let answer = unsafe { c::esa_fields(at, length, k, chip as u64, &mut numbers) };
         Ok((unpacked(answer)?, numbers))
     }
 
     /// The bytes of the variable part of element k, in the table.
-    pub fn part(table: &[u8], k: usize) -> Result<std::ops::Range<usize>, Refusal> {
-        let beside = unpacked(unsafe { c::esa_part(table.as_ptr(), table.len(), k) })?;
+    pub fn part(table: &[u8], k: usize, chip: Chip) -> Result<std::ops::Range<usize>, Refusal> {
+        let (at, length) = (table.as_ptr(), table.len());
+        let beside = unpacked(unsafe { c::esa_part(at, length, k, chip as u64) })?;
         let (place, length) = (beside & 0xFFFF, beside >> 16);
         Ok(place..place + length)
     }
 
     /// The length of the table that is started.
-    pub fn start(buffer: &mut [u8], description: &Numbers) -> Answer {
-        unpacked(unsafe { c::esa_start(buffer.as_mut_ptr(), buffer.len(), description) })
+    pub fn start(buffer: &mut [u8], chip: Chip, description: &Numbers) -> Answer {
+        let (at, length) = (buffer.as_mut_ptr(), buffer.len());
+        unpacked(unsafe { c::esa_start(at, length, chip as u64, description) })
     }
 
     /// The new length.
-    pub fn append(buffer: &mut [u8], id: u8, numbers: &Numbers, part: &[u8]) -> Answer {
+    pub fn append(buffer: &mut [u8], id: u8, chip: Chip, numbers: &Numbers, part: &[u8]) -> Answer {
         let (at, length) = (buffer.as_mut_ptr(), buffer.len());
-        unpacked(unsafe { c::esa_append(at, length, id, numbers, part.as_ptr(), part.len()) })
+        let (part, part_length) = (part.as_ptr(), part.len());
+        unpacked(unsafe { c::esa_append(at, length, id, chip as u64, numbers, part, part_length) })
     }
 
     /// The table's length.
-    pub fn rewrite(table: &[u8], out: &mut [u8]) -> Answer {
+    pub fn rewrite(table: &[u8], chip: Chip, out: &mut [u8]) -> Answer {
         let (at, room) = (out.as_mut_ptr(), out.len());
-        unpacked(unsafe { c::esa_rewrite(table.as_ptr(), table.len(), at, room) })
+        unpacked(unsafe { c::esa_rewrite(table.as_ptr(), table.len(), chip as u64, at, room) })
     }
 
     /// The listing: a line for the table and one for each element, or the refusal.
-    pub fn list(table: &[u8]) -> String {
+    pub fn list(table: &[u8], chip: Chip) -> String {
         let mut text = [0; 4096];
-        let length = unsafe { c::esa_list(table.as_ptr(), table.len(), &mut text) };
+        let length = unsafe { c::esa_list(table.as_ptr(), table.len(), chip as u64, &mut text) };
         text[..length].iter().map(|&byte| char::from(byte)).collect()
     }
 }
+
+/// The chip that this board carries.
+const CHIP: esa::Chip = esa::Chip::C8051F320;
 
 impl Display for esa::Refusal {
     fn fmt(&self, to: &mut fmt::Formatter) -> fmt::Result {
@@ -132,7 +171,7 @@ fn words(number: u8) -> &'static str {
         7 => "the identifier is none of the ten that are taken",
         8 => "the length of an element is not that of its layout",
         9 => "a reserved code, or a number that no rule allows there",
-        10 => "a pin that does not exist, is not permitted there, or stands out of order",
+        10 => "a pin that does not exist, is not on the chip, is not permitted there, or stands out of order",
         11 => "more than 96 elements or 12 zones",
         12 => "a string or zone number a second time",
         13 => "the zone of an element has no descriptor",
@@ -174,8 +213,8 @@ fn told(what: &str, answer: esa::Answer, beside: &str) -> esa::Answer {
 fn walk(table: &[u8], count: usize) -> Result<(), esa::Refusal> {
     let mut at = 16; // the first element stands behind the description
     for k in 0..count {
-        let (id, numbers) = esa::fields(table, k)?;
-        let part = esa::part(table, k)?;
+        let (id, numbers) = esa::fields(table, k, CHIP)?;
+        let part = esa::part(table, k, CHIP)?;
         let (name, length, place) = (kind(id), part.len(), part.start);
         println!("  element {k} at {at}: {name}, variable part of {length} bytes at {place}");
         if id == usize::from(esa::PWM_FAN) {
@@ -184,7 +223,7 @@ fn walk(table: &[u8], count: usize) -> Result<(), esa::Refusal> {
         }
         at = part.end; // the part ends the element
     }
-    let _ = told("  one more", esa::element(table, count), "");
+    let _ = told("  one more", esa::element(table, count, CHIP), "");
     Ok(())
 }
 
@@ -206,24 +245,44 @@ fn build(buffer: &mut [u8]) -> esa::Answer {
     let mut zone = [0; 27]; // all bytes after the header
     zone[0] = 1;
 
-    told("started", esa::start(buffer, &description), "bytes")?;
+    told("started", esa::start(buffer, CHIP, &description), "bytes")?;
     let length = told(
         "fan appended",
-        esa::append(buffer, esa::PWM_FAN, &fan, &[]),
+        esa::append(buffer, esa::PWM_FAN, CHIP, &fan, &[]),
         "bytes",
     )?;
-    let _ = told("is it a table", esa::check(&buffer[..length]), "elements");
+    let _ = told("is it a table", esa::check(&buffer[..length], CHIP), "elements");
     told(
         "zone appended",
-        esa::append(buffer, esa::ZONE, &[0; 32], &zone),
+        esa::append(buffer, esa::ZONE, CHIP, &[0; 32], &zone),
         "bytes",
     )
+}
+
+/// A lamp on P2.7, which the smaller chip lacks: the table is good for the C8051F320 alone. A record is written for the chip
+/// that its byte 31 names, and for no other.
+fn lamp(buffer: &mut [u8]) -> Result<(), esa::Refusal> {
+    use esa::Chip::{C8051F320, C8051F321};
+    let mut numbers: esa::Numbers = [0; 32];
+    numbers[..8].copy_from_slice(&[0, 0xFF, 0xFF, 0xFF, 1, 0x27, 2, 1]); // zone 1, P2.7, green, good
+    numbers[8] = esa::UNUSED_PIN;
+    numbers[11] = esa::UNUSED_PIN;
+    numbers[31] = C8051F321 as u8;
+    let answer = esa::append(buffer, esa::STATUS_LED, C8051F320, &numbers, &[]);
+    let _ = told("a lamp for the 321 appended", answer, "bytes");
+    numbers[31] = C8051F320 as u8;
+    let answer = esa::append(buffer, esa::STATUS_LED, C8051F320, &numbers, &[]);
+    let length = told("a lamp for the 320 appended", answer, "bytes")?;
+    let table = &buffer[..length];
+    let _ = told("is it a table for the 320", esa::check(table, C8051F320), "elements");
+    let _ = told("is it a table for the 321", esa::check(table, C8051F321), "elements");
+    Ok(())
 }
 
 /// Writes a table again: the same table, but for its reserved places, which become zero.
 fn again(table: &[u8]) -> Result<(), esa::Refusal> {
     let mut out = [0; esa::LONGEST];
-    told("written again", esa::rewrite(table, &mut out), "bytes")?;
+    told("written again", esa::rewrite(table, CHIP, &mut out), "bytes")?;
     for (i, (old, new)) in table.iter().zip(out).enumerate() {
         if *old != new {
             println!("  byte {i}: {old:02X}, now {new:02X}");
@@ -250,20 +309,23 @@ fn own_table() -> Vec<u8> {
 /// The whole tour; gives whether the table was accepted.
 fn tour(table: &[u8]) -> Result<bool, esa::Refusal> {
     println!("a table of {} bytes", table.len());
-    let answer = told("is it a table", esa::check(table), "elements");
+    let answer = told("is it a table", esa::check(table, CHIP), "elements");
     if let Ok(count) = answer {
         walk(table, count)?;
     }
-    print!("{}", esa::list(table));
+    print!("{}", esa::list(table, CHIP));
 
     println!("\na table of our own");
     let mut buffer = [0; 100];
     let length = build(&mut buffer)?;
-    told("is it a table", esa::check(&buffer[..length]), "elements")?;
+    told("is it a table", esa::check(&buffer[..length], CHIP), "elements")?;
 
     println!("\nthe same with a reserved place in use");
     buffer[12] = 0xA5;
     again(&buffer[..length])?;
+
+    println!("\nthe same with a lamp on P2.7");
+    lamp(&mut buffer)?;
     Ok(answer.is_ok())
 }
 

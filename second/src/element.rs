@@ -3,6 +3,7 @@
 use crate::answer::DESCRIPTION_LENGTH;
 use crate::pins::Pin;
 use crate::record::*;
+use crate::settings::Chip;
 use crate::units::{Centimetres, Deciamps, DegreesCentigrade, FourMilliamps, Rpm};
 
 /// The identifiers; those of string and zone stand in the text under Tables 29 and 30.
@@ -54,8 +55,8 @@ pub fn word(bytes: &[u8], at: usize) -> u16 {
     u16::from_le_bytes([bytes[at], bytes[at + 1]])
 }
 
-/// The record of the first 16 bytes.
-pub fn read_description(table: &[u8]) -> Description {
+/// The record of the first 16 bytes, its pins on this chip.
+pub fn read_description(table: &[u8], chip: Chip) -> Description {
     assert!(table.len() >= DESCRIPTION_LENGTH);
     Description {
         device_type: table[3],
@@ -63,32 +64,32 @@ pub fn read_description(table: &[u8]) -> Description {
         serial: u32::from_le_bytes([table[5], table[6], table[7], 0]),
         self_powered: table[8] >= 0x80,
         power: FourMilliamps(table[8] & 0x7F),
-        hardware: [Pin(table[9]), Pin(table[10]), Pin(table[11])],
+        hardware: [9, 10, 11].map(|at| Pin::on(chip, table[at])),
     }
 }
 
-/// The record and the variable part of one whole element, header included. `None` when the
-/// identifier is not in the list or the fixed fields do not fit its length.
-pub fn read_element(bytes: &[u8]) -> Option<(Element, &[u8])> {
+/// The record and the variable part of one whole element, header included, its pins on this chip.
+/// `None` when the identifier is not in the list or the fixed fields do not fit its length.
+pub fn read_element(bytes: &[u8], chip: Chip) -> Option<(Element, &[u8])> {
     let fixed = fixed_length(bytes[0]);
     if !id::ALL.contains(&bytes[0]) || bytes.len() < fixed {
         return None;
     }
     let record = match bytes[0] {
-        id::DIGITAL_SENSOR => Element::DigitalSensor(read_digital_sensor(bytes)),
-        id::ANALOGUE_SENSOR => Element::AnalogueSensor(read_analogue_sensor(bytes)),
-        id::FAN => Element::Fan(read_fan(bytes)),
-        id::STATUS_LED => Element::StatusLed(read_status_led(bytes)),
-        id::CURRENT => Element::Current(read_current(bytes)),
+        id::DIGITAL_SENSOR => Element::DigitalSensor(read_digital_sensor(bytes, chip)),
+        id::ANALOGUE_SENSOR => Element::AnalogueSensor(read_analogue_sensor(bytes, chip)),
+        id::FAN => Element::Fan(read_fan(bytes, chip)),
+        id::STATUS_LED => Element::StatusLed(read_status_led(bytes, chip)),
+        id::CURRENT => Element::Current(read_current(bytes, chip)),
         id::CONTROLLER => Element::Controller(Controller {
             common: read_common(bytes),
-            attachment: read_attachment(bytes),
+            attachment: read_attachment(bytes, chip),
         }),
         id::TACHOMETER => Element::Tachometer(Tachometer {
             common: read_common(bytes),
-            attachment: read_attachment(bytes),
+            attachment: read_attachment(bytes, chip),
         }),
-        id::RGB_LED => Element::RgbLed(read_rgb_led(bytes)),
+        id::RGB_LED => Element::RgbLed(read_rgb_led(bytes, chip)),
         id::ZONE => Element::Zone(Zone),
         _ => Element::Text(Text),
     };
@@ -108,20 +109,20 @@ fn read_common(bytes: &[u8]) -> Common {
 }
 
 /// Byte 8 has the bus type in bits 3-0, byte 9 the address; byte 10 is reserved (Tables 9, 10).
-fn read_attachment(bytes: &[u8]) -> Attachment {
+fn read_attachment(bytes: &[u8], chip: Chip) -> Attachment {
     let bus_type = bytes[8] & 0x0F;
     let address = if bus_type == 3 {
-        Address::Select(Pin(bytes[9]))
+        Address::Select(Pin::on(chip, bytes[9]))
     } else {
         Address::Bus(bytes[9] >> 1)
     };
     Attachment { bus_type, address }
 }
 
-fn read_digital_sensor(bytes: &[u8]) -> DigitalSensor {
+fn read_digital_sensor(bytes: &[u8], chip: Chip) -> DigitalSensor {
     DigitalSensor {
         common: read_common(bytes),
-        attachment: read_attachment(bytes),
+        attachment: read_attachment(bytes, chip),
         lsb_register: word(bytes, 11),
         msb_register: word(bytes, 13),
         minimum_value: word(bytes, 15),
@@ -131,20 +132,20 @@ fn read_digital_sensor(bytes: &[u8]) -> DigitalSensor {
     }
 }
 
-fn read_analogue_sensor(bytes: &[u8]) -> AnalogueSensor {
+fn read_analogue_sensor(bytes: &[u8], chip: Chip) -> AnalogueSensor {
     AnalogueSensor {
         common: read_common(bytes),
         thermal_type: bytes[8] & 0x0F,
-        pin: Pin(bytes[9]),
+        pin: Pin::on(chip, bytes[9]),
         calibration: [10, 12, 14, 16, 18].map(|at| word(bytes, at)),
     }
 }
 
-fn read_fan(bytes: &[u8]) -> Fan {
+fn read_fan(bytes: &[u8], chip: Chip) -> Fan {
     Fan {
         common: read_common(bytes),
-        pwm: Pin(bytes[8]),
-        tachometer: Pin(bytes[9]),
+        pwm: Pin::on(chip, bytes[8]),
+        tachometer: Pin::on(chip, bytes[9]),
         pulses_per_revolution: bytes[10],
         minimum_rpm: Rpm(word(bytes, 11)),
         maximum_rpm: Rpm(word(bytes, 13)),
@@ -152,9 +153,9 @@ fn read_fan(bytes: &[u8]) -> Fan {
     }
 }
 
-fn read_status_led(bytes: &[u8]) -> StatusLed {
+fn read_status_led(bytes: &[u8], chip: Chip) -> StatusLed {
     let light = |at: usize| Light {
-        pin: Pin(bytes[at]),
+        pin: Pin::on(chip, bytes[at]),
         colour: bytes[at + 1] >> 4,
         purpose: bytes[at + 1] & 0x0F,
     };
@@ -164,20 +165,20 @@ fn read_status_led(bytes: &[u8]) -> StatusLed {
     }
 }
 
-fn read_current(bytes: &[u8]) -> Current {
+fn read_current(bytes: &[u8], chip: Chip) -> Current {
     Current {
         common: read_common(bytes),
-        pin: Pin(bytes[8]),
+        pin: Pin::on(chip, bytes[8]),
         at_minimum: Deciamps(word(bytes, 10)),
         at_maximum: Deciamps(word(bytes, 12)),
     }
 }
 
-fn read_rgb_led(bytes: &[u8]) -> RgbLed {
+fn read_rgb_led(bytes: &[u8], chip: Chip) -> RgbLed {
     RgbLed {
         common: read_common(bytes),
-        red: Pin(bytes[8]),
-        green: Pin(bytes[9]),
-        blue: Pin(bytes[10]),
+        red: Pin::on(chip, bytes[8]),
+        green: Pin::on(chip, bytes[9]),
+        blue: Pin::on(chip, bytes[10]),
     }
 }

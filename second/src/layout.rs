@@ -4,6 +4,7 @@
 
 use crate::answer::DESCRIPTION_LENGTH;
 use crate::element::{fixed_length, HEADER_LENGTH};
+use crate::pins::Pin;
 use crate::record::*;
 
 /// The longest run of fixed fields, header included: 01h.
@@ -34,7 +35,7 @@ impl Fixed {
         self.bytes[8] = attachment.bus_type;
         self.bytes[9] = match attachment.address {
             Address::Bus(address) => address << 1,
-            Address::Select(pin) => pin.0,
+            Address::Select(pin) => pin.byte(),
         };
     }
 }
@@ -43,7 +44,6 @@ impl Fixed {
 pub fn description(description: &Description) -> [u8; DESCRIPTION_LENGTH] {
     let [low, middle, high, _] = description.serial.to_le_bytes();
     let self_powered = u8::from(description.self_powered) << 7;
-    let [first, second, third] = description.hardware;
     let mut bytes = [0; DESCRIPTION_LENGTH];
     bytes[0] = 0x01;
     bytes[1] = DESCRIPTION_LENGTH as u8;
@@ -51,7 +51,7 @@ pub fn description(description: &Description) -> [u8; DESCRIPTION_LENGTH] {
     bytes[4] = description.string;
     bytes[5..8].copy_from_slice(&[low, middle, high]);
     bytes[8] = self_powered | description.power.0;
-    bytes[9..12].copy_from_slice(&[first.0, second.0, third.0]);
+    bytes[9..12].copy_from_slice(&description.hardware.map(Pin::byte));
     bytes
 }
 
@@ -76,7 +76,7 @@ pub fn fixed(element: &Element) -> Fixed {
         Element::StatusLed(e) => status_led(e, &mut fixed),
         Element::Current(e) => current(e, &mut fixed),
         Element::RgbLed(e) => {
-            fixed.bytes[8..11].copy_from_slice(&[e.red.0, e.green.0, e.blue.0]);
+            fixed.bytes[8..11].copy_from_slice(&[e.red, e.green, e.blue].map(Pin::byte));
         }
         // Nothing but header, common fields and attachment before the variable part.
         Element::Controller(_) | Element::Tachometer(_) => (),
@@ -96,15 +96,15 @@ fn digital_sensor(e: &DigitalSensor, fixed: &mut Fixed) {
 
 fn analogue_sensor(e: &AnalogueSensor, fixed: &mut Fixed) {
     fixed.bytes[8] = e.thermal_type;
-    fixed.bytes[9] = e.pin.0;
+    fixed.bytes[9] = e.pin.byte();
     for (step, &value) in e.calibration.iter().enumerate() {
         fixed.word(10 + 2 * step, value);
     }
 }
 
 fn fan(e: &Fan, fixed: &mut Fixed) {
-    fixed.bytes[8] = e.pwm.0;
-    fixed.bytes[9] = e.tachometer.0;
+    fixed.bytes[8] = e.pwm.byte();
+    fixed.bytes[9] = e.tachometer.byte();
     fixed.bytes[10] = e.pulses_per_revolution;
     fixed.word(11, e.minimum_rpm.0);
     fixed.word(13, e.maximum_rpm.0);
@@ -113,13 +113,13 @@ fn fan(e: &Fan, fixed: &mut Fixed) {
 
 fn status_led(e: &StatusLed, fixed: &mut Fixed) {
     for (step, light) in e.lights.iter().enumerate() {
-        fixed.bytes[8 + 2 * step] = light.pin.0;
+        fixed.bytes[8 + 2 * step] = light.pin.byte();
         fixed.bytes[9 + 2 * step] = light.colour << 4 | light.purpose;
     }
 }
 
 fn current(e: &Current, fixed: &mut Fixed) {
-    fixed.bytes[8] = e.pin.0;
+    fixed.bytes[8] = e.pin.byte();
     fixed.word(10, e.at_minimum.0);
     fixed.word(12, e.at_maximum.0);
 }

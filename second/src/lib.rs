@@ -23,6 +23,7 @@ pub mod reader;
 pub mod record;
 pub mod rewrite;
 pub mod rules;
+pub mod settings;
 pub mod units;
 pub mod writer;
 
@@ -32,4 +33,5 @@ pub use fields::{describe, fields, part_place, text_place};
 pub use listing::{list, listing};
 pub use reader::check;
 pub use rewrite::{cleared, rewrite, rewrite_by_records};
+pub use settings::{Chip, Settings};
 pub use writer::{append, start};

@@ -7,6 +7,7 @@ use crate::access::walk;
 use crate::answer::Verdict;
 use crate::element::id;
 use crate::reader::check;
+use crate::settings::Settings;
 
 /// Room for every listing: the line of a description has at most 47 bytes, one of an element 29.
 pub const LISTING: usize = 4096;
@@ -14,9 +15,9 @@ pub const LISTING: usize = 4096;
 const UNUSED: u8 = 0xFF;
 
 /// The text for a table, accepted or refused.
-pub fn listing(table: &[u8]) -> Vec<u8> {
+pub fn listing(table: &[u8], settings: Settings) -> Vec<u8> {
     let mut out = [0; LISTING];
-    let length = list(table, &mut out);
+    let length = list(table, settings, &mut out);
     out[..length].to_vec()
 }
 
@@ -24,9 +25,9 @@ pub fn listing(table: &[u8]) -> Vec<u8> {
 ///
 /// An entry point for benchmarks, and never inlined for that reason.
 #[inline(never)]
-pub fn list(table: &[u8], out: &mut [u8; LISTING]) -> usize {
+pub fn list(table: &[u8], settings: Settings, out: &mut [u8; LISTING]) -> usize {
     let mut text = Text { out, length: 0 };
-    if let Verdict::Refused { number, place } = check(table) {
+    if let Verdict::Refused { number, place } = check(table, settings) {
         text.put(b"R\t");
         text.number(usize::from(number));
         text.put(b"\t");

@@ -4,11 +4,15 @@
 use crate::element::id;
 use crate::pins::Pin;
 use crate::record::*;
+use crate::settings::Chip;
 use crate::units::{Centimetres, Deciamps, DegreesCentigrade, FourMilliamps, Rpm};
 
 pub type Numbers = [u8; 32];
 
-/// Bytes that a description or an element of this kind uses.
+/// Names the chip of all pins of the record: 0 is the 320, any other value the 321.
+pub const CHIP: usize = 31;
+
+/// Bytes from the front that a description or an element of this kind uses.
 pub const OF_DESCRIPTION: usize = 11;
 
 pub fn used(identifier: u8) -> usize {
@@ -27,6 +31,14 @@ fn word(numbers: &Numbers, at: usize) -> u16 {
     u16::from_le_bytes([numbers[at], numbers[at + 1]])
 }
 
+fn pin(numbers: &Numbers, at: usize) -> Pin {
+    let chip = match numbers[CHIP] {
+        0 => Chip::F320,
+        _ => Chip::F321,
+    };
+    Pin::on(chip, numbers[at])
+}
+
 pub fn description(numbers: &Numbers) -> Description {
     let [_, _, a, b, c, d, ..] = *numbers;
     Description {
@@ -35,7 +47,7 @@ pub fn description(numbers: &Numbers) -> Description {
         serial: u32::from_le_bytes([a, b, c, d]),
         self_powered: numbers[6] != 0,
         power: FourMilliamps(numbers[7]),
-        hardware: [Pin(numbers[8]), Pin(numbers[9]), Pin(numbers[10])],
+        hardware: [8, 9, 10].map(|at| pin(numbers, at)),
     }
 }
 
@@ -57,13 +69,13 @@ pub fn element(identifier: u8, n: &Numbers) -> Option<Element> {
         id::ANALOGUE_SENSOR => Element::AnalogueSensor(AnalogueSensor {
             common,
             thermal_type: n[5],
-            pin: Pin(n[6]),
+            pin: pin(n, 6),
             calibration: [7, 9, 11, 13, 15].map(|at| word(n, at)),
         }),
         id::FAN => Element::Fan(Fan {
             common,
-            pwm: Pin(n[5]),
-            tachometer: Pin(n[6]),
+            pwm: pin(n, 5),
+            tachometer: pin(n, 6),
             pulses_per_revolution: n[7],
             minimum_rpm: Rpm(word(n, 8)),
             maximum_rpm: Rpm(word(n, 10)),
@@ -72,14 +84,14 @@ pub fn element(identifier: u8, n: &Numbers) -> Option<Element> {
         id::STATUS_LED => Element::StatusLed(StatusLed {
             common,
             lights: [5, 8, 11].map(|at| Light {
-                pin: Pin(n[at]),
+                pin: pin(n, at),
                 colour: n[at + 1],
                 purpose: n[at + 2],
             }),
         }),
         id::CURRENT => Element::Current(Current {
             common,
-            pin: Pin(n[5]),
+            pin: pin(n, 5),
             at_minimum: Deciamps(word(n, 6)),
             at_maximum: Deciamps(word(n, 8)),
         }),
@@ -87,9 +99,9 @@ pub fn element(identifier: u8, n: &Numbers) -> Option<Element> {
         id::TACHOMETER => Element::Tachometer(Tachometer { common, attachment }),
         id::RGB_LED => Element::RgbLed(RgbLed {
             common,
-            red: Pin(n[5]),
-            green: Pin(n[6]),
-            blue: Pin(n[7]),
+            red: pin(n, 5),
+            green: pin(n, 6),
+            blue: pin(n, 7),
         }),
         id::ZONE => Element::Zone(Zone),
         id::TEXT => Element::Text(Text),
@@ -112,7 +124,7 @@ fn common(n: &Numbers) -> Common {
 fn attachment(n: &Numbers) -> Attachment {
     let address = match n[6] {
         0 => Address::Bus(n[7]),
-        _ => Address::Select(Pin(n[7])),
+        _ => Address::Select(pin(n, 7)),
     };
     Attachment {
         bus_type: n[5],
@@ -120,15 +132,16 @@ fn attachment(n: &Numbers) -> Attachment {
     }
 }
 
-/// Puts the description's numbers over what stands in `n`; the byte of SPWR stays where it says the
-/// same.
-pub fn put_description(record: &Description, n: &mut Numbers) {
+/// Puts the description's numbers over what stands in `n`, its pins being of this chip; the bytes of SPWR
+/// and of the chip stay where they say the same.
+pub fn put_description(record: &Description, chip: Chip, n: &mut Numbers) {
     n[0] = record.device_type;
     n[1] = record.string;
     n[2..6].copy_from_slice(&record.serial.to_le_bytes());
     put_truth(record.self_powered, &mut n[6]);
     n[7] = record.power.0;
-    n[8..11].copy_from_slice(&record.hardware.map(|pin| pin.0));
+    n[8..11].copy_from_slice(&record.hardware.map(Pin::byte));
+    put_truth(chip == Chip::F321, &mut n[CHIP]);
 }
 
 /// Any value but 0 is true, and one that stands there already is kept.
@@ -136,17 +149,18 @@ fn put_truth(truth: bool, at: &mut u8) {
     *at = if truth { (*at).max(1) } else { 0 };
 }
 
-/// Puts the element's numbers over what stands in `n`. A string and a zone have none that append takes:
-/// their part is the whole record.
-pub fn put_element(record: &Element, n: &mut Numbers) {
+/// Puts the element's numbers over what stands in `n`, its pins being of this chip. A string and a zone have
+/// none that append takes: their part is the whole record.
+pub fn put_element(record: &Element, chip: Chip, n: &mut Numbers) {
     if let Some(common) = record.common() {
         let Position { x, y, z } = common.position;
         n[..5].copy_from_slice(&[common.string, x.0, y.0, z.0, common.zone]);
+        put_truth(chip == Chip::F321, &mut n[CHIP]);
     }
     if let Some(attachment) = record.attachment() {
         let (select, address) = match attachment.address {
             Address::Bus(address) => (false, address),
-            Address::Select(pin) => (true, pin.0),
+            Address::Select(pin) => (true, pin.byte()),
         };
         n[5] = attachment.bus_type;
         put_truth(select, &mut n[6]);
@@ -160,24 +174,25 @@ pub fn put_element(record: &Element, n: &mut Numbers) {
             n[17] = e.maximum_temp.0;
         }
         Element::AnalogueSensor(e) => {
-            n[5..7].copy_from_slice(&[e.thermal_type, e.pin.0]);
+            n[5..7].copy_from_slice(&[e.thermal_type, e.pin.byte()]);
             put_words(7, &e.calibration, n);
         }
         Element::Fan(e) => {
-            n[5..8].copy_from_slice(&[e.pwm.0, e.tachometer.0, e.pulses_per_revolution]);
+            n[5..7].copy_from_slice(&[e.pwm.byte(), e.tachometer.byte()]);
+            n[7] = e.pulses_per_revolution;
             put_words(8, &[e.minimum_rpm.0, e.maximum_rpm.0], n);
             n[12] = e.minimum_duty;
         }
         Element::StatusLed(e) => {
             for (at, light) in [5, 8, 11].into_iter().zip(&e.lights) {
-                n[at..at + 3].copy_from_slice(&[light.pin.0, light.colour, light.purpose]);
+                n[at..at + 3].copy_from_slice(&[light.pin.byte(), light.colour, light.purpose]);
             }
         }
         Element::Current(e) => {
-            n[5] = e.pin.0;
+            n[5] = e.pin.byte();
             put_words(6, &[e.at_minimum.0, e.at_maximum.0], n);
         }
-        Element::RgbLed(e) => n[5..8].copy_from_slice(&[e.red.0, e.green.0, e.blue.0]),
+        Element::RgbLed(e) => n[5..8].copy_from_slice(&[e.red, e.green, e.blue].map(Pin::byte)),
         Element::Controller(_) | Element::Tachometer(_) | Element::Zone(_) | Element::Text(_) => (),
     }
 }
@@ -201,13 +216,14 @@ mod tests {
         let mut random = Random::new(5);
         for _ in 0..20_000 {
             let mut numbers: Numbers = std::array::from_fn(|_| random.byte());
-            match writer_call(&mut random).what {
+            let call = writer_call(&mut random);
+            match call.what {
                 What::Start(record) => {
-                    put_description(&record, &mut numbers);
+                    put_description(&record, call.pins, &mut numbers);
                     assert_eq!(description(&numbers), record);
                 }
                 What::Append(record, _) => {
-                    put_element(&record, &mut numbers);
+                    put_element(&record, call.pins, &mut numbers);
                     assert_eq!(element(record.identifier(), &numbers), Some(record));
                 }
             }

@@ -1,7 +1,7 @@
 //! The records: one struct for each kind of element, and the description.
 //!
 //! Records hold no revision, no lengths and no reserved places. Their types are wide enough to
-//! hold numbers too large for their fields, which is what refusal 25 meets.
+//! hold numbers too large for their fields, which is what refusal 25 meets. Each used pin carries its chip.
 
 use crate::pins::Pin;
 use crate::units::{Centimetres, Deciamps, DegreesCentigrade, FourMilliamps, Rpm};

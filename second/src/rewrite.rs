@@ -5,6 +5,7 @@ use crate::access::walk;
 use crate::answer::{number, Refusal};
 use crate::element::{id, read_description, read_element};
 use crate::reader::check;
+use crate::settings::Settings;
 use crate::writer::{append, start};
 
 /// Puts the accepted table at the front of `out`, its reserved places at zero, and gives its length;
@@ -13,8 +14,8 @@ use crate::writer::{append, start};
 ///
 /// An entry point for benchmarks, and never inlined for that reason.
 #[inline(never)]
-pub fn rewrite(table: &[u8], out: &mut [u8]) -> Result<usize, Refusal> {
-    check(table).into_result()?;
+pub fn rewrite(table: &[u8], settings: Settings, out: &mut [u8]) -> Result<usize, Refusal> {
+    check(table, settings).into_result()?;
     let Some(out) = out.get_mut(..table.len()) else {
         return Err(Refusal::at(number::NO_ROOM, 0));
     };
@@ -25,15 +26,21 @@ pub fn rewrite(table: &[u8], out: &mut [u8]) -> Result<usize, Refusal> {
 
 /// The same from the table's records, by start and append. No place is cleared: the layout has zeros there.
 #[inline(never)]
-pub fn rewrite_by_records(table: &[u8], out: &mut [u8]) -> Result<usize, Refusal> {
-    check(table).into_result()?;
+pub fn rewrite_by_records(
+    table: &[u8],
+    settings: Settings,
+    out: &mut [u8],
+) -> Result<usize, Refusal> {
+    check(table, settings).into_result()?;
     if out.len() < table.len() {
         return Err(Refusal::at(number::NO_ROOM, 0));
     }
-    let mut length = start(out, &read_description(table))?;
+    let chip = settings.chip;
+    let mut length = start(out, chip, &read_description(table, chip))?;
     for (_, bytes) in walk(table) {
-        let (record, part) = read_element(bytes).ok_or(Refusal::at(number::LAYOUT, length))?;
-        length = append(out, &record, part)?;
+        let (record, part) =
+            read_element(bytes, chip).ok_or(Refusal::at(number::LAYOUT, length))?;
+        length = append(out, chip, &record, part)?;
     }
     Ok(length)
 }

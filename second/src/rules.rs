@@ -5,18 +5,19 @@
 use crate::blocks::{count_speed_blocks, register_blocks_fill, SpeedBlocks};
 use crate::pins::{Pin, ALL, ANALOGUE, CHIP_SELECT, FAN_LIST, STATUS_LED};
 use crate::record::*;
+use crate::settings::Chip;
 
 /// 25 for a description: serial over 24 bits, power units over 7.
 pub fn description_fits(description: &Description) -> bool {
     description.serial <= 0xFF_FFFF && description.power.0 <= 0x7F
 }
 
-/// 10 for a description: each hardware revision pin is unused or any of the 25.
-pub fn hardware_pins_good(description: &Description) -> bool {
+/// 10 for a description: each hardware revision pin is unused or any that the chip has.
+pub fn hardware_pins_good(description: &Description, chip: Chip) -> bool {
     description
         .hardware
         .iter()
-        .all(|pin| !pin.is_used() || ALL.contains(pin))
+        .all(|pin| !pin.is_used() || pin.is_of(chip, &ALL))
 }
 
 /// 25: every number that the record's type can hold and its field cannot.
@@ -90,30 +91,31 @@ fn light_good(light: &Light) -> bool {
     !light.pin.is_used() || (colour_good && purpose_good)
 }
 
-/// 10: every used pin exists, is permitted and keeps the rising order.
-pub fn pins_good(element: &Element) -> bool {
+/// 10: every used pin is one of the chip, exists, is permitted and keeps the rising order.
+pub fn pins_good(element: &Element, chip: Chip) -> bool {
     if let Some(attachment) = element.attachment() {
         return match attachment.address {
             Address::Bus(_) => true,
-            Address::Select(pin) => CHIP_SELECT.contains(&pin),
+            Address::Select(pin) => pin.is_of(chip, &CHIP_SELECT),
         };
     }
     match element {
-        Element::AnalogueSensor(e) => ANALOGUE.contains(&e.pin),
-        Element::Current(e) => ANALOGUE.contains(&e.pin),
-        Element::Fan(e) if e.tachometer.is_used() => rising(&[e.pwm, e.tachometer]),
-        Element::Fan(e) => rising(&[e.pwm]),
-        Element::RgbLed(e) => rising(&[e.red, e.green, e.blue]),
+        Element::AnalogueSensor(e) => e.pin.is_of(chip, &ANALOGUE),
+        Element::Current(e) => e.pin.is_of(chip, &ANALOGUE),
+        Element::Fan(e) if e.tachometer.is_used() => rising(&[e.pwm, e.tachometer], chip),
+        Element::Fan(e) => rising(&[e.pwm], chip),
+        Element::RgbLed(e) => rising(&[e.red, e.green, e.blue], chip),
         Element::StatusLed(e) => e
             .lights
             .iter()
-            .all(|light| !light.pin.is_used() || STATUS_LED.contains(&light.pin)),
+            .all(|light| !light.pin.is_used() || light.pin.is_of(chip, &STATUS_LED)),
         _ => true,
     }
 }
 
-/// All on the fan list, in strictly rising order of it; gaps are allowed.
-fn rising(pins: &[Pin]) -> bool {
+/// All on the fan list of the chip, in strictly rising order of it; gaps are allowed.
+fn rising(pins: &[Pin], chip: Chip) -> bool {
     let mut left = FAN_LIST.iter();
-    pins.iter().all(|pin| left.any(|listed| listed == pin))
+    pins.iter()
+        .all(|pin| left.any(|&listed| pin.is_of(chip, &[listed])))
 }

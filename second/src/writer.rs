@@ -5,41 +5,48 @@ use crate::element::word;
 use crate::layout;
 use crate::record::{Description, Element};
 use crate::rules;
+use crate::settings::Chip;
 
-/// Starts a table in the buffer; gives the new length, 16. Checks 1, 25, 4, 5, 10.
-pub fn start(buffer: &mut [u8], description: &Description) -> Result<usize, Refusal> {
+/// Starts a table for this chip in the buffer; gives the new length, 16. Checks 1, 25, 4, 5, 10; a pin of
+/// the other chip is 10 too.
+pub fn start(buffer: &mut [u8], chip: Chip, description: &Description) -> Result<usize, Refusal> {
     if buffer.len() < DESCRIPTION_LENGTH {
         return Err(Refusal::at(number::SHORT, 0));
     }
-    check_description(description).map_err(|number| Refusal::at(number, 0))?;
+    check_description(description, chip).map_err(|number| Refusal::at(number, 0))?;
     buffer[..DESCRIPTION_LENGTH].copy_from_slice(&layout::description(description));
     Ok(DESCRIPTION_LENGTH)
 }
 
-fn check_description(description: &Description) -> Result<(), u8> {
+fn check_description(description: &Description, chip: Chip) -> Result<(), u8> {
     if !rules::description_fits(description) {
         Err(number::TOO_LARGE)
     } else if !(1..=3).contains(&description.device_type) {
         Err(number::DEVICE_TYPE)
     } else if !description.self_powered && description.power.0 > 125 {
         Err(number::POWER)
-    } else if !rules::hardware_pins_good(description) {
+    } else if !rules::hardware_pins_good(description, chip) {
         Err(number::PIN)
     } else {
         Ok(())
     }
 }
 
-/// Appends one element to the table in the buffer; gives the new length.
+/// Appends one element to the table for this chip in the buffer; gives the new length.
 ///
-/// Checks 1, 3, 25, 8, 9, 10, 16. Of the bytes there it looks at 1-2 only, the length so far; it
-/// changes those two and the new element's bytes.
-pub fn append(buffer: &mut [u8], element: &Element, part: &[u8]) -> Result<usize, Refusal> {
+/// Checks 1, 3, 25, 8, 9, 10, 16; a pin of the other chip is 10 too. Of the bytes there it looks at 1-2
+/// only, the length so far; it changes those two and the new element's bytes.
+pub fn append(
+    buffer: &mut [u8],
+    chip: Chip,
+    element: &Element,
+    part: &[u8],
+) -> Result<usize, Refusal> {
     let so_far = length_so_far(buffer)?;
     if !rules::numbers_fit(element) {
         return Err(Refusal::at(number::TOO_LARGE, 0));
     }
-    check_element(element, part).map_err(|number| Refusal::at(number, so_far))?;
+    check_element(element, part, chip).map_err(|number| Refusal::at(number, so_far))?;
     let fixed = layout::fixed(element);
     let fixed = fixed.bytes();
     // A part is at most isize::MAX bytes, so that this sum cannot wrap.
@@ -70,12 +77,12 @@ fn length_so_far(buffer: &[u8]) -> Result<usize, Refusal> {
 }
 
 /// 8, 9, 10 on the record and its part.
-fn check_element(element: &Element, part: &[u8]) -> Result<(), u8> {
+fn check_element(element: &Element, part: &[u8], chip: Chip) -> Result<(), u8> {
     if !rules::part_fits(element, part) {
         Err(number::LAYOUT)
     } else if !rules::codes_good(element, part) {
         Err(number::CODE)
-    } else if !rules::pins_good(element) {
+    } else if !rules::pins_good(element, chip) {
         Err(number::PIN)
     } else {
         Ok(())

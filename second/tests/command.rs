@@ -1,6 +1,7 @@
 //! The program itself, run as a program.
 
 use second::generator::raw::{self, TABLE_A};
+use second::{Chip, Settings};
 use std::io::Write;
 use std::process::{Command, Output, Stdio};
 
@@ -80,7 +81,7 @@ fn makes_files_and_checks_them() {
     std::fs::remove_dir_all(&folder).unwrap();
     assert_eq!(bytes.len(), 4096);
     let line = String::from_utf8(out.stdout).unwrap();
-    let count = second::check(&bytes).beside();
+    let count = second::check(&bytes, Settings::default()).beside();
     assert_eq!(line, format!("0\t{count}\t{}\n", file.display()));
 }
 
@@ -94,7 +95,7 @@ fn holds_itself_against_itself() {
 
 #[test]
 fn misuse_is_told_and_gives_status_2() {
-    let misuses: [&[&str]; 9] = [
+    let misuses: [&[&str]; 20] = [
         &[],
         &["dance"],
         &["list", "extra"],
@@ -104,6 +105,19 @@ fn misuse_is_told_and_gives_status_2() {
         &["self", "--speed", "1"],
         &["make", "cake", "--seed", "1", "--count", "1", "somewhere"],
         &["bench", "now"],
+        &["list", "--chip"],
+        &["list", "--chip", "322"],
+        &["list", "--chip", "0320"],
+        &["list", "--chip", "f321"],
+        &["list", "--chip", ""],
+        &["list", "--chip", "320", "--chip", "320"],
+        &["list", "--chip=321"],
+        &["rewrite", "--chip", "321", "extra"],
+        &["check", "file", "--chip", "321"],
+        &["check", "--chip", "321"],
+        &[
+            "rows", "--seed", "1", "--count", "1", "--max", "1", "--chip", "321",
+        ],
     ];
     for arguments in misuses {
         let out = run(arguments, &[]);
@@ -114,4 +128,46 @@ fn misuse_is_told_and_gives_status_2() {
     }
     let gone = run(&["check", "/no/such/file"], &[]);
     assert_eq!(gone.status.code(), Some(1));
+}
+
+/// P2.4 as a hardware revision pin: good on the 320, which is meant if none is named.
+#[test]
+fn the_chip_is_named_behind_the_command() {
+    let mut table = TABLE_A;
+    table[9] = 0x24;
+    let listed = b"T\t0.90\t16\t2\t0\t7\tself\tP2.4\t-\t-\n";
+    assert_eq!(run(&["list"], &table).stdout, listed);
+    assert_eq!(run(&["list", "--chip", "320"], &table).stdout, listed);
+    let refused = run(&["list", "--chip", "321"], &table);
+    assert!(refused.status.success());
+    assert_eq!(refused.stdout, b"R\t10\t0\n");
+    assert_eq!(run(&["rewrite", "--chip", "320"], &table).stdout, table);
+    let refused = run(&["rewrite", "--chip", "321"], &table);
+    assert_eq!(refused.stdout, b"R\t10\t0\n");
+    let file = std::env::temp_dir().join(format!("second-chip-{}", std::process::id()));
+    std::fs::write(&file, table).unwrap();
+    let name = file.to_str().unwrap();
+    let answers = ["320", "321"].map(|chip| run(&["check", "--chip", chip, name], &[]).stdout);
+    std::fs::remove_file(&file).unwrap();
+    assert_eq!(answers[0], format!("0\t0\t{name}\n").into_bytes());
+    assert_eq!(answers[1], format!("10\t0\t{name}\n").into_bytes());
+}
+
+#[test]
+fn rows_and_tables_of_the_321() {
+    let mut arguments = ["rows", "--chip", "321", "--seed", "1", "--count", "200"].to_vec();
+    arguments.extend(["--max", "600"]);
+    let rows = String::from_utf8(run(&arguments, &[]).stdout).unwrap();
+    assert_eq!(rows.lines().count(), 200);
+    for line in rows.lines() {
+        let fields: Vec<&str> = line.split('\t').collect();
+        let byte = |at| u8::from_str_radix(&fields[0][at..at + 2], 16).unwrap();
+        let table: Vec<u8> = (0..fields[0].len()).step_by(2).map(byte).collect();
+        let verdict = second::check(&table, Settings { chip: Chip::F321 });
+        let answer = [verdict.number().to_string(), verdict.beside().to_string()];
+        assert_eq!(fields[1..], answer);
+    }
+    let own = ["self", "--chip", "321", "--seed", "9", "--count", "1000"];
+    let text = String::from_utf8(run(&own, &[]).stdout).unwrap();
+    assert!(text.ends_with("1000 tables, 0 differences\n"), "{text}");
 }

@@ -3,12 +3,12 @@
 
 mod common;
 
-use common::{changed, with};
+use common::{changed, with, zoned, ON_320, ON_321};
 use second::generator::raw::{self, Parts};
 use second::generator::{any, targeted};
 use second::numbers::Numbers;
 use second::random::Random;
-use second::{describe, fields, part_place, text_place, Refusal};
+use second::{describe, fields, part_place, text_place, Chip, Refusal, Settings};
 
 /// What stands in the numbers before a call.
 const JUNK: Numbers = [0xA5; 32];
@@ -30,7 +30,10 @@ fn named(elements: &[&[u8]]) -> Vec<u8> {
 #[track_caller]
 fn gives(element: &[u8], wanted: &[u8]) {
     let mut found = JUNK;
-    assert_eq!(fields(&named(&[element]), 0, &mut found), Ok(element[0]));
+    assert_eq!(
+        fields(&named(&[element]), 0, ON_320, &mut found),
+        Ok(element[0])
+    );
     assert_eq!(found, numbers(wanted));
 }
 
@@ -41,14 +44,14 @@ fn of_the_description() {
         0x01, 0, 0, 3, 0x44, 0x51, 0x52, 0x53, 0x7D, 0x30, 0xFF, 0x07, 0xFF, 0xFE, 0xFD, 0xFC,
     ];
     let mut found = JUNK;
-    assert_eq!(describe(&parts.bytes(), &mut found), Ok(()));
+    assert_eq!(describe(&parts.bytes(), ON_320, &mut found), Ok(()));
     let wanted = [3, 0x44, 0x51, 0x52, 0x53, 0, 0, 0x7D, 0x30, 0xFF, 0x07];
     assert_eq!(found, numbers(&wanted));
     // SPWR is 1, and the power units stand beside it.
     parts.description[8] = 0xFE;
-    assert_eq!(describe(&parts.bytes(), &mut found), Ok(()));
+    assert_eq!(describe(&parts.bytes(), ON_320, &mut found), Ok(()));
     assert_eq!(found[6..8], [1, 0x7E]);
-    assert_eq!(describe(&changed(&[(8, 0x80)]), &mut found), Ok(()));
+    assert_eq!(describe(&changed(&[(8, 0x80)]), ON_320, &mut found), Ok(()));
     assert_eq!(found, numbers(&[2, 0, 7, 0, 0, 0, 1, 0, 0xFF, 0xFF, 0xFF]));
 }
 
@@ -156,13 +159,13 @@ fn parts_and_texts() {
         (201, 204), // 3 and no text
     ];
     for (k, (from, to)) in wanted.into_iter().enumerate() {
-        assert_eq!(part_place(&table, k), Ok(from..to), "{k}");
+        assert_eq!(part_place(&table, k, ON_320), Ok(from..to), "{k}");
         let text = match k {
             9 => Some(193..198),
             10 => Some(204..204),
             _ => None,
         };
-        assert_eq!(text_place(&table, k), Ok(text), "{k}");
+        assert_eq!(text_place(&table, k, ON_320), Ok(text), "{k}");
     }
     assert_eq!(&table[193..198], b"eight");
 }
@@ -170,10 +173,10 @@ fn parts_and_texts() {
 #[track_caller]
 fn refused(table: &[u8], k: usize, refusal: Refusal) {
     let mut found = JUNK;
-    assert_eq!(fields(table, k, &mut found), Err(refusal));
+    assert_eq!(fields(table, k, ON_320, &mut found), Err(refusal));
     assert_eq!(found, JUNK);
-    assert_eq!(part_place(table, k), Err(refusal));
-    assert_eq!(text_place(table, k), Err(refusal));
+    assert_eq!(part_place(table, k, ON_320), Err(refusal));
+    assert_eq!(text_place(table, k, ON_320), Err(refusal));
 }
 
 #[test]
@@ -188,8 +191,11 @@ fn refusals_alter_nothing() {
         refused(&no_zone, k, Refusal::at(13, 16));
     }
     let mut found = JUNK;
-    assert_eq!(describe(&no_zone, &mut found), Err(Refusal::at(13, 16)));
-    assert_eq!(describe(&[], &mut found), Err(Refusal::at(1, 0)));
+    assert_eq!(
+        describe(&no_zone, ON_320, &mut found),
+        Err(Refusal::at(13, 16))
+    );
+    assert_eq!(describe(&[], ON_320, &mut found), Err(Refusal::at(1, 0)));
     assert_eq!(found, JUNK);
 }
 
@@ -197,20 +203,71 @@ fn refusals_alter_nothing() {
 #[test]
 fn as_the_other_calls() {
     let mut random = Random::new(41);
-    let generated: Vec<Vec<u8>> = (0..3_000).map(|_| any(&mut random)).collect();
+    let generated: Vec<Vec<u8>> = (0..3_000)
+        .map(|at| any(&mut random, Chip::BOTH[at % 2]))
+        .collect();
     let named = targeted().iter().map(|(_, table)| table);
-    for table in generated.iter().chain(named) {
+    let tables = generated.iter().chain(named).enumerate();
+    for (at, table) in tables {
+        let settings = Settings::from(Chip::BOTH[at / 2 % 2]);
         let mut found = JUNK;
-        let described = describe(table, &mut found);
-        assert_eq!(described.err(), second::description(table).err());
-        let count = second::check(table).beside().min(96);
+        let described = describe(table, settings, &mut found);
+        assert_eq!(described.err(), second::description(table, settings).err());
+        let count = second::check(table, settings).beside().min(96);
         for k in 0..=count {
             found = JUNK;
-            let element = second::element(table, k);
+            let element = second::element(table, k, settings);
             let identifier = element.map(|record| record.identifier());
-            assert_eq!(fields(table, k, &mut found), identifier);
-            let part = part_place(table, k).map_or(&[][..], |place| &table[place]);
-            assert_eq!(part, second::part(table, k));
+            assert_eq!(fields(table, k, settings, &mut found), identifier);
+            let part = part_place(table, k, settings).map_or(&[][..], |place| &table[place]);
+            assert_eq!(part, second::part(table, k, settings));
         }
     }
+}
+
+/// Byte 31 names the chip of every record whose kind has a pin place, used or not.
+#[test]
+fn of_the_chip() {
+    let mut found = JUNK;
+    let table = zoned(&[
+        raw::digital(1, 0, 0x40),
+        raw::digital(1, 3, 0x14),
+        raw::analogue(1, 0x20),
+        raw::fan(1, 5, 0xFF),
+        raw::led(1, [0xFF; 3]),
+        raw::current(1, 0x21),
+        raw::controller(1, 2, 0x40, &[1]),
+        raw::tachometer(1, 3, 0x14, 0, 0),
+        raw::rgb(1, 0x11, 0x12, 0x13),
+        raw::text(1, b"x"),
+    ]);
+    for (settings, chip) in [(ON_320, 0), (ON_321, 1)] {
+        assert_eq!(describe(&table, settings, &mut found), Ok(()));
+        assert_eq!(found[31], chip);
+        for k in 0..=10 {
+            let identifier = fields(&table, k, settings, &mut found).unwrap();
+            let pinless = matches!(identifier, 0x0B | 0x0C);
+            assert_eq!(found[31], if pinless { 0 } else { chip }, "{k}");
+        }
+    }
+    // All other bytes are the same on both chips.
+    let mut other = JUNK;
+    for k in 0..=10 {
+        fields(&table, k, ON_320, &mut found).unwrap();
+        fields(&table, k, ON_321, &mut other).unwrap();
+        assert_eq!(found[..31], other[..31]);
+    }
+}
+
+#[test]
+fn a_table_for_the_320_only_alters_nothing_on_the_321() {
+    let table = zoned(&[raw::led(1, [0xFF, 0x26, 0xFF])]);
+    let mut found = JUNK;
+    let refusal = Refusal::at(10, 46);
+    assert_eq!(describe(&table, ON_321, &mut found), Err(refusal));
+    assert_eq!(fields(&table, 0, ON_321, &mut found), Err(refusal));
+    assert_eq!(part_place(&table, 0, ON_321), Err(refusal));
+    assert_eq!(text_place(&table, 0, ON_321), Err(refusal));
+    assert_eq!(found, JUNK);
+    assert_eq!(fields(&table, 1, ON_320, &mut found), Ok(0x04));
 }

@@ -2,10 +2,13 @@
 
 use second::access::walk;
 use second::generator;
-use second::plain;
 use second::random::Random;
-use second::Verdict;
+use second::{plain, Chip, Settings, Verdict};
 use std::collections::HashSet;
+
+fn accepted(table: &[u8], chip: Chip) -> bool {
+    matches!(second::check(table, chip.into()), Verdict::Accepted(_))
+}
 
 /// Identifiers of all elements of an accepted table.
 fn kinds(table: &[u8]) -> Vec<u8> {
@@ -14,18 +17,25 @@ fn kinds(table: &[u8]) -> Vec<u8> {
 
 #[test]
 fn valid_tables_are_accepted_and_reach_every_bound() {
+    for chip in Chip::BOTH {
+        accepted_and_of_every_size(chip);
+    }
+}
+
+fn accepted_and_of_every_size(chip: Chip) {
+    let settings = Settings::from(chip);
     let mut random = Random::new(11);
     let mut sizes = HashSet::new();
     let mut counts = HashSet::new();
     let mut zones = HashSet::new();
     let mut seen = HashSet::new();
     for _ in 0..20_000 {
-        let table = generator::valid(&mut random);
-        let verdict = second::check(&table);
+        let table = generator::valid(&mut random, chip);
+        let verdict = second::check(&table, settings);
         let Verdict::Accepted(count) = verdict else {
             panic!("{verdict:?}: {table:02X?}");
         };
-        assert_eq!(plain::check(&table), verdict);
+        assert_eq!(plain::check(&table, settings), verdict);
         sizes.insert(table.len());
         counts.insert(count);
         let kinds = kinds(&table);
@@ -41,10 +51,17 @@ fn valid_tables_are_accepted_and_reach_every_bound() {
 /// Each use meets each pin it permits, shared selects, both powers and every number of blocks.
 #[test]
 fn valid_tables_use_all_that_is_permitted() {
+    // All but P1.0, and unused.
+    permitted_are_met(Chip::F320, [25, 18, 13, 18 + 1]);
+    permitted_are_met(Chip::F321, [21, 14, 9, 14 + 1]);
+}
+
+/// So many different bytes as hardware revision, chip select, analogue sensor and LED.
+fn permitted_are_met(chip: Chip, [hardware, selects, analogue, lights]: [usize; 4]) {
     let mut random = Random::new(14);
     let mut seen: HashSet<(&str, u8)> = HashSet::new();
     for _ in 0..5_000 {
-        let table = generator::valid(&mut random);
+        let table = generator::valid(&mut random, chip);
         seen.extend(table[9..12].iter().map(|&pin| ("hardware", pin)));
         seen.insert(("self-powered", table[8] >> 7));
         let mut selects = HashSet::new();
@@ -61,12 +78,12 @@ fn valid_tables_use_all_that_is_permitted() {
         }
     }
     let count = |name: &str| seen.iter().filter(|(of, _)| *of == name).count();
-    // All but P1.0, and unused.
-    assert_eq!(count("hardware"), 25);
+    assert_eq!(count("hardware"), hardware);
     assert_eq!(count("self-powered"), 2);
-    assert_eq!((count("select"), count("shared select")), (18, 18));
-    assert_eq!((count("analogue"), count("current")), (13, 13));
-    assert_eq!((count("light"), count("PWM")), (18 + 1, 5));
+    assert_eq!(count("select"), selects);
+    assert_eq!(count("shared select"), selects);
+    assert_eq!((count("analogue"), count("current")), (analogue, analogue));
+    assert_eq!((count("light"), count("PWM")), (lights, 5));
     // Four pins can follow a PWM pin, and unused; three can be red, three green, three blue.
     assert_eq!(count("tachometer"), 4 + 1);
     assert_eq!((count("red"), count("green"), count("blue")), (3, 3, 3));
@@ -90,9 +107,10 @@ fn pins_of(e: &[u8]) -> Vec<(&'static str, u8)> {
 fn mixed_tables_have_4096_bytes_and_all_ten_kinds() {
     let mut random = Random::new(12);
     let mut different = HashSet::new();
-    for _ in 0..1000 {
-        let table = generator::mixed(&mut random);
-        assert!(matches!(second::check(&table), Verdict::Accepted(_)));
+    for at in 0..1000 {
+        let chip = Chip::BOTH[at % 2];
+        let table = generator::mixed(&mut random, chip);
+        assert!(accepted(&table, chip));
         assert_eq!(table.len(), 4096);
         let kinds: HashSet<u8> = kinds(&table).into_iter().collect();
         assert_eq!(kinds.len(), 10, "{kinds:?}");
@@ -106,9 +124,10 @@ fn controller_tables_have_4096_bytes_and_one_zone() {
     let mut random = Random::new(13);
     let mut different = HashSet::new();
     let mut blocks_seen = HashSet::new();
-    for _ in 0..1000 {
-        let table = generator::controllers(&mut random);
-        assert!(matches!(second::check(&table), Verdict::Accepted(_)));
+    for at in 0..1000 {
+        let chip = Chip::BOTH[at % 2];
+        let table = generator::controllers(&mut random, chip);
+        assert!(accepted(&table, chip));
         assert_eq!(table.len(), 4096);
         let mut kinds = kinds(&table);
         kinds.retain(|&kind| kind != 0x09);
@@ -134,29 +153,67 @@ fn targeted_cases_have_different_names() {
 /// FNV-1a over many tables: a change of this number is a change of every recorded run.
 #[test]
 fn the_same_seed_gives_the_same_tables() {
-    let fingerprint = |seed: u64| {
+    let fingerprint = |seed: u64, chip: Chip| {
         let mut random = Random::new(seed);
         let mut hash: u64 = 0xCBF2_9CE4_8422_2325;
         for _ in 0..2000 {
-            for byte in generator::any(&mut random) {
+            for byte in generator::any(&mut random, chip) {
                 hash = (hash ^ u64::from(byte)).wrapping_mul(0x100_0000_01B3);
             }
         }
         hash
     };
-    assert_eq!(fingerprint(1), 0xEDF2_8B08_B7FB_BE05);
-    assert_eq!(fingerprint(2), 0x906B_DC3E_381A_392E);
+    let found = [(1, Chip::F320), (2, Chip::F321)].map(|(seed, chip)| fingerprint(seed, chip));
+    assert_eq!(found, [0x561B_EA1A_C174_0A9B, 0x4A1F_78F3_D2AC_ACCF]);
 }
 
 #[test]
 fn mixed_tables_have_as_many_elements_as_asked_for() {
     let mut random = Random::new(17);
     for elements in 1..=96 {
-        for _ in 0..20 {
-            let table = generator::mixed_of(&mut random, elements);
-            assert_eq!(second::check(&table), Verdict::Accepted(elements));
+        for at in 0..20 {
+            let chip = Chip::BOTH[at % 2];
+            let table = generator::mixed_of(&mut random, elements, chip);
+            let verdict = second::check(&table, chip.into());
+            assert_eq!(verdict, Verdict::Accepted(elements));
             let kinds: HashSet<u8> = kinds(&table).into_iter().collect();
             assert_eq!(kinds.len() == 10, elements >= 10, "{elements}: {kinds:?}");
         }
     }
+}
+
+/// Good tables use the four pins on the larger chip alone, and there for every use.
+#[test]
+fn tables_around_the_four() {
+    let mut random = Random::new(18);
+    let mut seen: HashSet<(&str, u8)> = HashSet::new();
+    for _ in 0..5_000 {
+        let table = generator::only_on_the_320(&mut random);
+        assert!(generator::touches_the_four(&table));
+        seen.extend(table[9..12].iter().map(|&pin| ("hardware", pin)));
+        seen.extend(walk(&table).flat_map(|(_, element)| pins_of(element)));
+        let table = generator::valid(&mut random, Chip::F321);
+        assert!(!generator::touches_the_four(&table));
+    }
+    for used in ["hardware", "select", "analogue", "current", "light"] {
+        for pin in generator::AROUND {
+            assert!(seen.contains(&(used, pin)), "{used} {pin:02X}h");
+        }
+    }
+}
+
+/// Whatever the bytes: where no pin place has one of the four, the chips do not differ.
+#[test]
+fn tables_that_touch_none_of_the_four() {
+    let mut random = Random::new(19);
+    let mut untouched = 0;
+    for at in 0..20_000 {
+        let table = generator::any(&mut random, Chip::BOTH[at % 2]);
+        if !generator::touches_the_four(&table) {
+            let [one, other] = Chip::BOTH.map(|chip| second::check(&table, chip.into()));
+            assert_eq!(one, other, "{table:02X?}");
+            untouched += 1;
+        }
+    }
+    assert!(untouched > 5_000);
 }

@@ -2,7 +2,7 @@
 
 mod common;
 
-use common::{changed, gives, with};
+use common::{changed, gives, with, ON_320};
 use second::generator::raw::{self, CONTROLLER_C, FAN_F, TABLE_A};
 
 /// Fan F with some bytes changed, in table A.
@@ -14,7 +14,7 @@ fn with_fan(changes: &[(usize, u8)]) -> Vec<u8> {
 fn table_a() {
     gives(&TABLE_A, 0, 0);
     assert_eq!(
-        second::listing(&TABLE_A),
+        second::listing(&TABLE_A, ON_320),
         b"T\t0.90\t16\t2\t0\t7\tself\t-\t-\t-\n"
     );
     gives(&TABLE_A[..15], 1, 0);
@@ -64,7 +64,7 @@ fn fans_and_zone_1() {
     let zone = raw::zone(1, 0);
     let table = raw::table(&[fan.clone(), zone.clone()]);
     gives(&table, 0, 2);
-    let text = String::from_utf8(second::listing(&table)).unwrap();
+    let text = String::from_utf8(second::listing(&table, ON_320)).unwrap();
     assert_eq!(text.lines().nth(1), Some("E\t16\t03\t1\tP0.5,P0.6"));
     gives(&raw::table(&[fan.clone(), fan.clone(), zone]), 15, 32);
     gives(&raw::table(&[fan.clone(), fan]), 13, 16);

@@ -2,15 +2,15 @@
 
 mod common;
 
-use common::{changed, with, zoned};
+use common::{changed, with, zoned, ON_320, ON_321};
 use second::generator::raw::{self, Parts};
 use second::generator::{any, mixed, targeted, valid};
 use second::listing::LISTING;
-use second::plain;
 use second::random::Random;
+use second::{plain, Chip, Settings};
 
 fn text(table: &[u8]) -> String {
-    String::from_utf8(second::listing(table)).unwrap()
+    String::from_utf8(second::listing(table, ON_320)).unwrap()
 }
 
 #[test]
@@ -92,31 +92,62 @@ fn zone_numbers_and_strings() {
 
 /// The fast listing is the plain one, and leaves the rest of its buffer.
 #[track_caller]
-fn same(table: &[u8]) -> usize {
+fn same(table: &[u8], chip: Chip) -> usize {
+    let settings = Settings::from(chip);
     let mut out = [0xA5; LISTING];
-    let length = second::list(table, &mut out);
-    assert_eq!(out[..length], plain::listing(table), "{table:02X?}");
-    assert_eq!(second::listing(table), out[..length]);
+    let length = second::list(table, settings, &mut out);
+    assert_eq!(
+        out[..length],
+        plain::listing(table, settings),
+        "{table:02X?}"
+    );
+    assert_eq!(second::listing(table, settings), out[..length]);
     assert!(out[length..].iter().all(|&byte| byte == 0xA5));
     length
+}
+
+/// What both chips accept has one listing: it prints no chip.
+#[test]
+fn the_chip_is_not_printed() {
+    let table = zoned(&[raw::analogue(1, 0x23), raw::digital(1, 3, 0x30)]);
+    assert_eq!(
+        second::listing(&table, ON_321),
+        second::listing(&table, ON_320)
+    );
+    let table = zoned(&[raw::analogue(1, 0x24)]);
+    assert_eq!(second::listing(&table, ON_321), b"R\t10\t46\n");
+    assert!(text(&table).ends_with("E\t46\t02\t1\tP2.4\n"));
+    let mut random = Random::new(33);
+    for _ in 0..2_000 {
+        let table = valid(&mut random, Chip::F321);
+        assert_eq!(
+            second::listing(&table, ON_321),
+            second::listing(&table, ON_320)
+        );
+    }
 }
 
 #[test]
 fn fast_and_plain_are_the_same() {
     let mut random = Random::new(31);
-    for _ in 0..20_000 {
-        same(&any(&mut random));
-        same(&valid(&mut random));
+    for at in 0..20_000 {
+        let (chip, made_for) = (Chip::BOTH[at % 2], Chip::BOTH[at / 2 % 2]);
+        same(&any(&mut random, made_for), chip);
+        same(&valid(&mut random, made_for), chip);
     }
     for (_, table) in targeted() {
-        same(table);
+        for chip in Chip::BOTH {
+            same(table, chip);
+        }
     }
 }
 
 #[test]
 fn the_longest_lines_have_room() {
     let mut random = Random::new(32);
-    for _ in 0..300 {
-        assert!(same(&mixed(&mut random)) <= 47 + 96 * 29);
+    for chip in Chip::BOTH {
+        for _ in 0..300 {
+            assert!(same(&mixed(&mut random, chip), chip) <= 47 + 96 * 29);
+        }
     }
 }

@@ -3,8 +3,10 @@
 
 mod common;
 
-use common::{changed, gives, with, zoned};
+use common::{changed, gives, gives_on, with, zoned, ON_320};
 use second::generator::raw::{self, Parts, TABLE_A};
+use second::pins::ONLY_320;
+use second::Chip;
 
 #[test]
 fn rule_1_before_2_before_3() {
@@ -45,7 +47,7 @@ fn self_powered_with_any_power_units_is_good() {
         gives(&changed(&[(8, power)]), number, 0);
         let mut out = [0; 16];
         if number == 0 {
-            second::rewrite(&changed(&[(8, power)]), &mut out).unwrap();
+            second::rewrite(&changed(&[(8, power)]), ON_320, &mut out).unwrap();
             assert_eq!(out[8], power);
         }
     }
@@ -241,9 +243,9 @@ fn the_part_of_a_tachometer_starts_at_12() {
     gives(&zoned(&[with(&[(11, 0xFF)], whole.clone())]), 0, 2);
     gives(&zoned(&[with(&[(12, 1)], whole.clone())]), 8, 46);
     let table = zoned(&[with(&[(11, 0xFF)], raw::tachometer(1, 0, 0x40, 1, 0))]);
-    assert_eq!(second::part(&table, 1), &[1, 7, 0, 0, 0, 0]);
+    assert_eq!(second::part(&table, 1, ON_320), &[1, 7, 0, 0, 0, 0]);
     let table = zoned(&[raw::controller(1, 0, 0x40, &[1])]);
-    assert_eq!(second::part(&table, 1), &[5, 1, 7, 0, 0, 0]);
+    assert_eq!(second::part(&table, 1, ON_320), &[5, 1, 7, 0, 0, 0]);
 }
 
 /// An element, and its reserved places with the bits to set there.
@@ -278,7 +280,7 @@ fn reserved_places_complete() {
     table[12..16].fill(0xFF);
     gives(&table, 0, 8);
     let mut out = vec![0xA5; table.len()];
-    assert_eq!(second::rewrite(&table, &mut out), Ok(table.len()));
+    assert_eq!(second::rewrite(&table, ON_320, &mut out), Ok(table.len()));
     assert_eq!(out, zoned(&clean));
 }
 
@@ -287,9 +289,9 @@ fn zone_byte_5_is_content() {
     let zone = with(&[(5, 0xFF)], raw::zone(1, 0));
     let table = raw::table(std::slice::from_ref(&zone));
     let mut out = vec![0; table.len()];
-    second::rewrite(&table, &mut out).unwrap();
+    second::rewrite(&table, ON_320, &mut out).unwrap();
     assert_eq!(out, table);
-    assert_eq!(second::part(&table, 0), &zone[3..]);
+    assert_eq!(second::part(&table, 0, ON_320), &zone[3..]);
 }
 
 #[test]
@@ -315,7 +317,7 @@ fn colour_and_purpose_beside_used_and_unused_pins() {
         let table = zoned(&[dark]);
         gives(&table, 0, 2);
         let mut out = vec![0; table.len()];
-        second::rewrite(&table, &mut out).unwrap();
+        second::rewrite(&table, ON_320, &mut out).unwrap();
         assert_eq!(out, table);
         let good = (1..=5).contains(&(code >> 4)) && code & 15 <= 4;
         let lit = with(&[(9, code)], raw::led(1, [0x14, 0xFF, 0xFF]));
@@ -350,16 +352,20 @@ fn pulses_and_tachometers() {
 
 #[test]
 fn thirteen_pins_and_not_the_bytes_between() {
-    let mut good = 0;
-    for pin in 0x14..=0x30 {
-        if matches!(pin, 0x14..=0x17 | 0x20..=0x27 | 0x30) {
-            good += 1;
-            gives(&zoned(&[raw::analogue(1, pin)]), 0, 2);
-        } else {
-            gives(&zoned(&[raw::analogue(1, pin)]), 10, 46);
+    let mut good = [0; 2];
+    for (chip, good) in Chip::BOTH.into_iter().zip(&mut good) {
+        for pin in 0x14..=0x30 {
+            let table = zoned(&[raw::analogue(1, pin)]);
+            let lacking = chip == Chip::F321 && ONLY_320.contains(&pin);
+            if matches!(pin, 0x14..=0x17 | 0x20..=0x27 | 0x30) && !lacking {
+                *good += 1;
+                gives_on(chip, &table, 0, 2);
+            } else {
+                gives_on(chip, &table, 10, 46);
+            }
         }
     }
-    assert_eq!(good, 13);
+    assert_eq!(good, [13, 9]);
 }
 
 #[test]

@@ -3,16 +3,30 @@
 mod common;
 
 use second::element::{read_description, read_element};
-use second::generator::{self, raw, What};
+use second::generator::{self, raw, What, WriterCall};
 use second::histogram::Histogram;
 use second::layout;
 use second::pins::Pin;
 use second::random::Random;
 use second::record::*;
 use second::units::FourMilliamps;
-use second::{append, start, Refusal, Verdict};
+use second::{Chip, Refusal, Verdict};
 
 const CALLS: usize = 60_000;
+
+/// The hand-made calls are on the 320; `chips` has those of both.
+fn start(buffer: &mut [u8], record: &Description) -> Result<usize, Refusal> {
+    second::start(buffer, Chip::F320, record)
+}
+
+fn append(buffer: &mut [u8], record: &Element, part: &[u8]) -> Result<usize, Refusal> {
+    second::append(buffer, Chip::F320, record, part)
+}
+
+/// A pin of the 320.
+fn pin(byte: u8) -> Pin {
+    Pin::on(Chip::F320, byte)
+}
 
 /// The length that bytes 1-2 say.
 fn said(buffer: &[u8]) -> usize {
@@ -20,26 +34,28 @@ fn said(buffer: &[u8]) -> usize {
 }
 
 /// After a success only the new bytes have changed, and they read back as the record.
-fn appended(before: &[u8], after: &[u8], new: usize, element: &Element, part: &[u8]) {
+fn appended(call: &WriterCall, after: &[u8], new: usize, element: &Element, part: &[u8]) {
+    let before = &call.buffer;
     let old = said(before);
     assert_eq!(said(after), new);
     assert_eq!((before[0], &before[3..old]), (after[0], &after[3..old]));
     assert_eq!(before[new..], after[new..]);
     let bytes = &after[old..new];
     assert_eq!(said(bytes), bytes.len());
-    assert_eq!(read_element(bytes), Some((*element, part)));
+    assert_eq!(read_element(bytes, call.chip), Some((*element, part)));
     // Alone in table A the element breaks none of the pass's rules.
-    let number = second::check(&raw::table(&[bytes.to_vec()])).number();
+    let number = second::check(&raw::table(&[bytes.to_vec()]), call.chip.into()).number();
     assert!(matches!(number, 0 | 13..=15) || bytes.len() > 4080);
 }
 
-fn started(before: &[u8], after: &[u8], new: usize, description: &Description) {
+fn started(call: &WriterCall, after: &[u8], new: usize, description: &Description) {
+    let before = &call.buffer;
     assert_eq!(new, 16);
     assert_eq!((after[0], said(after)), (1, 16));
     assert_eq!(after[12..16], [0; 4]);
     assert_eq!(before[16..], after[16..]);
-    assert_eq!(read_description(after), *description);
-    let verdict = second::check(&after[..16]);
+    assert_eq!(read_description(after, call.chip), *description);
+    let verdict = second::check(&after[..16], call.chip.into());
     assert!(matches!(verdict.number(), 0 | 14 | 15));
 }
 
@@ -52,16 +68,20 @@ fn generated_calls() {
         let call = generator::writer_call(&mut random);
         let mut buffer = call.buffer.clone();
         let (answer, histogram, element_place) = match &call.what {
-            What::Start(record) => (start(&mut buffer, record), &mut starts, 0),
+            What::Start(record) => {
+                let answer = second::start(&mut buffer, call.chip, record);
+                (answer, &mut starts, 0)
+            }
             What::Append(record, part) => {
                 let place = call.buffer.get(..3).map_or(0, said);
-                (append(&mut buffer, record, part), &mut appends, place)
+                let answer = second::append(&mut buffer, call.chip, record, part);
+                (answer, &mut appends, place)
             }
         };
         match (answer, &call.what) {
-            (Ok(new), What::Start(record)) => started(&call.buffer, &buffer, new, record),
+            (Ok(new), What::Start(record)) => started(&call, &buffer, new, record),
             (Ok(new), What::Append(record, part)) => {
-                appended(&call.buffer, &buffer, new, record, part);
+                appended(&call, &buffer, new, record, part);
             }
             (Err(Refusal { number, place }), _) => {
                 assert_eq!(buffer, call.buffer);
@@ -101,24 +121,25 @@ fn append_and_the_fast_reader_agree_on_8_9_10() {
     let mut random = Random::new(32);
     let mut histogram = Histogram::new();
     for _ in 0..CALLS {
-        let What::Append(element, part) = generator::writer_call(&mut random).what else {
+        let call = generator::writer_call(&mut random);
+        let (chip, What::Append(element, part)) = (call.chip, call.what) else {
             continue;
         };
         let fixed = layout::fixed(&element);
         let body = [&fixed.bytes()[3..], &part].concat();
-        if !kind_fits(&element) || body.len() > 4077 {
+        if !kind_fits(&element) || body.len() > 4077 || call.pins != chip {
             continue;
         }
         let mut buffer = raw::TABLE_A.to_vec();
         buffer.resize(4096, 0);
-        let answer = append(&mut buffer, &element, &part);
+        let answer = second::append(&mut buffer, chip, &element, &part);
         let table = raw::table(&[raw::element(element.identifier(), &body)]);
         let number = match answer {
             Ok(_) => 0,
             Err(Refusal { number: 25, .. }) => continue,
             Err(refusal) => refusal.number,
         };
-        let read = match second::check(&table) {
+        let read = match second::check(&table, chip.into()) {
             Verdict::Refused { number, place: 16 } if (6..=12).contains(&number) => number,
             _ => 0,
         };
@@ -129,13 +150,13 @@ fn append_and_the_fast_reader_agree_on_8_9_10() {
 }
 
 fn plain_description() -> Description {
-    read_description(&raw::TABLE_A)
+    read_description(&raw::TABLE_A, Chip::F320)
 }
 
 #[test]
 fn start_checks_1_25_4_5_10_in_this_order() {
     let mut record = plain_description();
-    record.hardware[2] = Pin(0x31);
+    record.hardware[2] = pin(0x31);
     let mut buffer = [0xA5; 16];
     assert_eq!(start(&mut buffer, &record), Err(Refusal::at(10, 0)));
     record.self_powered = false;
@@ -171,14 +192,14 @@ fn start_at_the_edges_of_its_fields() {
     assert_eq!(buffer[5..8], [0xFF; 3]);
     assert_eq!(buffer[16..], [0xA5; 4]);
     // Clashes and missing strings are the reader's to refuse.
-    record.hardware = [Pin(0x10); 3];
+    record.hardware = [pin(0x10); 3];
     record.string = 9;
     assert_eq!(start(&mut buffer, &record), Ok(16));
 }
 
 /// The record and part of one element as it would stand in a table.
 fn record(bytes: &[u8]) -> (Element, Vec<u8>) {
-    let (element, part) = read_element(bytes).unwrap();
+    let (element, part) = read_element(bytes, Chip::F320).unwrap();
     (element, part.to_vec())
 }
 
@@ -331,7 +352,7 @@ fn addresses_of_the_other_kind_are_9_and_too_large_ones_25() {
         append(&mut buffer(100, 16), &controller(bus_type, address), &part)
     };
     let bus = Address::Bus;
-    let select = |pin| Address::Select(Pin(pin));
+    let select = |byte| Address::Select(pin(byte));
     assert_eq!(call(0, bus(0x7F)), Ok(33));
     assert_eq!(call(0, bus(0x80)), Err(Refusal::at(25, 0)));
     assert_eq!(call(3, bus(0x80)), Err(Refusal::at(25, 0)));

@@ -6,7 +6,6 @@ too_long="3 at 0: the file has more than 4,096 bytes, and no table is longer; th
 other_start="2 at 0: byte 0 is 00h, and a table of revision 0.90 starts with 01h; this is another kind of file, or its start was overwritten"
 empty="1 at 0: the file is empty, and a table has at least 16 bytes; copy the table again from where it came"
 no_file="cannot be read: there is no such file; look at its name"
-no_option="cannot be read: there is no such file, and there are no options; './esa help' tells how to use it"
 no_input="cannot be read: there is no such file, and standard input is not read; name a table"
 folder="cannot be read: it is a folder; name the tables in it"
 barred="cannot be read: you may not read it; look at its permissions"
@@ -29,7 +28,6 @@ odd_files() {
     try "a byte too many" gives 1 "longer: 3 at 0: bytes 1-2 say that the table has 326 bytes, and the file has 327; copy it again, or mend bytes 1-2 if elements were added or taken out by hand" check longer
     try "a file that is not there" gives 2 "missing: $no_file" check missing
     try "an empty name" gives 2 ": cannot be read: its name is empty; name a table" check ''
-    try "an option that is none" gives 2 "--all: $no_option" check --all
     try "a dash for standard input" gives 2 "-: $no_input" check -
     try "a folder" gives 2 "box: $folder" check box
     try "a link to nowhere" gives 2 "dangling: cannot be read: it is a link to a file that is not there" check dangling

@@ -11,23 +11,27 @@ ready() {
     rewrite=$("$root/tools/as-rt" "$root/target/bin/rewrite") || exit 2
 }
 
+# The words of every program that is run: an option that names a chip, or none.
+option=''
+
 # Runs a program on standard input: its output and its status go to files. It never needs 20 s: then the status is 124.
 runs() { # PROGRAM COMMAND
     status=0
-    eval "timeout 20 $2" >"$work/$1" 2>"$work/$1.err" || status=$?
+    eval "timeout 20 $2 $option" >"$work/$1" 2>"$work/$1.err" || status=$?
     echo "$status" >"$work/$1.status"
 }
 
+# shellcheck disable=SC2086
 wanted() { # FILE
-    "$second" list <"$1" >"$work/list.wanted" || die "the second program cannot list $1"
-    "$second" rewrite <"$1" >"$work/rewrite.wanted" || die "the second program cannot rewrite $1"
+    "$second" list $option <"$1" >"$work/list.wanted" || die "the second program cannot list $1"
+    "$second" rewrite $option <"$1" >"$work/rewrite.wanted" || die "the second program cannot rewrite $1"
 }
 
 # Status 0, the bytes that are wanted, and nothing on standard error.
 same() { # NAME PROGRAM
     read -r status <"$work/$2.status"
     if [ "$status" = 0 ] && cmp -s "$work/$2" "$work/$2.wanted" && [ ! -s "$work/$2.err" ]; then return 0; fi
-    printf 'wrong: %s: %s has status %s and says\n' "$1" "$2" "$status"
+    printf 'wrong: %s: %s %s has status %s and says\n' "$1" "$2" "$option" "$status"
     cat "$work/$2" "$work/$2.err" | od -c | sed -n '1,8p'
     return 1
 }
@@ -42,13 +46,20 @@ judge() { # NAME
     [ $right = yes ] || wrong=$((wrong + 1))
 }
 
-# A file, to both programs at once.
-hold() { # NAME FILE
-    runs list "$list" <"$2" &
-    runs rewrite "$rewrite" <"$2"
-    wanted "$2"
+# A file, to both programs at once, on one chip.
+hold_on() { # CHIP NAME FILE
+    option="--chip $1"
+    runs list "$list" <"$3" &
+    runs rewrite "$rewrite" <"$3"
+    wanted "$3"
     wait
-    judge "$1"
+    judge "$2"
+    option=''
+}
+
+hold() { # NAME FILE
+    hold_on 320 "$1" "$2"
+    hold_on 321 "$1" "$2"
 }
 
 # The bytes of a file, through a pipe that a command fills.

@@ -7,13 +7,15 @@ samples() {
     done
 }
 
-# A table in hex, and what the first line of its listing starts with: R, number, place of a refusal; T of a good one.
+# A table in hex, and what the first line of its listing starts with on either chip: R, number, place of a refusal; T of a good one.
 row() { # NAME HEX LINE
     "$root/tools/bytes" "$2" >"$work/row" || die "the row '$1' is not in hex"
-    hold "$1" "$work/row"
-    case $(head -n 1 "$work/list" | tr '\t' ' ') in "$3"*) return ;; esac
-    printf "wrong: %s: document 01 wants '%s'\n" "$1" "$3"
-    [ "$right" = no ] || wrong=$((wrong + 1))
+    for chip in 320 321; do
+        hold_on $chip "$1" "$work/row"
+        case $(head -n 1 "$work/list" | tr '\t' ' ') in "$3"*) continue ;; esac
+        printf "wrong: %s: on the %s document 01 wants '%s'\n" "$1" $chip "$3"
+        [ "$right" = no ] || wrong=$((wrong + 1))
+    done
 }
 
 # Table A with its length mended; its parts as document 01 writes them out.
@@ -67,17 +69,22 @@ known_rows() {
     unstarred_rows
 }
 
-make() { # KIND COUNT
-    "$second" make "$1" --seed "$seed" --count "$2" "$work/tables" || die "no tables were made"
+make() { # CHIP KIND COUNT
+    "$second" make --chip "$1" "$2" --seed "$seed" --count "$3" "$work/tables-$1" || die "no tables were made"
 }
 
 # Half of any sort, a quarter of good ones with every kind, a quarter of damaged ones.
-generated() {
-    quarter=$((count / 4))
-    make any $((count - 2 * quarter))
-    make mixed $quarter
-    make damaged $quarter
-    for file in "$work"/tables/*.bin; do
-        [ ! -f "$file" ] || hold "seed $seed, ${file##*/}" "$file"
+generated_for() { # CHIP COUNT
+    quarter=$(($2 / 4))
+    make "$1" any $(($2 - 2 * quarter))
+    make "$1" mixed $quarter
+    make "$1" damaged $quarter
+    for file in "$work/tables-$1"/*.bin; do
+        [ ! -f "$file" ] || hold "seed $seed for the $1, ${file##*/}" "$file"
     done
+}
+
+generated() {
+    generated_for 320 $((count - count / 2))
+    generated_for 321 $((count / 2))
 }

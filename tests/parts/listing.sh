@@ -26,7 +26,6 @@ listing() {
     try "list of 10 MB that start like a table" gives 1 "R	3	0" list large
     try "list of a file that is not there" complains 2 "esa: missing $no_file" list missing
     try "list of a folder" complains 2 "esa: box is a folder; list takes one table, so name a file in it" list box
-    try "list of an option that is none" complains 2 "esa: --all $no_option" list --all
     rm -f ./-
     try "list of a dash for standard input" complains 2 "esa: - $no_input" list -
     try "list of a link to nowhere" complains 2 "esa: dangling cannot be read: it is a link to a file that is not there" list dangling

@@ -60,14 +60,13 @@ refused() {
 unwritable() {
     try "a table that is not there" complains 2 "esa: missing $no_file" rewrite missing out
     try "a table that is a folder" complains 2 "esa: box is a folder; rewrite takes one table, so name a file in it" rewrite box out
-    try "a table that is an option" complains 2 "esa: --all $no_option" rewrite --all out
     try "a table that is a dash" complains 2 "esa: - $no_input" rewrite - out
     try "OUT that is a folder" complains 2 "esa: box is a folder; name the file to write to" rewrite good box
     try "OUT that is a device" complains 2 "esa: /dev/null is no ordinary file; name another file to write to" rewrite good /dev/null
     try "OUT that is a link to nowhere at all" complains 2 "esa: lost is a link to nowhere; name the file to write to" rewrite good lost
     try "OUT in a folder that is not there" complains 2 "esa: nowhere/out cannot be written: there is no folder ./nowhere; make it first" rewrite good nowhere/out
     try "OUT in a folder where no file can be made" complains 2 "esa: /proc/out cannot be written: no file can be made in /proc; look at its permissions" rewrite good /proc/out
-    try "OUT that is an option" complains 2 "esa: there is no option '--force'; if it is the name to write to, put ./ before it" rewrite good --force
+    try "OUT that is an option" complains 2 "esa: there is no option '--force'; if it is a file, put ./ before it" rewrite good --force
     try "OUT that is a dash" complains 2 "esa: rewrite does not write to standard output; name a file to write to" rewrite good -
     try "no file with a dash is made" eval '[ ! -e ./--force ] && [ ! -e ./- ]'
     try "OUT is as it was after all that" same out good

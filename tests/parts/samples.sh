@@ -30,11 +30,12 @@ under() { # COMMAND TEXT
     COMMAND="\$ $1" awk '$0 == "" { on = 0 } on { print } $0 == ENVIRON["COMMAND"] { on = 1 }' "$2"
 }
 
-# A command prints, on either output, what the text has under it.
+# A command, with its options, prints on either output what the text has under it.
 as_the_text_says() { # COMMAND NAME STATUS
     under "./esa $1 tables/$2.esa" "$tables/$2.txt" >"$work/wanted"
     status=0
-    (cd "$root" && ./esa "$1" "tables/$2.esa") >"$work/seen.out" 2>&1 || status=$?
+    # shellcheck disable=SC2086
+    (cd "$root" && ./esa $1 "tables/$2.esa") >"$work/seen.out" 2>&1 || status=$?
     : >"$work/seen.err"
     [ -s "$work/wanted" ] && [ "$status" = "$3" ] && cmp -s "$work/seen.out" "$work/wanted" || show
 }
@@ -45,8 +46,15 @@ sample() { # NAME STATUS
     try "./esa list of $1 is as its text says" as_the_text_says list "$1" "$2"
 }
 
-five_samples() {
-    [ "$(find "$tables" -type f | wc -l)" -eq 10 ]
+# A sample that is refused on the 321 alone.
+sample_of_the_320() { # NAME
+    sample "$1" 0
+    try "./esa check --chip 321 of $1 is as its text says" as_the_text_says 'check --chip 321' "$1" 1
+    try "./esa list --chip 321 of $1 is as its text says" as_the_text_says 'list --chip 321' "$1" 1
+}
+
+six_samples() {
+    [ "$(find "$tables" -type f | wc -l)" -eq 12 ]
 }
 
 samples() {
@@ -55,5 +63,6 @@ samples() {
     sample spring 1
     sample lamp 1
     sample twice 1
-    try "five sample tables with a text each, and nothing else" five_samples
+    sample_of_the_320 larger-chip
+    try "six sample tables with a text each, and nothing else" six_samples
 }

@@ -1,4 +1,4 @@
-# Part of tests/esa: what is said of each table of sentences.tsv.
+# Part of tests/esa: what is said of each table of sentences.tsv, and on the 321 of each of sentences-321.tsv.
 # shellcheck shell=sh disable=SC2015,SC2154
 
 # Lines of hex as lines of octal escapes for printf.
@@ -14,9 +14,9 @@ octal() {
 }
 
 # The tables as files, in the order of their lines.
-make_tables() { # FOLDER
+make_tables() { # FOLDER TEXTS
     mkdir "$1"
-    sed '/^#/d' "$parts/sentences.tsv" | cut -f 1 | octal >"$work/octal"
+    sed '/^#/d' "$2" | cut -f 1 | octal >"$work/octal"
     n=1000
     while IFS= read -r bytes; do
         n=$((n + 1))
@@ -25,15 +25,22 @@ make_tables() { # FOLDER
     done <"$work/octal"
 }
 
-sentences() {
-    make_tables "$work/sentences"
-    ran check sentences/*
-    try "status 1 where some tables are refused" [ "$status" = 1 ]
+sentences_of() { # NAME WORD...
+    name=$1
+    shift
+    make_tables "$work/$name" "$parts/$name.tsv"
+    ran check "$@" "$name"/*
+    try "status 1 where some tables of $name are refused" [ "$status" = 1 ]
     n=1000
-    sed '/^#/d' "$parts/sentences.tsv" | cut -f 2 >"$work/said"
+    sed '/^#/d' "$parts/$name.tsv" | cut -f 2 >"$work/said"
     while IFS= read -r said; do
         n=$((n + 1))
-        try "sentence: $said" [ "$(sed -n "$((n - 1000))p" "$work/seen.out")" = "sentences/$n: $said" ]
+        try "$name: $said" [ "$(sed -n "$((n - 1000))p" "$work/seen.out")" = "$name/$n: $said" ]
     done <"$work/said"
-    try "a line for each table of sentences.tsv" [ "$(wc -l <"$work/seen.out")" -eq $((n - 1000)) ]
+    try "a line for each table of $name.tsv" [ "$(wc -l <"$work/seen.out")" -eq $((n - 1000)) ]
+}
+
+sentences() {
+    sentences_of sentences
+    sentences_of sentences-321 --chip 321
 }

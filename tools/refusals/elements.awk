@@ -1,5 +1,5 @@
 # What stands in a table's bytes, read from T, the table in hex: for the sentences of the refusals only. The answers are the
-# proved reader's.
+# proved reader's. The variable chip is 320 or 321.
 
 BEGIN {
     names = "digital thermal sensor,analogue thermal sensor,PWM fan,status LED,analogue water level,pump PWM,voltage," \
@@ -10,10 +10,12 @@ BEGIN {
     split("21,20,16,14,0,0,0,14,0,0,30,0,0,11", lengths, ",")
     split("first,second,third", ordinals, ",")
     split("red,green,blue", colours, ",")
+    upper = chip == 321 ? "P1.4 to P2.3, or P3.0" : "P1.4 to P3.0"
+    all_pins = chip == 321 ? "P0.0 to P2.3 and P3.0" : "P0.0 to P2.7 and P3.0"
     allowed["fan"] = "P0.5, P0.6, P1.1, P1.2 or P1.3"
-    allowed["analogue"] = "a pin from P1.4 to P3.0"
-    allowed["select"] = "a pin from P1.4 to P3.0, or P0.5, P0.6, P1.1, P1.2 or P1.3"
-    allowed["lamp"] = "a pin from P0.0 to P0.4 or P1.4 to P3.0"
+    allowed["analogue"] = "a pin from " upper
+    allowed["select"] = "a pin from " upper ", or P0.5, P0.6, P1.1, P1.2 or P1.3"
+    allowed["lamp"] = "a pin from P0.0 to P0.4 or " upper
 }
 
 function digit(i) { return index("123456789ABCDEF", substr(T, i, 1)) }
@@ -38,6 +40,9 @@ function named(p) { return kind(p) " at byte " p }
 function pin_name(b) { return "P" int(b / 16) "." b % 16 }
 
 function exists(b) { return b < 40 && b % 16 < 8 || b == 48 }
+
+# P2.4 to P2.7 are on the C8051F320 alone.
+function lacking(b) { return chip == 321 && b >= 36 && b <= 39 }
 
 function rank(b) { return b == 5 ? 1 : b == 6 ? 2 : b >= 17 && b <= 19 ? b - 14 : 0 }
 

@@ -1,4 +1,4 @@
-# awk -f elements.awk -f claims.awk -f sentences.awk texts.tsv - <LINES
+# awk -v chip=320|321 -f elements.awk -f claims.awk -f sentences.awk texts.tsv - <LINES
 # Turns the lines of the program verdicts into sentences: word, then text, parted by a tab, where the word is ok, R or X. A
 # refusal's text is 'NUMBER at PLACE: SENTENCE'. The words of the sentences stand in texts.tsv.
 
@@ -163,11 +163,13 @@ function of_entries(    p, n) {
 
 # 10
 function of_revision_pins(    i) {
-    for (i = 0; i < 2 && (byte(9 + i) == 255 || exists(byte(9 + i))); i++) continue
+    for (i = 0; i < 2 && (byte(9 + i) == 255 || exists(byte(9 + i)) && !lacking(byte(9 + i))); i++) continue
     V["number"] = i
     V["byte"] = hex(9 + i)
+    V["pin"] = pin_name(byte(9 + i))
+    V["pins"] = all_pins
     at(9 + i)
-    return say("revision")
+    return say(lacking(byte(9 + i)) ? "revision-chip" : "revision")
 }
 
 function of_pins(    i, b) {
@@ -178,10 +180,12 @@ function of_pins(    i, b) {
         V["byte"] = hex(own_at[i])
         V["pin"] = pin_name(b)
         V["allowed"] = allowed[own_use[i]]
+        V["otherwise"] = permitted(own_use[i], b) ? ", or name the C8051F320 (--chip 320) if the board carries that" : ""
         at(own_at[i])
         if (b == 255 && own_lacks[i]) continue
         if (b == 255) return say("unused")
         if (!exists(b)) return of_pin("absent", i)
+        if (lacking(b)) return of_pin("chip", i)
         if (!permitted(own_use[i], b)) return of_pin("barred", i)
     }
     return of_order()

@@ -11,6 +11,8 @@ use std::rc::Rc;
 
 pub struct Batch {
     pub origin: Origin,
+    /// Those on a part do not look at them.
+    pub settings: u64,
     /// The table or the part.
     pub bytes: Rc<[u8]>,
     pub readings: Vec<Reading>,
@@ -25,7 +27,7 @@ impl Batch {
     pub fn second(&self) -> Replies {
         let mut replies = Vec::with_capacity(self.reply_length());
         for reading in &self.readings {
-            reading.second(&self.bytes, &mut replies);
+            reading.second(&self.bytes, self.settings, &mut replies);
         }
         Replies(replies)
     }
@@ -69,12 +71,13 @@ impl Piece<'_> {
 impl Asked for Batch {
     type Reply = Replies;
 
-    /// Mode, length of the bytes, number of readings, the bytes, the readings.
+    /// Mode, length of the bytes, number of readings, settings, the bytes, the readings.
     fn request(&self, to: &mut Vec<u8>) {
-        to.reserve(13 + self.bytes.len() + Reading::LENGTH * self.readings.len());
+        to.reserve(21 + self.bytes.len() + Reading::LENGTH * self.readings.len());
         to.push(Batch::MODE);
         to.extend_from_slice(&(self.bytes.len() as u32).to_le_bytes());
         to.extend_from_slice(&(self.readings.len() as u64).to_le_bytes());
+        to.extend_from_slice(&self.settings.to_le_bytes());
         to.extend_from_slice(&self.bytes);
         for reading in &self.readings {
             reading.request(to);
@@ -93,6 +96,7 @@ impl Asked for Batch {
     fn one_by_one(&self) -> Vec<Batch> {
         let one = |&reading| Batch {
             origin: self.origin,
+            settings: self.settings,
             bytes: self.bytes.clone(),
             readings: vec![reading],
         };
@@ -102,7 +106,7 @@ impl Asked for Batch {
 
 impl fmt::Display for Batch {
     fn fmt(&self, to: &mut fmt::Formatter) -> fmt::Result {
-        write!(to, "{}", self.origin)?;
+        write!(to, "{}: settings {:X}h", self.origin, self.settings)?;
         for reading in &self.readings {
             write!(to, ": {reading}")?;
         }

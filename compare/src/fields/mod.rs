@@ -8,12 +8,13 @@ mod tally;
 use crate::comparison::HUGE;
 use crate::exchange::Exchange;
 use crate::question::Origin;
+use crate::settings;
 use batch::Batch;
 use reading::Reading;
 use second::access::walk;
 use second::element::{fixed_length, id};
 use second::random::Random;
-use second::Verdict;
+use second::{Chip, Settings, Verdict};
 use std::rc::Rc;
 
 pub use tally::Tally;
@@ -37,19 +38,22 @@ fn places(verdict: Verdict, length: usize) -> Vec<u64> {
     }
 }
 
-/// All readings of a table, and of an accepted one those of each part that has blocks.
-fn batches(origin: Origin, table: &Rc<[u8]>) -> Vec<Batch> {
-    let verdict = second::check(table);
+/// All readings of a table. Of one that the 320 accepts, asked for that chip, those of each part that has
+/// blocks too; parts are of no chip.
+fn batches(origin: Origin, settings: u64, table: &Rc<[u8]>) -> Vec<Batch> {
+    let verdict = second::check(table, Settings::of_number(settings));
     let mut readings = vec![Reading::Describe];
     for k in places(verdict, table.len()) {
         readings.extend([Reading::Fields(k), Reading::Part(k), Reading::Text(k)]);
     }
     let mut batches = vec![Batch {
         origin,
+        settings,
         bytes: table.clone(),
         readings,
     }];
-    if let Verdict::Accepted(_) = verdict {
+    let chip = settings::chip(settings);
+    if let (Verdict::Accepted(_), Chip::F320) = (verdict, chip) {
         let elements = walk(table).map(|(_, bytes)| bytes);
         batches.extend(elements.filter_map(|bytes| of_part(origin, bytes)));
     }
@@ -66,6 +70,7 @@ fn of_part(origin: Origin, element: &[u8]) -> Option<Batch> {
     };
     Some(Batch {
         origin,
+        settings: 0,
         bytes: part.into(),
         readings,
     })
@@ -79,12 +84,15 @@ impl Fields {
         })
     }
 
-    /// The table, its own parts with blocks, and one part more that is damaged or random.
-    pub fn table(&mut self, origin: Origin, table: &Rc<[u8]>) -> Result<(), String> {
-        let batches = batches(origin, table);
+    /// The table; for the 320 its own parts with blocks, and one part more that is damaged or random.
+    pub fn table(&mut self, origin: Origin, settings: u64, table: &Rc<[u8]>) -> Result<(), String> {
+        let batches = batches(origin, settings, table);
         let own = batches[1..].last().map(|batch| batch.bytes.clone());
         for batch in batches {
             self.ask(batch)?;
+        }
+        if settings::chip(settings) == Chip::F321 {
+            return Ok(());
         }
         let part = parts::some(own.as_deref(), &mut self.random);
         self.part(origin, part)
@@ -102,6 +110,7 @@ impl Fields {
         for some in readings.chunks(MOST_READINGS) {
             self.ask(Batch {
                 origin,
+                settings: 0,
                 bytes: part.clone(),
                 readings: some.to_vec(),
             })?;

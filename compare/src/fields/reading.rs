@@ -5,7 +5,7 @@ use crate::call::index;
 use second::answer::number;
 use second::blocks::{register_block, speed_block, RegisterPair};
 use second::numbers::Numbers;
-use second::Refusal;
+use second::{Refusal, Settings};
 use std::fmt;
 use std::ops::Range;
 
@@ -83,22 +83,24 @@ impl Reading {
     }
 
     /// Adds what the second program replies on these bytes.
-    pub fn second(self, bytes: &[u8], to: &mut Vec<u8>) {
+    pub fn second(self, bytes: &[u8], settings: u64, to: &mut Vec<u8>) {
         let mut numbers = pattern();
-        let answer = self.answer(bytes, &mut numbers);
+        let answer = self.answer(bytes, Settings::of_number(settings), &mut numbers);
         to.extend_from_slice(&answer.0.to_le_bytes());
         if self.reply_length() > 8 {
             to.extend_from_slice(&numbers);
         }
     }
 
-    fn answer(self, bytes: &[u8], numbers: &mut Numbers) -> Answer {
+    fn answer(self, bytes: &[u8], settings: Settings, numbers: &mut Numbers) -> Answer {
         Answer::from(match self {
-            Reading::Describe => second::describe(bytes, numbers).map(|()| 0),
-            Reading::Fields(k) => second::fields(bytes, index(k), numbers).map(usize::from),
-            Reading::Part(k) => second::part_place(bytes, index(k)).map(packed),
+            Reading::Describe => second::describe(bytes, settings, numbers).map(|()| 0),
+            Reading::Fields(k) => {
+                second::fields(bytes, index(k), settings, numbers).map(usize::from)
+            }
+            Reading::Part(k) => second::part_place(bytes, index(k), settings).map(packed),
             Reading::Text(k) => {
-                second::text_place(bytes, index(k)).map(|text| text.map_or(0, packed))
+                second::text_place(bytes, index(k), settings).map(|text| text.map_or(0, packed))
             }
             Reading::Block(j) => {
                 let block = speed_block(bytes, index(j));

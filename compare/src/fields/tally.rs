@@ -2,10 +2,11 @@
 
 use super::batch::{Batch, Replies};
 use super::reading::Reading;
-use crate::answers;
+use crate::answers::Answers;
 use crate::exchange::Takes;
 use crate::outcome::{hex, Differences};
-use second::histogram::Histogram;
+use crate::settings;
+use second::Chip;
 
 #[derive(Default)]
 pub struct Tally {
@@ -13,7 +14,7 @@ pub struct Tally {
     pub answers: u64,
     pub differences: Differences,
     /// By call: how often each number came, both sides agreeing.
-    by_call: [Histogram; 8],
+    by_call: [Answers; 8],
 }
 
 impl Takes<Batch> for Tally {
@@ -22,13 +23,14 @@ impl Takes<Batch> for Tally {
         for ((reading, expected), (_, proved)) in both {
             self.answers += 1;
             if proved == expected {
-                self.by_call[usize::from(reading.which())].add(proved.answer().number());
+                let answers = &mut self.by_call[usize::from(reading.which())];
+                answers.add(settings::chip(batch.settings), proved.answer().number());
                 continue;
             }
             self.differences.note(|| {
-                let (origin, bytes) = (batch.origin, hex(&batch.bytes));
+                let (origin, settings, bytes) = (batch.origin, batch.settings, hex(&batch.bytes));
                 let sides = proved.outcome().against(&expected.outcome(), hex);
-                format!("{origin}: {reading}: {bytes}: {sides}")
+                format!("{origin}: {reading}, settings {settings:X}h: {bytes}: {sides}")
             });
         }
     }
@@ -37,21 +39,22 @@ impl Takes<Batch> for Tally {
 impl Tally {
     pub fn print_answers(&self) {
         for (name, answers) in Reading::NAMES.iter().zip(&self.by_call) {
-            answers::print(name, answers);
+            answers.print(name);
         }
     }
 
-    /// Every answer that the calls have, at least once; prints those that never came.
+    /// Every answer that the calls have, at least once on each chip; prints those that never came. Parts are of
+    /// no chip and count with the 320.
     pub fn all_came(&self) -> bool {
-        let came = |call: usize, wanted: &[u8]| {
-            let wanted = wanted.iter().copied();
-            answers::all_came(Reading::NAMES[call], &self.by_call[call], wanted)
+        let came = |call: usize, chips: &[Chip], wanted: &[u8]| {
+            self.by_call[call].all_came(Reading::NAMES[call], chips, wanted)
         };
+        let both = &Chip::BOTH;
         let of_table: Vec<u8> = (0..=15).collect();
         let of_element: Vec<u8> = (0..=15).chain([17]).collect();
-        let table = came(0, &of_table);
-        let elements = (1..=3).all(|call| came(call, &of_element));
-        let parts = (4..=7).all(|call| came(call, &[0, 17]));
+        let table = came(0, both, &of_table);
+        let elements = (1..=3).all(|call| came(call, both, &of_element));
+        let parts = (4..=7).all(|call| came(call, &[Chip::F320], &[0, 17]));
         table && elements && parts
     }
 
@@ -86,11 +89,13 @@ mod tests {
         let mut random = Random::new(3);
         for at in 0..100 {
             let origin = Origin::Seeded { seed: 3, at };
-            let table = generator::any(&mut random).into();
+            let chip = Chip::BOTH[at as usize % 2];
+            let table = generator::any(&mut random, chip).into();
             let part = parts::some(None, &mut random);
-            let mut all = batches(origin, &table);
+            let mut all = batches(origin, settings::reading(chip, at), &table);
             all.push(Batch {
                 origin,
+                settings: 0,
                 readings: parts::all_readings(&part),
                 bytes: part.into(),
             });

@@ -6,7 +6,7 @@ use crate::exchange::Asked;
 use crate::outcome::{hex, Outcome};
 use second::answer::number;
 use second::numbers::{self, Numbers};
-use second::Refusal;
+use second::{Refusal, Settings};
 use std::fmt;
 
 /// What the call is asked to do; the driver's modes 3, 4 and 5.
@@ -22,6 +22,7 @@ pub enum Does {
 #[derive(Clone, Debug, PartialEq, Eq)]
 pub struct WriterCall {
     pub does: Does,
+    pub settings: u64,
     pub numbers: Numbers,
     /// Of append alone; the table of a rewriting.
     pub part: Vec<u8>,
@@ -30,27 +31,36 @@ pub struct WriterCall {
 }
 
 impl WriterCall {
-    pub fn start(numbers: Numbers, buffer: Vec<u8>) -> WriterCall {
+    pub fn start(settings: u64, numbers: Numbers, buffer: Vec<u8>) -> WriterCall {
         WriterCall {
             does: Does::Start,
+            settings,
             numbers,
             part: Vec::new(),
             buffer,
         }
     }
 
-    pub fn append(id: u8, numbers: Numbers, part: Vec<u8>, buffer: Vec<u8>) -> WriterCall {
+    pub fn append(
+        id: u8,
+        settings: u64,
+        numbers: Numbers,
+        part: Vec<u8>,
+        buffer: Vec<u8>,
+    ) -> WriterCall {
         WriterCall {
             does: Does::Append(id),
+            settings,
             numbers,
             part,
             buffer,
         }
     }
 
-    pub fn rewrite(table: Vec<u8>, buffer: Vec<u8>) -> WriterCall {
+    pub fn rewrite(settings: u64, table: Vec<u8>, buffer: Vec<u8>) -> WriterCall {
         WriterCall {
             does: Does::Rewrite,
+            settings,
             numbers: Numbers::default(),
             part: table,
             buffer,
@@ -66,22 +76,26 @@ impl WriterCall {
 
     /// The C face alone knows identifiers of no kind: 7 with 0, and nothing else is looked at.
     fn run_second(&self, buffer: &mut [u8]) -> Result<usize, Refusal> {
+        let settings = Settings::of_number(self.settings);
         let id = match self.does {
-            Does::Start => return second::start(buffer, &numbers::description(&self.numbers)),
-            Does::Rewrite => return second::rewrite(&self.part, buffer),
+            Does::Start => {
+                let record = numbers::description(&self.numbers);
+                return second::start(buffer, settings.chip, &record);
+            }
+            Does::Rewrite => return second::rewrite(&self.part, settings, buffer),
             Does::Append(id) => id,
         };
         let element = numbers::element(id, &self.numbers);
         let element = element.ok_or(Refusal::at(number::IDENTIFIER, 0))?;
-        second::append(buffer, &element, &self.part)
+        second::append(buffer, settings.chip, &element, &self.part)
     }
 }
 
 impl Asked for WriterCall {
     type Reply = Outcome;
 
-    /// Mode, length of the buffer, identifier + 256 x length of the part, then buffer, numbers and
-    /// part.
+    /// Mode, length of the buffer, identifier + 256 x length of the part, settings, then buffer, numbers
+    /// and part.
     fn request(&self, to: &mut Vec<u8>) {
         let (mode, id) = match self.does {
             Does::Start => (3, 0),
@@ -91,6 +105,7 @@ impl Asked for WriterCall {
         to.push(mode);
         to.extend_from_slice(&(self.buffer.len() as u32).to_le_bytes());
         to.extend_from_slice(&(u64::from(id) + 256 * self.part.len() as u64).to_le_bytes());
+        to.extend_from_slice(&self.settings.to_le_bytes());
         to.extend_from_slice(&self.buffer);
         to.extend_from_slice(&self.numbers);
         to.extend_from_slice(&self.part);
@@ -123,6 +138,7 @@ impl fmt::Display for WriterCall {
             Does::Rewrite => to.write_str("rewrite (the table stands as part)")?,
         }
         let [numbers, part, buffer] = [&self.numbers[..], &self.part, &self.buffer].map(hex);
+        write!(to, ", settings {:X}h", self.settings)?;
         write!(to, ", numbers {numbers}, part '{part}', buffer '{buffer}'")
     }
 }

@@ -2,11 +2,13 @@
 
 use super::call::WriterCall;
 use super::samples::{description, elements, junk, Sample, Sink};
+use crate::settings::writing;
 use second::element::id;
 use second::numbers::{used, Numbers, OF_DESCRIPTION};
+use second::Chip;
 
 /// Pins that exist, their neighbours, and bytes that look like "unused".
-const PINS: [u8; 36] = [
+pub const PINS: [u8; 36] = [
     0x00, 0x01, 0x02, 0x03, 0x04, 0x05, 0x06, 0x07, 0x08, 0x0F, 0x10, 0x11, 0x12, 0x13, 0x14, 0x15,
     0x16, 0x17, 0x18, 0x1F, 0x20, 0x21, 0x22, 0x23, 0x24, 0x25, 0x26, 0x27, 0x28, 0x30, 0x31, 0x40,
     0xEE, 0xF0, 0xFE, 0xFF,
@@ -14,17 +16,17 @@ const PINS: [u8; 36] = [
 /// Around the ends of fields of 4 and 7 bits, and of the codes.
 const CODES: [u8; 12] = [0, 1, 2, 3, 4, 5, 6, 15, 16, 127, 128, 255];
 
-pub fn calls(to: Sink) -> Result<(), String> {
-    one_number(to)?;
-    descriptions(to)?;
-    attachments(to)?;
-    fans_and_colours(to)?;
-    lamps(to)
+pub fn calls(chip: Chip, to: Sink) -> Result<(), String> {
+    one_number(chip, to)?;
+    descriptions(chip, to)?;
+    attachments(chip, to)?;
+    fans_and_colours(chip, to)?;
+    lamps(chip, to)
 }
 
 /// 25, 9 and 10: each byte of the numbers, unused ones too, with each of its values.
-fn one_number(to: Sink) -> Result<(), String> {
-    for sample in elements() {
+fn one_number(chip: Chip, to: Sink) -> Result<(), String> {
+    for sample in elements(chip) {
         for at in 0..32 {
             let step = if at < used(sample.id) { 1 } else { 51 };
             for value in (0..=255).step_by(step) {
@@ -37,22 +39,27 @@ fn one_number(to: Sink) -> Result<(), String> {
     Ok(())
 }
 
-fn started(change: impl Fn(&mut Numbers), to: Sink) -> Result<(), String> {
-    let mut numbers = description();
+fn started(chip: Chip, change: impl Fn(&mut Numbers), to: Sink) -> Result<(), String> {
+    let mut numbers = description(chip);
     change(&mut numbers);
-    to(WriterCall::start(numbers, junk(21, 0xFFFF)))
+    let settings = writing(chip, numbers[8].into());
+    to(WriterCall::start(settings, numbers, junk(21, 0xFFFF)))
 }
 
-fn descriptions(to: Sink) -> Result<(), String> {
+fn descriptions(chip: Chip, to: Sink) -> Result<(), String> {
     for at in 0..32 {
         let step = if at < OF_DESCRIPTION { 1 } else { 51 };
         for value in (0..=255).step_by(step) {
-            started(|n| n[at] = value, to)?;
+            started(chip, |n| n[at] = value, to)?;
         }
     }
     for self_powered in [0, 1, 2, 128, 255] {
         for power in 0..=255 {
-            started(|n| n[6..8].copy_from_slice(&[self_powered, power]), to)?;
+            started(
+                chip,
+                |n| n[6..8].copy_from_slice(&[self_powered, power]),
+                to,
+            )?;
         }
     }
     for serial in [
@@ -68,6 +75,7 @@ fn descriptions(to: Sink) -> Result<(), String> {
         for device in [0, 1, 3, 4, 255] {
             for power in [125, 126, 127, 128] {
                 started(
+                    chip,
                     |n| {
                         n[0] = device;
                         n[2..6].copy_from_slice(&serial.to_le_bytes());
@@ -82,9 +90,9 @@ fn descriptions(to: Sink) -> Result<(), String> {
 }
 
 /// Bus type, kind of address and address together.
-fn attachments(to: Sink) -> Result<(), String> {
+fn attachments(chip: Chip, to: Sink) -> Result<(), String> {
     let kinds = [id::DIGITAL_SENSOR, id::CONTROLLER, id::TACHOMETER];
-    for sample in elements()
+    for sample in elements(chip)
         .iter()
         .filter(|sample| kinds.contains(&sample.id))
     {
@@ -106,10 +114,10 @@ fn changed(sample: &Sample, at: usize, values: &[u8], to: Sink) -> Result<(), St
 }
 
 /// Order of the fan list, and pulses beside a tachometer or none.
-fn fans_and_colours(to: Sink) -> Result<(), String> {
+fn fans_and_colours(chip: Chip, to: Sink) -> Result<(), String> {
     const NEAR: [u8; 9] = [0x04, 0x05, 0x06, 0x07, 0x10, 0x11, 0x12, 0x13, 0xFF];
     let of = |id: u8| {
-        elements()
+        elements(chip)
             .into_iter()
             .find(|sample| sample.id == id)
             .expect("all kinds")
@@ -133,8 +141,8 @@ fn fans_and_colours(to: Sink) -> Result<(), String> {
 }
 
 /// Colour and purpose beside pins used and unused, in each of the three places.
-fn lamps(to: Sink) -> Result<(), String> {
-    for sample in elements()
+fn lamps(chip: Chip, to: Sink) -> Result<(), String> {
+    for sample in elements(chip)
         .iter()
         .filter(|sample| sample.id == id::STATUS_LED)
     {

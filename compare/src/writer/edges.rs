@@ -2,25 +2,32 @@
 
 use super::call::WriterCall;
 use super::samples::{description, elements, junk, Sink};
+use crate::settings::writing;
 use second::element::id;
+use second::Chip;
 
-pub fn calls(to: Sink) -> Result<(), String> {
-    sizes(to)?;
-    lengths(to)?;
-    room(to)?;
-    unknown(to)
+pub fn calls(chip: Chip, to: Sink) -> Result<(), String> {
+    sizes(chip, to)?;
+    lengths(chip, to)?;
+    room(chip, to)?;
+    unknown(chip, to)
 }
 
 /// 1: buffers of 0 to 20 bytes, beside good records and bad ones.
-fn sizes(to: Sink) -> Result<(), String> {
+fn sizes(chip: Chip, to: Sink) -> Result<(), String> {
     for size in 0..=20 {
-        for numbers in [description(), [0xFF; 32], [0; 32]] {
-            to(WriterCall::start(numbers, junk(size, 16)))?;
+        for numbers in [description(chip), [0xFF; 32], [0; 32]] {
+            to(WriterCall::start(
+                writing(chip, size as u64),
+                numbers,
+                junk(size, 16),
+            ))?;
         }
-        for sample in elements() {
+        for sample in elements(chip) {
             to(sample.call(junk(size, 16)))?;
             to(WriterCall::append(
                 sample.id,
+                writing(chip, size as u64),
                 [0xFF; 32],
                 vec![0; 9],
                 junk(size, 16),
@@ -31,7 +38,7 @@ fn sizes(to: Sink) -> Result<(), String> {
 }
 
 /// 3: what bytes 1-2 say, in buffers of many sizes.
-fn lengths(to: Sink) -> Result<(), String> {
+fn lengths(chip: Chip, to: Sink) -> Result<(), String> {
     for size in [
         16, 17, 64, 300, 4_095, 4_096, 4_097, 4_200, 65_535, 65_536, 65_552, 70_000,
     ] {
@@ -52,11 +59,12 @@ fn lengths(to: Sink) -> Result<(), String> {
             size + 1,
         ];
         for said in said {
-            for sample in elements() {
+            for sample in elements(chip) {
                 to(sample.call(junk(size, said)))?;
             }
             to(WriterCall::append(
                 id::FAN,
+                writing(chip, said as u64),
                 [0xFF; 32],
                 vec![1],
                 junk(size, said),
@@ -67,8 +75,8 @@ fn lengths(to: Sink) -> Result<(), String> {
 }
 
 /// 16: room exactly there, one byte short, one more, and the same at 4,096.
-fn room(to: Sink) -> Result<(), String> {
-    for sample in elements() {
+fn room(chip: Chip, to: Sink) -> Result<(), String> {
+    for sample in elements(chip) {
         let needed = sample.needed();
         let largest = 4_096 - needed;
         for so_far in [16, 17, 100, largest - 1, largest, largest + 1, 4_095, 4_096] {
@@ -91,12 +99,15 @@ fn room(to: Sink) -> Result<(), String> {
 }
 
 /// Identifiers of no kind: 7, whatever else there is.
-fn unknown(to: Sink) -> Result<(), String> {
+fn unknown(chip: Chip, to: Sink) -> Result<(), String> {
     for id in (0..=255).filter(|id| !id::ALL.contains(id)) {
         for size in [0, 2, 15, 16, 100] {
-            to(WriterCall::append(id, [0; 32], Vec::new(), junk(size, 16)))?;
+            let settings = writing(chip, id.into());
+            let bare = junk(size, 16);
+            to(WriterCall::append(id, settings, [0; 32], Vec::new(), bare))?;
             to(WriterCall::append(
                 id,
+                settings,
                 [0xFF; 32],
                 vec![1; 27],
                 junk(size, 4_097),

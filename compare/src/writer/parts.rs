@@ -1,15 +1,15 @@
 //! Parts: 8 at all its edges, 9 behind it, and lengths so great that no sum may wrap.
 
-use super::call::WriterCall;
 use super::samples::{elements, junk, Sample, Sink};
 use second::element::id;
 use second::generator::raw;
+use second::Chip;
 
 /// Changes at the end of a part: none, a byte less, one more, two more.
 const ENDS: [isize; 4] = [0, -1, 1, 2];
 
-pub fn calls(to: Sink) -> Result<(), String> {
-    for sample in elements() {
+pub fn calls(chip: Chip, to: Sink) -> Result<(), String> {
+    for sample in elements(chip) {
         short(&sample, to)?;
         long(&sample, to)?;
         match sample.id {
@@ -23,12 +23,11 @@ pub fn calls(to: Sink) -> Result<(), String> {
 }
 
 fn with(sample: &Sample, part: Vec<u8>, size: usize, to: Sink) -> Result<(), String> {
-    to(WriterCall::append(
-        sample.id,
-        sample.numbers,
+    let changed = Sample {
         part,
-        junk(size, 16),
-    ))
+        ..sample.clone()
+    };
+    to(changed.call(junk(size, 16)))
 }
 
 /// Beside every kind: 0 to 70 bytes of one value, and its own part cut and continued.

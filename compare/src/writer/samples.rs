@@ -1,9 +1,11 @@
 //! Good records to start from, and buffers of junk.
 
 use super::call::WriterCall;
+use crate::settings::writing;
 use second::element::{fixed_length, read_description, read_element};
 use second::generator::raw;
 use second::numbers::{put_description, put_element, Numbers};
+use second::Chip;
 
 /// Where calls go to; it may stop the work.
 pub type Sink<'s> = &'s mut dyn FnMut(WriterCall) -> Result<(), String>;
@@ -11,20 +13,22 @@ pub type Sink<'s> = &'s mut dyn FnMut(WriterCall) -> Result<(), String>;
 /// What stands in the bytes of the numbers that a record does not use.
 const UNUSED: u8 = 0x5A;
 
-/// A record's numbers with its part.
+/// A record's numbers with its part, its pins on a chip.
 #[derive(Clone)]
 pub struct Sample {
+    pub chip: Chip,
     pub id: u8,
     pub numbers: Numbers,
     pub part: Vec<u8>,
 }
 
 impl Sample {
-    fn of(bytes: &[u8]) -> Sample {
-        let (element, part) = read_element(bytes).expect("a whole element");
+    fn of(bytes: &[u8], chip: Chip) -> Sample {
+        let (element, part) = read_element(bytes, chip).expect("a whole element");
         let mut numbers = [UNUSED; 32];
-        put_element(&element, &mut numbers);
+        put_element(&element, chip, &mut numbers);
         Sample {
+            chip,
             id: bytes[0],
             numbers,
             part: part.to_vec(),
@@ -36,8 +40,10 @@ impl Sample {
         fixed_length(self.id) + self.part.len()
     }
 
+    /// Told the chip of its pins; the size of the buffer says with which ignored bits.
     pub fn call(&self, buffer: Vec<u8>) -> WriterCall {
-        WriterCall::append(self.id, self.numbers, self.part.clone(), buffer)
+        let settings = writing(self.chip, buffer.len() as u64);
+        WriterCall::append(self.id, settings, self.numbers, self.part.clone(), buffer)
     }
 
     /// Appended to a description alone, with room and five bytes more.
@@ -46,15 +52,20 @@ impl Sample {
     }
 }
 
-/// All ten kinds, some in two forms.
-pub fn elements() -> Vec<Sample> {
+/// All ten kinds, some in two forms, good on this chip.
+pub fn elements(chip: Chip) -> Vec<Sample> {
+    // The last pin of port 2.
+    let last_of_port = match chip {
+        Chip::F320 => 0x27,
+        Chip::F321 => 0x23,
+    };
     let list = [
         raw::digital(1, 0, 0x40),
         raw::digital(2, 3, 0x14),
         raw::analogue(1, 0x20),
         raw::fan(1, 0x05, 0x11),
         raw::led(1, [0x14, 0x02, 0x30]),
-        raw::led(1, [0xFF, 0x27, 0xFF]),
+        raw::led(1, [0xFF, last_of_port, 0xFF]),
         raw::current(1, 0x21),
         raw::controller(1, 2, 0x80, &[1, 2]),
         raw::controller(1, 3, 0x15, &[1; 6]),
@@ -64,12 +75,12 @@ pub fn elements() -> Vec<Sample> {
         raw::text(1, b"x"),
         raw::zone(1, 0),
     ];
-    list.iter().map(|bytes| Sample::of(bytes)).collect()
+    list.iter().map(|bytes| Sample::of(bytes, chip)).collect()
 }
 
-pub fn description() -> Numbers {
+pub fn description(chip: Chip) -> Numbers {
     let mut numbers = [UNUSED; 32];
-    put_description(&read_description(&raw::TABLE_A), &mut numbers);
+    put_description(&read_description(&raw::TABLE_A, chip), chip, &mut numbers);
     numbers
 }
 
@@ -88,7 +99,7 @@ mod tests {
 
     #[test]
     fn all_samples_are_good() {
-        for sample in elements() {
+        for sample in Chip::BOTH.into_iter().flat_map(elements) {
             let new_length = 16 + sample.needed() as u64;
             assert_eq!(
                 sample.with_room().second().answer.0,
@@ -97,7 +108,9 @@ mod tests {
                 sample.id
             );
         }
-        let start = WriterCall::start(description(), junk(16, 0));
-        assert_eq!(start.second().answer.0, 256 * 16);
+        for chip in Chip::BOTH {
+            let start = WriterCall::start(writing(chip, 0), description(chip), junk(16, 0));
+            assert_eq!(start.second().answer.0, 256 * 16);
+        }
     }
 }

@@ -3,10 +3,12 @@
 use super::call::{Does, WriterCall};
 use super::rewritings;
 use super::runs::{self, noise};
+use crate::settings::writing;
 use second::element::{fixed_length, id};
 use second::generator::{writer_call, What};
-use second::numbers::{put_description, put_element};
+use second::numbers::{put_description, put_element, Numbers, CHIP};
 use second::random::Random;
+use second::Chip;
 use std::collections::VecDeque;
 
 pub struct Stream {
@@ -52,17 +54,23 @@ impl Iterator for Stream {
 fn of_second(random: &mut Random) -> WriterCall {
     let call = writer_call(random);
     let mut numbers = noise(random);
+    let settings = writing(call.chip, random.word());
     match call.what {
         What::Start(record) => {
-            put_description(&record, &mut numbers);
-            WriterCall::start(numbers, call.buffer)
+            put_description(&record, call.pins, &mut numbers);
+            WriterCall::start(settings, numbers, call.buffer)
         }
         What::Append(record, part) => {
-            put_element(&record, &mut numbers);
-            WriterCall::append(record.identifier(), numbers, part, call.buffer)
+            put_element(&record, call.pins, &mut numbers);
+            WriterCall::append(record.identifier(), settings, numbers, part, call.buffer)
         }
     }
 }
+
+/// The numbers that kinds use, and the one that names the chip.
+const PLACES: [usize; 19] = [
+    0, 1, 2, 3, 4, 5, 6, 7, 8, 9, 10, 11, 12, 13, 14, 15, 16, 17, 31,
+];
 
 /// One with a few bytes of its numbers or its part changed.
 fn bent(random: &mut Random) -> WriterCall {
@@ -70,7 +78,7 @@ fn bent(random: &mut Random) -> WriterCall {
     for _ in 0..random.between(1, 3) {
         let value = near(random);
         if random.chance(80) || call.part.is_empty() {
-            call.numbers[random.below(18)] = value;
+            call.numbers[*random.pick(&PLACES)] = value;
         } else {
             let at = random.below(call.part.len().min(30));
             call.part[at] = value;
@@ -80,8 +88,8 @@ fn bent(random: &mut Random) -> WriterCall {
 }
 
 fn near(random: &mut Random) -> u8 {
-    const EDGES: [u8; 16] = [
-        0, 1, 2, 3, 4, 5, 6, 7, 15, 16, 0x11, 0x14, 0x20, 127, 128, 255,
+    const EDGES: [u8; 20] = [
+        0, 1, 2, 3, 4, 5, 6, 7, 15, 16, 0x11, 0x14, 0x20, 0x23, 0x24, 0x27, 0x30, 127, 128, 255,
     ];
     if random.chance(60) {
         *random.pick(&EDGES)
@@ -93,17 +101,23 @@ fn near(random: &mut Random) -> u8 {
 /// Random numbers in all 32 places, a random part, a random length said in a buffer of any size.
 fn wild(random: &mut Random) -> WriterCall {
     let edged = random.chance(70);
-    let numbers = std::array::from_fn(|_| if edged { near(random) } else { random.byte() });
+    let chip = *random.pick(&Chip::BOTH);
+    let settings = writing(chip, random.word());
+    let mut numbers: Numbers =
+        std::array::from_fn(|_| if edged { near(random) } else { random.byte() });
+    if chip == Chip::F320 && random.chance(70) {
+        numbers[CHIP] = 0;
+    }
     if random.chance(20) {
         let size = size(random, 16);
-        return WriterCall::start(numbers, random.bytes(size));
+        return WriterCall::start(settings, numbers, random.bytes(size));
     }
     let id = *random.pick(&id::ALL);
     let part = part(id, random);
     let needed = fixed_length(id) + part.len();
     let size = size(random, 16 + needed);
     let buffer = lent(size, needed, random);
-    WriterCall::append(id, numbers, part, buffer)
+    WriterCall::append(id, settings, numbers, part, buffer)
 }
 
 fn size(random: &mut Random, enough: usize) -> usize {

@@ -1,18 +1,19 @@
 //! What was asked of the writer, what came back, and where the two sides differ.
 
 use super::call::{Does, WriterCall};
-use crate::answers;
+use crate::answers::Answers;
 use crate::exchange::Takes;
 use crate::outcome::{hex, Differences, Outcome};
-use second::histogram::Histogram;
+use crate::settings;
+use second::Chip;
 
 #[derive(Default)]
 pub struct Tally {
     pub calls: u64,
     pub differences: Differences,
-    pub starts: Histogram,
-    pub appends: Histogram,
-    pub rewritings: Histogram,
+    pub starts: Answers,
+    pub appends: Answers,
+    pub rewritings: Answers,
 }
 
 impl Takes<WriterCall> for Tally {
@@ -30,7 +31,7 @@ impl Takes<WriterCall> for Tally {
             Does::Append(_) => &mut self.appends,
             Does::Rewrite => &mut self.rewritings,
         };
-        answers.add(proved.answer.number());
+        answers.add(settings::chip(call.settings), proved.answer.number());
     }
 }
 
@@ -41,16 +42,19 @@ impl Tally {
             ("append", &self.appends),
             ("rewrite", &self.rewritings),
         ] {
-            answers::print(name, answers);
+            answers.print(name);
         }
     }
 
-    /// Prints the answers of the three calls that should have come and did not; true when all came.
+    /// Prints the answers of the three calls that should have come and did not; true when all came, on both
+    /// chips.
     pub fn all_came(&self) -> bool {
-        let starts = answers::all_came("start", &self.starts, [0, 1, 4, 5, 10, 25]);
+        let both = &Chip::BOTH;
+        let of_rewrite: Vec<u8> = (0..=16).collect();
+        let starts = self.starts.all_came("start", both, &[0, 1, 4, 5, 10, 25]);
         let of_append = [0, 1, 3, 7, 8, 9, 10, 16, 25];
-        let appends = answers::all_came("append", &self.appends, of_append);
-        let rewritings = answers::all_came("rewrite", &self.rewritings, 0..=16);
+        let appends = self.appends.all_came("append", both, &of_append);
+        let rewritings = self.rewritings.all_came("rewrite", both, &of_rewrite);
         starts && appends && rewritings
     }
 

@@ -1,25 +1,28 @@
 -- The law of the cut for each kind that has blocks: one to six speed blocks, and an exact number of blocks of ENTRIES and pairs.
 -- Assumes nothing.
-use Prim.Native.Nat.{ℕ, zero, suc, _+_, _*_, _≤_, compare·suc-suc}
+use Prim.Native.Nat.{ℕ, zero, suc, _+_, _-_, _*_, _<_, _≤_, compare·suc-suc}
 use native.Mathlib.Omega.{arith}
-use mathlib.Core.Path.{_≡_, refl, sym, _∙_}
-use mathlib.Core.Bool.{Bool, true, false, _&&_, cond, not-eq-not, and-eq-true-iff}
+use mathlib.Core.Path.{_≡_, refl, sym, _∙_, ap}
+use mathlib.Core.Logic.{⊎-elim}
+use mathlib.Core.Bool.{Bool, true, false, _&&_, cond, not-eq-not, and-eq-true-iff, and-true, and-false}
 use mathlib.Core.List.{List, [], _∷_}
 use mathlib.Core.Option.{Option, none, some}
-use lib.Dec.{eqb, leb}
+use lib.Dec.{eqb, ltb, leb}
 use lib.ListN.{length, drop, length-drop}
-use borrow.Author.Tests.{eqb-true, leb-true, le-leb, eq-eqb, ne-eqb}
+use borrow.Author.Tests.{eqb-true, ltb-true, lt-ltb, le-ltb, leb-true, le-leb, lt-leb, eq-eqb, ne-eqb}
+use Rattle.format.specs.Slots.{byte}
 use Rattle.format.specs.Records.{Block}
 use Rattle.format.specs.Rules.{filled}
 use Rattle.format.specs.Decode.{bind, guard, blockOf, readPairs, cutEntries, cutBlocks, cutTwo, whenNil}
 use Rattle.format.specs.declared.records.RegisterPair.{RegisterPair}
-use Rattle.blocks.specs.Cutting.{cutOf, fills, exact, isSome, SpeedsAre, SpeedPart}
+use Rattle.blocks.specs.Cutting.{cut, cutOf, pastBlock, exact, isSome, SpeedsAre, SpeedPart}
 use Rattle.blocks.specs.declared.Cut.{Cut}
+use Rattle.blocks.proofs.Counting.{Counted, counted, pastCounted, countFrom, countOf, fills, shown, all-shown, grown, last-step, each-passed, less-or-not}
 use Rattle.blocks.specs.declared.Part.{Part}
 use Rattle.blocks.proofs.Exactly.{Says, says}
 
 -- of a whole part
-told : (lead j n : ℕ) (p : List ℕ) → j ≤ n → Says (length p + lead) j true (cutOf n lead p) (exact j lead p)
+told : (lead j n : ℕ) (p : List ℕ) → j ≤ n → Says (length p + lead) j true (countOf n lead p) (exact j lead p)
 told lead j n p h =
     let e : 0 + lead ≡ lead = omega arith in
     let f : 0 + j ≡ j = omega arith in
@@ -36,7 +39,7 @@ between n least most h =
     let u = and-eq-true-iff (leb least n) (leb n most) .0 h in
     (leb-true least n (u .0), leb-true n most (u .1))
 
-module _ (r : Cut) (end least most : ℕ) where
+module _ (r : Counted) (end least most : ℕ) where
   filling : fills r end least most ≡ true → (r .at ≡ end) × (least ≤ r .blocks) × (r .blocks ≤ most)
   filling h =
       let u = and-eq-true-iff (eqb (r .at) end) _ .0 h in
@@ -47,12 +50,12 @@ module _ (r : Cut) (end least most : ℕ) where
   filled-by e h g = rw (eq-eqb (r .at) end e, le-leb least (r .blocks) h, le-leb (r .blocks) most g) refl
 
 -- so many blocks of ENTRIES and pairs, after a cut past so many or more
-pub pairs-law : (n m : ℕ) (p : List ℕ) → n ≤ m → fills (cutOf m 0 p) (length p) n n ≡ isSome (exact n 0 p)
-pairs-law n m p h =
+counted-pairs : (n m : ℕ) (p : List ℕ) → n ≤ m → fills (countOf m 0 p) (length p) n n ≡ isSome (exact n 0 p)
+counted-pairs n m p h =
     let e : length p + 0 ≡ length p = omega arith in
-    go (cutOf m 0 p) (exact n 0 p) (rw e at (told 0 n m p h))
+    go (countOf m 0 p) (exact n 0 p) (rw e at (told 0 n m p h))
   where
-    go : (r : Cut) (o : Option Bool) → Says (length p) n true r o → fills r (length p) n n ≡ isSome o
+    go : (r : Counted) (o : Option Bool) → Says (length p) n true r o → fills r (length p) n n ≡ isSome o
     go r none h =
         not-eq-not {b = false} .0 (λ f. let g = filling r (length p) n n f in h (g .0) (omega arith))
     go r (some t) h = filled-by r (length p) n n (h .0) (omega (arith, h .1)) (omega (arith, h .1))
@@ -138,7 +141,7 @@ speeds (suc j) (suc m) (s ∷ bs) h = go (cutEntries bs) (within bs) (λ bs l. s
     go (some c) w rec = rw (rec (c .1) (omega arith)) (in-front j (blockOf s (c .0)) (cutBlocks m (c .1)))
 
 -- one to six of them
-module _ (r : Cut) (part : Part) (end : ℕ) (w : part .whole ≡ fills r end 1 6) (f : part .full ≡ r .full) where
+module _ (r : Counted) (part : Part) (end : ℕ) (w : part .whole ≡ fills r end 1 6) (f : part .full ≡ r .full) where
   by-number :
       (o : Option (List Block)) → ((j : ℕ) → j ≤ 6 → Says end j true r (bind o (ofNumber j))) → SpeedsAre part o
   by-number none h =
@@ -163,11 +166,63 @@ module _ (r : Cut) (part : Part) (end : ℕ) (w : part .whole ≡ fills r end 1 
           let s = rw (eq-eqb (length l) (length l) refl) at (h (length l) (g .1)) in
           filled-by r end 1 6 (s .0) (omega arith) (omega arith)
 
+-- 09h, as the code has it: the cut leads one past the end, and past its start
 pub speed-law :
-    (n : ℕ) (p : List ℕ) (part : Part)
-    → 6 ≤ n
-    → part .whole ≡ fills (cutOf n 1 p) (length p + 1) 1 6
-    → part .full ≡ cutOf n 1 p .full
+    (p : List ℕ) (part : Part)
+    → part .whole ≡ eqb (cutOf 6 1 p .at) (length p + 1) && ltb 1 (cutOf 6 1 p .at)
+    → part .full ≡ cutOf 6 1 p .full
     → SpeedPart p part
-speed-law n p part g w f m h =
-    by-number (cutOf n 1 p) part (length p + 1) w f (cutBlocks m p) (λ j l. rw (speeds j m p h) at (told 1 j n p (omega arith)))
+speed-law p part w f m h =
+    let c = countOf 6 1 p in
+    let e = all-shown 1 p 6 (counted 1 0 true) in
+    let g = grown 1 p 6 (counted 1 0 true) in
+    let first : ltb 1 (c .at) ≡ leb 1 (c .blocks) && leb (c .blocks) 6 =
+    rw (le-leb (c .blocks) 6 (omega (arith, g .most)))
+    (same-truth _ _
+    (λ t. and-eq-true-iff (leb 1 (c .blocks)) true .1 (one-block (c .at) (c .blocks) (ltb-true 1 (c .at) t) (g .still), refl))
+    (λ t. lt-ltb 1 (c .at) (omega (arith, g .onward, leb-true 1 (c .blocks) (and-eq-true-iff (leb 1 (c .blocks)) true .0 t .0)))))
+    in
+    by-number c part (length p + 1) (w ∙ rw (e, first) refl) (f ∙ rw e refl) (cutBlocks m p)
+    (λ j l. rw (speeds j m p h) at (told 1 j 6 p l))
+  where
+    one-block : (at k : ℕ) → 1 < at → (k ≡ 0 → at ≡ 1) → leb 1 k ≡ true
+    one-block at zero l s = absurd (omega (arith, s refl))
+    one-block at (suc k) l s = le-leb 1 (suc k) (omega arith)
+
+-- and so many blocks of ENTRIES and pairs: the last of them begins before the end and leads to it
+abbrev endsWith : List ℕ → Cut → Bool
+endsWith p c = ltb (c .at) (length p) && eqb (pastBlock 0 p c .at) (length p)
+
+pairs-law : (n : ℕ) (p : List ℕ) → endsWith p (cutOf n 0 p) ≡ isSome (exact (suc n) 0 p)
+pairs-law n p =
+    let c = countOf n 0 p in
+    ap (endsWith p) (all-shown 0 p n (counted 0 0 true)) ∙ ends c (λ l. omega (arith, each-passed 0 p n (counted 0 0 true) l)) (omega (arith, grown 0 p n (counted 0 0 true) .most))
+    ∙ ap (λ (d : Counted). fills d (length p) (suc n) (suc n)) (sym (last-step 0 p n (counted 0 0 true)))
+    ∙ counted-pairs (suc n) (suc n) p (omega arith)
+  where
+    ends : (c : Counted) → (c .at < length p → c .blocks ≡ n) → c .blocks ≤ n → endsWith p (shown c) ≡ fills (pastCounted 0 p c) (length p) (suc n) (suc n)
+    ends c each most =
+        ⊎-elim
+        (λ l. let e = lt-ltb (c .at) (length p) l in
+        rw (e, le-leb (suc n) (c .blocks + 1) (omega (arith, each l)), le-leb (c .blocks + 1) (suc n) (omega (arith, each l))) (sym (and-true (eqb (c .at + 1 + 0 + 4 * byte p (c .at)) (length p)))))
+        (λ l. let e = le-ltb (c .at) (length p) l in
+        rw (e, lt-leb (suc n) (c .blocks) (omega (arith, most))) (sym (and-false (eqb (c .at) (length p)))))
+        (less-or-not (c .at) (length p))
+
+pub pairs-begun :
+    (n : ℕ) (p : List ℕ) (c : Cut)
+    → 1 ≤ n
+    → c ≡ cutOf (n - 1) 0 p
+    → c .at < length p
+    → eqb (pastBlock 0 p c .at) (length p) ≡ isSome (exact n 0 p)
+pairs-begun zero p c h q l = absurd (omega arith)
+pairs-begun (suc k) p c h q l =
+    let e : suc k - 1 ≡ k = omega arith in
+    let t = lt-ltb (c .at) (length p) l in
+    rw t (rw t at (ap (endsWith p) (rw e at q) ∙ pairs-law k p))
+
+pub pairs-short : (n : ℕ) (p : List ℕ) (c : Cut) → 1 ≤ n → c ≡ cutOf (n - 1) 0 p → length p ≤ c .at → false ≡ isSome (exact n 0 p)
+pairs-short zero p c h q l = absurd (omega arith)
+pairs-short (suc k) p c h q l =
+    let e : suc k - 1 ≡ k = omega arith in
+    rw (le-ltb (c .at) (length p) l) at (ap (endsWith p) (rw e at q) ∙ pairs-law k p)

@@ -14,13 +14,13 @@ use Rattle.format.specs.Decode.{bind, whenNil, cutEntries, cutBlocks}
 use Rattle.blocks.specs.declared.Cut.{Cut}
 use Rattle.blocks.specs.declared.Part.{Part}
 
-abbrev pub cut : ℕ → ℕ → Bool → Cut
-cut at n f = record { at = at; blocks = n; full = f }
+abbrev pub cut : ℕ → Bool → Cut
+cut at f = record { at = at; full = f }
 
 -- the step: past an ENTRIES byte, its pairs and what stands before the next one; where none is there nothing moves
 abbrev pub enter : Bool → ℕ → ℕ → Cut → Cut
-enter true lead x c = cut (c .at + 1 + lead + 4 * x) (c .blocks + 1) (c .full && not (eqb x 0))
-enter false lead x c = cut (c .at) (c .blocks) (c .full)
+enter true lead x c = cut (c .at + 1 + lead + 4 * x) (c .full && not (eqb x 0))
+enter false lead x c = cut (c .at) (c .full)
 
 -- past one block more, where there is one
 abbrev pub pastBlock : ℕ → List ℕ → Cut → Cut
@@ -32,11 +32,7 @@ cutFrom zero lead p c = c
 cutFrom (suc n) lead p c = cutFrom n lead p (pastBlock lead p c)
 
 abbrev pub cutOf : ℕ → ℕ → List ℕ → Cut
-cutOf n lead p = cutFrom n lead p (cut lead 0 true)
-
--- 8: the cut ends there, and its blocks are as many as there may be
-abbrev pub fills : Cut → ℕ → ℕ → ℕ → Bool
-fills c end least most = eqb (c .at) end && (leb least (c .blocks) && leb (c .blocks) most)
+cutOf n lead p = cutFrom n lead p (cut lead true)
 
 -- bytes that so many blocks fill, each of them after `lead` bytes more: whether each has a pair
 abbrev pub exact : ℕ → ℕ → List ℕ → Option Bool

@@ -4,14 +4,13 @@ ghost use mathlib.Core.Path.{_≡_};
 ghost use mathlib.Core.Bool.{true};
 ghost use Prim.Native.Nat.{_+_, _<_, _≤_};
 ghost use lib.ListN.{length};
-ghost use Rattle.blocks.specs.Cutting.{enter, pastBlock, cutOf, fills, SpeedPart, PairsPart};
+ghost use Rattle.blocks.specs.Cutting.{enter, pastBlock, cutOf, SpeedPart, PairsPart};
 use words::wide;
 
-// A part as far as it is cut: where the next ENTRIES byte would stand, how many blocks begin before it, and whether each of
-// them has a pair.
+// A part as far as it is cut: where the next ENTRIES byte would stand, and whether each block before it has a pair. (How many
+// blocks there are is not counted: a third number would not go by registers, which costs a third of the time.)
 pub struct Cut {
     pub at: usize,
-    pub blocks: usize,
     pub full: bool,
 }
 
@@ -25,8 +24,8 @@ pub struct Part {
 // The step: past an ENTRIES byte and its pairs, where one is there, and else nothing moves. `least` is where a block with no
 // pair leads, and no other step leads there. No step branches, for speed.
 pub fn enter(there: bool, lead: usize, entries: u8, c: Cut) -> Cut
-    requires { ⌜ (lead ≤ 1) × (c .at ≤ 100000) × (c .blocks ≤ 100000) ⌝ }
-    ensures { λ r. ⌜ (r ≡ enter there lead entries c) × (r .at ≤ c .at + 1022) × (r .blocks ≤ c .blocks + 1) ⌝ }
+    requires { ⌜ (lead ≤ 1) × (c .at ≤ 100000) ⌝ }
+    ensures { λ r. ⌜ (r ≡ enter there lead entries c) × (r .at ≤ c .at + 1022) ⌝ }
 {
     let least = c.at + 1 + lead;
     let next = if there {
@@ -36,15 +35,14 @@ pub fn enter(there: bool, lead: usize, entries: u8, c: Cut) -> Cut
     };
     Cut {
         at: next,
-        blocks: c.blocks + (there as usize),
         full: c.full & (next != least),
     }
 }
 
 // Past one block more, where there is one; past the end the byte that is looked at does not count.
 fn past_block(p: &[u8], lead: usize, c: Cut) -> Cut
-    requires { ⌜ (lead ≤ 1) × (lead < length (now p)) × (c .at ≤ 100000) × (c .blocks ≤ 100000) ⌝ }
-    ensures { λ r. ⌜ (r ≡ pastBlock lead (now (p .entry)) c) × (r .at ≤ c .at + 1022) × (r .blocks ≤ c .blocks + 1) ⌝ }
+    requires { ⌜ (lead ≤ 1) × (lead < length (now p)) × (c .at ≤ 100000) ⌝ }
+    ensures { λ r. ⌜ (r ≡ pastBlock lead (now (p .entry)) c) × (r .at ≤ c .at + 1022) ⌝ }
 {
     let at = c.at;
     let more = at < p.len();
@@ -55,11 +53,10 @@ fn past_block(p: &[u8], lead: usize, c: Cut) -> Cut
 // A part cut from its first byte on, past so many blocks at most.
 pub fn cut_blocks(p: &[u8], lead: usize, most: usize) -> Cut
     requires { ⌜ (lead ≤ 1) × (most ≤ 6) ⌝ }
-    ensures { λ r. ⌜ r ≡ cutOf most lead (now (p .entry)) ⌝ }
+    ensures { λ r. ⌜ (r ≡ cutOf most lead (now (p .entry))) × (r .at ≤ 10000) ⌝ }
 {
     let mut c = Cut {
         at: lead,
-        blocks: 0,
         full: true,
     };
     if p.len() <= lead {
@@ -73,44 +70,29 @@ pub fn cut_blocks(p: &[u8], lead: usize, most: usize) -> Cut
     c
 }
 
-// 8: the cut leads to `end`, and its blocks are as many as there may be.
-fn fills(c: Cut, end: usize, least: usize, most: usize) -> bool
-    ensures { λ r. ⌜ r ≡ fills c end least most ⌝ }
+// 09h: one to six speed blocks, each with a pair. They fill the part where the cut leads one past its end, and there is one
+// where it leads past its start.
+pub fn speed_blocks(p: &[u8]) -> Part
+    ensures { λ r. ⌜ SpeedPart (now (p .entry)) r ⌝ }
 {
-    (c.at == end) & ((least <= c.blocks) & (c.blocks <= most))
-}
-
-// What a cut says of 09h: one to six speed blocks, each with a pair. They fill the part where the cut leads one past its end.
-pub fn speed_part(c: Cut, end: usize) -> Part
-    ensures { λ r. ⌜ (r .whole ≡ fills c end 1 6) × (r .full ≡ c .full) ⌝ }
-{
+    let c = cut_blocks(p, 1, 6);
     Part {
-        whole: fills(c, end, 1, 6),
+        whole: (c.at == p.len() + 1) & (1 < c.at),
         full: c.full,
     }
 }
 
-// What a cut says of a kind with so many blocks, which may have no pair: 0Ah has two.
-pub fn pairs_part(c: Cut, end: usize, blocks: usize) -> Part
-    ensures { λ r. ⌜ (r .whole ≡ fills c end blocks blocks) × (r .full ≡ true) ⌝ }
-{
-    Part {
-        whole: fills(c, end, blocks, blocks),
-        full: true,
-    }
-}
-
-// 09h
-pub fn speed_blocks(p: &[u8]) -> Part
-    ensures { λ r. ⌜ SpeedPart (now (p .entry)) r ⌝ }
-{
-    speed_part(cut_blocks(p, 1, 6), p.len() + 1)
-}
-
-// 0Ah, with two
+// So many blocks, which may have no pair: 0Ah has two. They fill the part where the last of them begins before its end and
+// leads to it.
 pub fn pairs_blocks(p: &[u8], blocks: usize) -> Part
-    requires { ⌜ blocks ≤ 6 ⌝ }
+    requires { ⌜ (1 ≤ blocks) × (blocks ≤ 6) ⌝ }
     ensures { λ r. ⌜ PairsPart blocks (now (p .entry)) r ⌝ }
 {
-    pairs_part(cut_blocks(p, 0, blocks), p.len(), blocks)
+    let c = cut_blocks(p, 0, blocks - 1);
+    let whole = if c.at < p.len() {
+        past_block(p, 0, c).at == p.len()
+    } else {
+        false
+    };
+    Part { whole, full: true }
 }

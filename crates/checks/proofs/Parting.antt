@@ -14,6 +14,7 @@ use Rattle.format.specs.Decode.{whenNil, cutBlocks, cutTwo}
 use Rattle.format.specs.Writing.{assembledBreaks, partBreaks}
 use Rattle.format.specs.declared.records.BusDevice.{BusDevice}
 use Rattle.format.specs.declared.records.Element.the-variants.{Controller, Tachometer}
+use Rattle.format.specs.declared.settings.Settings.{Settings}
 use Rattle.blocks.specs.Cutting.{SpeedPart, PairsPart}
 use Rattle.blocks.specs.declared.Part.{Part}
 use Rattle.blocks.proofs.EachKind.{two}
@@ -22,25 +23,25 @@ use Rattle.rules.specs.Broken.{orElse, DeviceBreaks}
 
 -- a kind without a part
 pub alone :
-    (x : Record) (p : List ℕ) {fault r : ℕ}
+    (s : Settings) (x : Record) (p : List ℕ) {fault r : ℕ}
     → r ≡ orElse (eqb (length p) 0) 8 fault
-    → fault ≡ numbered (firstBroken (ownRules x))
-    → r ≡ numbered (assembledBreaks (whenNil p x))
-alone x [] e f = e ∙ f
-alone x (b ∷ p) e f = e ∙ rw (ne-eqb (suc (length p)) 0 (λ q. omega (arith, q))) refl
+    → fault ≡ numbered (firstBroken (ownRules s x))
+    → r ≡ numbered (assembledBreaks s (whenNil p x))
+alone s x [] e f = e ∙ f
+alone s x (b ∷ p) e f = e ∙ rw (ne-eqb (suc (length p)) 0 (λ q. omega (arith, q))) refl
 
 -- a device with its part
 module _
-    (d : BusDevice) (part : Part) (p : List ℕ) {r : ℕ} (f : (part .whole ≡ false → r ≡ 8) × (part .whole ≡ true → DeviceBreaks d (part .full) r))
+    (s : Settings) (d : BusDevice) (part : Part) (p : List ℕ) {r : ℕ} (f : (part .whole ≡ false → r ≡ 8) × (part .whole ≡ true → DeviceBreaks s d (part .full) r))
   where
     -- 09h
-    pub speeds : SpeedPart p part → r ≡ numbered (partBreaks (Controller d) p)
+    pub speeds : SpeedPart p part → r ≡ numbered (partBreaks s (Controller d) p)
     unfolding partBreaks
-    speeds s =
-        speed-fault part r (f .0) d (cutBlocks (length p) p) (s (length p) (omega arith)) (λ w. f .1 w .of-controller)
+    speeds a =
+        speed-fault s part r (f .0) d (cutBlocks (length p) p) (a (length p) (omega arith)) (λ w. f .1 w .of-controller)
 
     -- 0Ah
-    pub two-lists : PairsPart 2 p part → r ≡ numbered (partBreaks (Tachometer d) p)
+    pub two-lists : PairsPart 2 p part → r ≡ numbered (partBreaks s (Tachometer d) p)
     unfolding partBreaks
-    two-lists s =
-        pairs-fault part r (f .0) (λ q. tachometer d (q .0) (q .1)) (cutTwo p) (s .0 ∙ two p) (λ w q. f .1 w .of-tachometer (q .0) (q .1) (s .1))
+    two-lists a =
+        pairs-fault s part r (f .0) (λ q. tachometer d (q .0) (q .1)) (cutTwo p) (a .0 ∙ two p) (λ w q. f .1 w .of-tachometer (q .0) (q .1) (a .1))

@@ -7,7 +7,8 @@ use mathlib.Core.Bool.{Bool, true, false, _&&_}
 use lib.Dec.{ltb}
 use borrow.Author.Tests.{ltb-true, ltb-false, lt-ltb, le-ltb}
 use Rattle.format.specs.Slots.{halves, roomy, allRoomy}
-use Rattle.format.specs.Layout.{address, device}
+use Rattle.format.specs.Layout.{address, device, optionalPinSlot}
+use Rattle.format.specs.declared.pins.OptionalPin.{OptionalPin}
 use Rattle.format.specs.Rules.{descriptionRoomy, elementRoomy}
 use Rattle.format.specs.declared.records.Description.{Description}
 use Rattle.format.specs.declared.records.Placement.{Placement}
@@ -62,23 +63,31 @@ high-byte n = go (ltb n 16777216) refl
     go true e = sym (lt-ltb (n / 65536) 256 (omega (arith, ltb-true n 16777216 e)))
     go false e = sym (le-ltb (n / 65536) 256 (omega (arith, ltb-false n 16777216 e)))
 
+-- a place that may be unused
+abbrev pub pinRoomy : OptionalPin → Bool
+pinRoomy p = roomy (optionalPinSlot p)
+
+last : (a b : Bool) → a && b ≡ a && (b && true)
+last a b = beside a (also b refl)
+
 pub description-roomy :
-    (d : Description)
+    (d : Description) {a b c : Bool}
     → d .device < 256
     → d .string < 256
-    → d .revision0 .0 < 256
-    → d .revision1 .0 < 256
-    → d .revision2 .0 < 256
-    → ltb (d .serial) 16777216 && ltb (d .power .0) 128 ≡ descriptionRoomy d
+    → a ≡ pinRoomy (d .revision0)
+    → b ≡ pinRoomy (d .revision1)
+    → c ≡ pinRoomy (d .revision2)
+    → ltb (d .serial) 16777216 && (ltb (d .power .0) 128 && (a && (b && c))) ≡ descriptionRoomy d
 description-roomy d h i j k l =
     let s = d .serial in
-    one (d .device) h
+    rw (j, k, l)
+    (one (d .device) h
     (one (d .string) i
     (one (s % 256) (omega arith)
     (one (s / 256 % 256) (omega arith)
-    (ap (λ (a : Bool). a && ltb (d .power .0) 128) (high-byte s)
+    (ap (λ (a : Bool). a && (ltb (d .power .0) 128 && (pinRoomy (d .revision0) && (pinRoomy (d .revision1) && pinRoomy (d .revision2))))) (high-byte s)
     ∙ beside (ltb (s / 65536) 256)
-    (also (ltb (d .power .0) 128) (one (d .revision0 .0) j (one (d .revision1 .0) k (one (d .revision2 .0) l refl))))))))
+    (beside (ltb (d .power .0) 128) (beside (pinRoomy (d .revision0)) (last (pinRoomy (d .revision1)) (pinRoomy (d .revision2))))))))))
 
 pub digital-roomy :
     (d : DigitalSensor) (t : Bool)
@@ -113,38 +122,43 @@ analogue-roomy a p h i j k l m =
     (one (a .pin .0) h (two (a .at0 .0) i (two (a .at25 .0) j (two (a .at50 .0) k (two (a .at75 .0) l (two (a .at100 .0) m refl)))))))
 
 pub fan-roomy :
-    (f : PwmFan)
+    (f : PwmFan) {t : Bool}
     → Placed (f .placement)
     → f .pwm .0 < 256
-    → f .tachometer .0 < 256
+    → t ≡ pinRoomy (f .tachometer)
     → f .ppr < 256
     → f .minrpm .0 < 65536
     → f .maxrpm .0 < 65536
     → f .duty < 256
-    → true ≡ elementRoomy (Fan f)
+    → t ≡ elementRoomy (Fan f)
 fan-roomy f p h i j k l m =
     placed (f .placement) p
-    (one (f .pwm .0) h (one (f .tachometer .0) i (one (f .ppr) j (two (f .minrpm .0) k (two (f .maxrpm .0) l (one (f .duty) m refl))))))
+    (one (f .pwm .0) h (rw i (also (pinRoomy (f .tachometer)) (one (f .ppr) j (two (f .minrpm .0) k (two (f .maxrpm .0) l (one (f .duty) m refl)))))))
 
--- COLOR and PURPOSE of a lamp
-abbrev pub codes : Lamp → Bool
-codes l = roomy (halves (l .colour) (l .purpose))
+-- a lamp: its pin, and COLOR and PURPOSE
+abbrev pub lampRoomy : Lamp → Bool
+lampRoomy l = pinRoomy (l .pin) && roomy (halves (l .colour) (l .purpose))
+
+six : (a b c d e f : Bool) → a && b && (c && d && (e && f)) ≡ a && (b && (c && (d && (e && (f && true)))))
+six true true true true true true = refl
+six true true true true true false = refl
+six true true true true false f = refl
+six true true true false e f = refl
+six true true false d e f = refl
+six true false c d e f = refl
+six false b c d e f = refl
 
 pub led-roomy :
     (l : StatusLed) {a b c : Bool}
     → Placed (l .placement)
-    → l .one .pin .0 < 256
-    → l .two .pin .0 < 256
-    → l .three .pin .0 < 256
-    → a ≡ codes (l .one)
-    → b ≡ codes (l .two)
-    → c ≡ codes (l .three)
+    → a ≡ lampRoomy (l .one)
+    → b ≡ lampRoomy (l .two)
+    → c ≡ lampRoomy (l .three)
     → a && (b && c) ≡ elementRoomy (Led l)
-led-roomy l p h i j e f g =
+led-roomy l p e f g =
     rw (e, f, g)
     (placed (l .placement) p
-    (one (l .one .pin .0) h
-    (beside (codes (l .one)) (one (l .two .pin .0) i (beside (codes (l .two)) (one (l .three .pin .0) j (also (codes (l .three)) refl)))))))
+    (six (pinRoomy (l .one .pin)) _ (pinRoomy (l .two .pin)) _ (pinRoomy (l .three .pin)) _))
 
 pub current-roomy :
     (c : CurrentSensor)

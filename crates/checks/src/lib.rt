@@ -1,16 +1,17 @@
 // What the writer asks of a record before it writes: 25, and 8, 9 and 10 of an element with its part. 8, 9 and 10 are found by
 // the functions that the reader calls too.
 ghost use mathlib.Core.Path.{_≡_};
-ghost use mathlib.Core.Bool.{true, false};
+ghost use mathlib.Core.Bool.{true, false, _&&_};
 ghost use lib.ListN.{length};
 ghost use lib.Dec.{eqb};
 ghost use Rattle.format.specs.Slots.{halves, roomy, allRoomy};
-ghost use Rattle.format.specs.Layout.{device};
+ghost use Rattle.format.specs.Layout.{device, optionalPinSlot};
 ghost use Rattle.format.specs.Rules.{numbered, descriptionRoomy, elementRoomy};
 ghost use Rattle.format.specs.Writing.{partBreaks};
-ghost use Rattle.format.specs.declared.records.Element.the-variants.{Digital, Analogue, Led, Controller, Tachometer};
+ghost use Rattle.format.specs.declared.records.Element.the-variants.{Digital, Analogue, Fan, Led, Controller, Tachometer};
 ghost use Rattle.rules.specs.Broken.{orElse, DeviceBreaks};
 use blocks::Part;
+use format::pins::OptionalPin;
 use format::records::Address;
 use format::records::AnalogueSensor;
 use format::records::BusDevice;
@@ -18,13 +19,28 @@ use format::records::Description;
 use format::records::DigitalSensor;
 use format::records::Element;
 use format::records::Lamp;
+use format::records::PwmFan;
 use format::records::StatusLed;
+use format::settings::Settings;
 
 // 25 of the description: no number is too large for its field.
 pub fn description_roomy(d: Description) -> bool
     ensures { λ r. ⌜ r ≡ descriptionRoomy d ⌝ }
 {
-    (d.serial < 0x1000000) & (d.power.0 < 128)
+    let a = d.revision0;
+    let b = d.revision1;
+    let c = d.revision2;
+    (d.serial < 0x1000000) & ((d.power.0 < 128) & (pin_roomy(a) & (pin_roomy(b) & pin_roomy(c))))
+}
+
+// Of a place that may be unused: FFh and every pin's byte fit a byte.
+fn pin_roomy(p: OptionalPin) -> bool
+    ensures { λ r. ⌜ r ≡ roomy (optionalPinSlot p) ⌝ }
+{
+    match p {
+        OptionalPin::Unused => true,
+        OptionalPin::Used(_) => true,
+    }
 }
 
 // Of a bus type and an address.
@@ -52,11 +68,20 @@ fn analogue_roomy(a: AnalogueSensor) -> bool
     a.thermal < 16
 }
 
-// COLOR and PURPOSE of one lamp.
-fn lamp_roomy(l: Lamp) -> bool
-    ensures { λ r. ⌜ r ≡ roomy (halves (l .colour) (l .purpose)) ⌝ }
+// 03h
+fn fan_roomy(f: PwmFan) -> bool
+    ensures { λ r. ⌜ r ≡ elementRoomy (Fan f) ⌝ }
 {
-    (l.colour < 16) & (l.purpose < 16)
+    let t = f.tachometer;
+    pin_roomy(t)
+}
+
+// One lamp: its pin, and COLOR and PURPOSE.
+fn lamp_roomy(l: Lamp) -> bool
+    ensures { λ r. ⌜ r ≡ roomy (optionalPinSlot (l .pin)) && roomy (halves (l .colour) (l .purpose)) ⌝ }
+{
+    let p = l.pin;
+    pin_roomy(p) & ((l.colour < 16) & (l.purpose < 16))
 }
 
 // 04h
@@ -84,7 +109,7 @@ pub fn element_roomy(e: Element) -> bool
     match e {
         Element::Digital(d) => digital_roomy(d),
         Element::Analogue(a) => analogue_roomy(a),
-        Element::Fan(_) => true,
+        Element::Fan(f) => fan_roomy(f),
         Element::Led(l) => led_roomy(l),
         Element::Current(_) => true,
         Element::Controller(d) => device_roomy(d),
@@ -103,43 +128,43 @@ fn unless_empty(part: &[u8], fault: u8) -> u8
 }
 
 // 09h and 0Ah, by their fixed fields and what their part says.
-fn device_breaks(d: BusDevice, part: Part) -> u8
-    ensures { λ r. ⌜ (part .whole ≡ false → r ≡ 8) × (part .whole ≡ true → DeviceBreaks d (part .full) r) ⌝ }
+fn device_breaks(d: BusDevice, part: Part, s: Settings) -> u8
+    ensures { λ r. ⌜ (part .whole ≡ false → r ≡ 8) × (part .whole ≡ true → DeviceBreaks s d (part .full) r) ⌝ }
 {
     if !part.whole {
         return 8;
     }
-    rules::device_breaks(d, part.full)
+    rules::device_breaks(d, part.full, s)
 }
 
 // 09h
-fn controller_breaks(d: BusDevice, part: &[u8]) -> u8
-    ensures { λ r. ⌜ r ≡ numbered (partBreaks (Controller d) (now (part .entry))) ⌝ }
+fn controller_breaks(d: BusDevice, part: &[u8], s: Settings) -> u8
+    ensures { λ r. ⌜ r ≡ numbered (partBreaks s (Controller d) (now (part .entry))) ⌝ }
 {
-    device_breaks(d, blocks::speed_blocks(part))
+    device_breaks(d, blocks::speed_blocks(part), s)
 }
 
 // 0Ah
-fn tachometer_breaks(d: BusDevice, part: &[u8]) -> u8
-    ensures { λ r. ⌜ r ≡ numbered (partBreaks (Tachometer d) (now (part .entry))) ⌝ }
+fn tachometer_breaks(d: BusDevice, part: &[u8], s: Settings) -> u8
+    ensures { λ r. ⌜ r ≡ numbered (partBreaks s (Tachometer d) (now (part .entry))) ⌝ }
 {
-    device_breaks(d, blocks::pairs_blocks(part, 2))
+    device_breaks(d, blocks::pairs_blocks(part, 2), s)
 }
 
 // The first of 8, 9 and 10 that an element with its part breaks, or 0.
-pub fn part_breaks(e: Element, part: &[u8]) -> u8
-    ensures { λ r. ⌜ r ≡ numbered (partBreaks e (now (part .entry))) ⌝ }
+pub fn part_breaks(e: Element, part: &[u8], s: Settings) -> u8
+    ensures { λ r. ⌜ r ≡ numbered (partBreaks s e (now (part .entry))) ⌝ }
 {
     match e {
-        Element::Digital(d) => unless_empty(part, rules::digital_breaks(d)),
-        Element::Analogue(a) => unless_empty(part, rules::analogue_breaks(a)),
-        Element::Fan(f) => unless_empty(part, rules::fan_breaks(f)),
-        Element::Led(l) => unless_empty(part, rules::led_breaks(l)),
-        Element::Current(c) => unless_empty(part, rules::current_breaks(c)),
-        Element::Controller(d) => controller_breaks(d, part),
-        Element::Tachometer(d) => tachometer_breaks(d, part),
+        Element::Digital(d) => unless_empty(part, rules::digital_breaks(d, s)),
+        Element::Analogue(a) => unless_empty(part, rules::analogue_breaks(a, s)),
+        Element::Fan(f) => unless_empty(part, rules::fan_breaks(f, s)),
+        Element::Led(l) => unless_empty(part, rules::led_breaks(l, s)),
+        Element::Current(c) => unless_empty(part, rules::current_breaks(c, s)),
+        Element::Controller(d) => controller_breaks(d, part, s),
+        Element::Tachometer(d) => tachometer_breaks(d, part, s),
         Element::Zone => rules::zone_breaks(part),
         Element::Text => rules::text_breaks(part),
-        Element::Rgb(c) => unless_empty(part, rules::rgb_breaks(c)),
+        Element::Rgb(c) => unless_empty(part, rules::rgb_breaks(c, s)),
     }
 }

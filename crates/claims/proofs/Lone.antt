@@ -6,11 +6,12 @@ use mathlib.Core.Bool.{Bool, true, false, _&&_, _||_, not, and-true}
 use mathlib.Core.List.{List, [], _∷_, _++_}
 use lib.Dec.{eqb}
 use lib.Bits.{bitAnd, bitOr, and-comm}
-use Rattle.format.specs.Pins.{among, every, unused}
-use Rattle.format.specs.Claims.{alone, Claim, claim, clashes, unlessUnused, ownUsed}
+use Rattle.format.specs.Pins.{among, every}
+use Rattle.format.specs.Claims.{alone, Claim, claim, clashes, ownUsed}
 use Rattle.format.specs.declared.pins.OptionalPin.{OptionalPin}
+use Rattle.format.specs.declared.pins.OptionalPin.the-variants.{Unused, Used}
 use Rattle.pinsets.proofs.Table.{and-left, and-right}
-use Rattle.claims.specs.Taken.{IsSet, alonePins, jointPins, proper, free, onlyUsed, usedPin, ClaimsAre}
+use Rattle.claims.specs.Taken.{IsSet, alonePins, jointPins, proper, free, usedPin, ClaimsAre}
 use Rattle.claims.proofs.Tests.{both, taut1, taut3}
 use Rattle.claims.proofs.Bits.{or-zero}
 use Rattle.claims.proofs.Sets.{within, within-append, empty, union, apart, disjoint}
@@ -59,12 +60,9 @@ claims-alone w t ps s k d = record {
 }
 
 -- a place that may be unused
-own-used : (p : ℕ) (t : Bool) → lone (onlyUsed t p) ≡ unlessUnused t (claim alone p)
-own-used p true = refl
-own-used p false = refl
-
 pub lone-used : (p : OptionalPin) → lone (usedPin p) ≡ ownUsed p
-lone-used p = own-used (p .0) (unused p)
+lone-used Unused = refl
+lone-used (Used p) = refl
 
 pub lone-three : (p q r : OptionalPin) → lone (usedPin p ++ usedPin q ++ usedPin r) ≡ ownUsed p ++ ownUsed q ++ ownUsed r
 lone-three p q r =
@@ -78,24 +76,24 @@ lone-three p q r =
     refl
 
 -- three of them: what two have in common is what is named twice
-twice : (t u v : Bool) (p q r : ℕ)
-    → apart (onlyUsed u q) (onlyUsed t p) && apart (onlyUsed v r) (onlyUsed t p) && apart (onlyUsed v r) (onlyUsed u q)
-    ≡ distinct [] (onlyUsed t p ++ onlyUsed u q ++ onlyUsed v r)
-twice true true true p q r = refl
-twice true true false p q r = refl
-twice true false true p q r = refl
-twice true false false p q r = refl
-twice false true true p q r = refl
-twice false true false p q r = and-true (not (eqb r p || false) && true)
-twice false false true p q r = taut1 (λ a. a && true && true) (λ a. a) refl (not (eqb q p || false) && true)
-twice false false false p q r =
+twice : (p q r : OptionalPin)
+    → apart (usedPin q) (usedPin p) && apart (usedPin r) (usedPin p) && apart (usedPin r) (usedPin q)
+    ≡ distinct [] (usedPin p ++ usedPin q ++ usedPin r)
+twice Unused Unused Unused = refl
+twice Unused Unused (Used r) = refl
+twice Unused (Used q) Unused = refl
+twice Unused (Used q) (Used r) = refl
+twice (Used p) Unused Unused = refl
+twice (Used p) Unused (Used r) = and-true (not (eqb (r .0) (p .0) || false) && true)
+twice (Used p) (Used q) Unused = taut1 (λ a. a && true && true) (λ a. a) refl (not (eqb (q .0) (p .0) || false) && true)
+twice (Used p) (Used q) (Used r) =
     taut3
     (λ a b c. not (a || false) && true && (not (b || false) && true) && (not (c || false) && true))
     (λ a b c. not (a || false) && (not (c || (b || false)) && true))
     refl
-    (eqb q p)
-    (eqb r p)
-    (eqb r q)
+    (eqb (q .0) (p .0))
+    (eqb (r .0) (p .0))
+    (eqb (r .0) (q .0))
 
 module _ {a b c : ℕ} (p q r : OptionalPin) (sa : IsSet a (usedPin p)) (sb : IsSet b (usedPin q)) (sc : IsSet c (usedPin r)) where
   abbrev common : ℕ
@@ -113,7 +111,7 @@ module _ {a b c : ℕ} (p q r : OptionalPin) (sa : IsSet a (usedPin p)) (sb : Is
         disjoint sc sa hr,
         disjoint sc sb hr,
       )
-      (twice (unused p) (unused q) (unused r) (p .0) (q .0) (r .0))
+      (twice p q r)
 
   pub claims-three : within (usedPin p) ≡ true → within (usedPin q) ≡ true → within (usedPin r) ≡ true
       → ClaimsAre (record { alone = bitOr (bitOr a b) c; joint = 0; twice = common }) (ownUsed p ++ ownUsed q ++ ownUsed r)

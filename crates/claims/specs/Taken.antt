@@ -6,10 +6,11 @@ use mathlib.Core.Bool.{Bool, true, false, _&&_, not}
 use mathlib.Core.List.{List, [], _∷_, _++_}
 use mathlib.Core.Option.{Option, none, some}
 use lib.Dec.{eqb, ltb}
-use Rattle.format.specs.Pins.{among, every, permitted, unused, allowedOrUnused}
+use Rattle.format.specs.Pins.{among, every, listed}
 use Rattle.format.specs.Claims.{Manner, shared, select, alone, Claim, clashes, Made, firstClash, ownUsed}
 use Rattle.format.specs.declared.pins.OptionalPin.{OptionalPin}
-use Rattle.format.specs.declared.pins.Use.the-variants.{ChipSelect, HardwareRevision}
+use Rattle.format.specs.declared.pins.OptionalPin.the-variants.{Unused, Used}
+use Rattle.format.specs.declared.pins.Use.the-variants.{ChipSelect}
 use Rattle.pinsets.specs.Sets.{pinIndex, hasBit}
 use Rattle.claims.specs.declared.Claims.{Claims}
 use Rattle.claims.specs.declared.Held.{Held}
@@ -37,18 +38,18 @@ abbrev pub jointPins : List Claim → List ℕ
 jointPins [] = []
 jointPins (c ∷ cs) = addIf (not (isAlone (c .manner))) (c .pin) (jointPins cs)
 
--- the pin of a place that may be unused
-abbrev pub onlyUsed : Bool → ℕ → List ℕ
-onlyUsed true p = []
-onlyUsed false p = p ∷ []
-
+-- the pin of a place that may be unused, and whether it is one of the 25
 abbrev pub usedPin : OptionalPin → List ℕ
-usedPin p = onlyUsed (unused p) (p .0)
+usedPin Unused = []
+usedPin (Used p) = p .0 ∷ []
 
--- three such places: whether each has a pin or is unused, and the claims on them
+abbrev pub onPin : OptionalPin → Bool
+onPin Unused = true
+onPin (Used p) = among (p .0) every
+
+-- three such places, and the claims on them
 abbrev pub onPins : OptionalPin → OptionalPin → OptionalPin → Bool
-onPins p q r =
-    allowedOrUnused HardwareRevision p && (allowedOrUnused HardwareRevision q && allowedOrUnused HardwareRevision r)
+onPins p q r = onPin p && (onPin q && onPin r)
 
 abbrev pub ownThree : OptionalPin → OptionalPin → OptionalPin → List Claim
 ownThree p q r = ownUsed p ++ ownUsed q ++ ownUsed r
@@ -56,7 +57,7 @@ ownThree p q r = ownUsed p ++ ownUsed q ++ ownUsed r
 -- claims as records that keep 10 make them: the shared pins and those that may be a chip select are apart, all pins exist
 abbrev pub pinsOf : Manner → List ℕ
 pinsOf shared = 0x00 ∷ 0x01 ∷ 0x02 ∷ 0x03 ∷ 0x04 ∷ 0x07 ∷ []
-pinsOf select = permitted ChipSelect
+pinsOf select = listed ChipSelect
 pinsOf alone = every
 
 abbrev pub proper : List Claim → Bool

@@ -3,12 +3,13 @@ ghost use mathlib.Core.Path.{_≡_};
 ghost use mathlib.Core.Bool.{true};
 ghost use mathlib.Core.List.{List, [], _∷_, _++_};
 ghost use Prim.Native.Nat.{ℕ, _<_};
-ghost use Rattle.format.specs.Pins.{allowed, allowedOrUnused};
-ghost use Rattle.format.specs.declared.pins.Use.the-variants.{AnaloguePin, HardwareRevision};
+ghost use Rattle.format.specs.Pins.{allowed};
+ghost use Rattle.format.specs.declared.pins.Chip.{Chip};
+ghost use Rattle.format.specs.declared.pins.Use.the-variants.{AnaloguePin};
 ghost use Rattle.format.specs.Records.{fan, led, rgb};
 ghost use Rattle.format.specs.Rules.{selected, pinned, strapped};
 ghost use Rattle.format.specs.Claims.{Claim, claim, Made, madeAt, alone, own, reference, onBus, claimsOf, firstClaims};
-ghost use Rattle.claims.specs.Taken.{ClaimsAre, HeldIs, IsSet, usedPin, onPins, ownThree};
+ghost use Rattle.claims.specs.Taken.{ClaimsAre, HeldIs, IsSet, usedPin, onPin, onPins, ownThree};
 use format::pins::OptionalPin;
 use format::pins::Pin;
 use format::records::Address;
@@ -46,14 +47,17 @@ pub fn no_claims() -> Claims
 
 // A used pin's bit; no bit of an unused place.
 fn used_bit(p: OptionalPin) -> u32
-    ensures { λ r. ⌜ (allowedOrUnused HardwareRevision p ≡ true → IsSet r (usedPin p)) ⌝ }
+    ensures { λ r. ⌜ (onPin p ≡ true → IsSet r (usedPin p)) ⌝ }
 {
-    bit_of(p.0) % 0x2000000
+    match p {
+        OptionalPin::Unused => 0,
+        OptionalPin::Used(q) => bit_of(q.0),
+    }
 }
 
 // 01h, 09h, 0Ah: P0.3 and P0.4; or P0.0 to P0.2 and the chip select.
 pub fn bus_claims(a: Address) -> Claims
-    ensures { λ r. ⌜ (selected a ≡ true → ClaimsAre r (onBus a)) ⌝ }
+    ensures { λ r. ⌜ ((c : Chip) → selected c a ≡ true → ClaimsAre r (onBus a)) ⌝ }
 {
     match a {
         Address::Bus(_) => Claims {
@@ -71,7 +75,7 @@ pub fn bus_claims(a: Address) -> Claims
 
 // 02h, 08h: P0.7, and its pin.
 pub fn analogue_claims(p: Pin) -> Claims
-    ensures { λ r. ⌜ (allowed AnaloguePin p ≡ true → ClaimsAre r (reference ∷ own p ∷ [])) ⌝ }
+    ensures { λ r. ⌜ ((c : Chip) → allowed c AnaloguePin p ≡ true → ClaimsAre r (reference ∷ own p ∷ [])) ⌝ }
 {
     Claims {
         alone: bit_of(p.0),
@@ -82,7 +86,7 @@ pub fn analogue_claims(p: Pin) -> Claims
 
 // 03h: PWM and tachometer.
 pub fn fan_claims(f: PwmFan) -> Claims
-    ensures { λ r. ⌜ (pinned (fan f) ≡ true → ClaimsAre r (claimsOf (fan f))) ⌝ }
+    ensures { λ r. ⌜ ((c : Chip) → pinned c (fan f) ≡ true → ClaimsAre r (claimsOf (fan f))) ⌝ }
 {
     let t = f.tachometer;
     Claims {
@@ -108,14 +112,20 @@ fn three(p: OptionalPin, q: OptionalPin, r: OptionalPin) -> Claims
 
 // 04h: the lamps' pins.
 pub fn led_claims(l: StatusLed) -> Claims
-    ensures { λ r. ⌜ (pinned (led l) ≡ true → ClaimsAre r (claimsOf (led l))) ⌝ }
+    ensures { λ r. ⌜ ((c : Chip) → pinned c (led l) ≡ true → ClaimsAre r (claimsOf (led l))) ⌝ }
 {
-    three(l.one.pin, l.two.pin, l.three.pin)
+    let a = l.one;
+    let b = l.two;
+    let c = l.three;
+    let p = a.pin;
+    let q = b.pin;
+    let r = c.pin;
+    three(p, q, r)
 }
 
 // 0Eh: red, green, blue.
 pub fn rgb_claims(c: RgbLed) -> Claims
-    ensures { λ r. ⌜ (pinned (rgb c) ≡ true → ClaimsAre r (claimsOf (rgb c))) ⌝ }
+    ensures { λ r. ⌜ ((k : Chip) → pinned k (rgb c) ≡ true → ClaimsAre r (claimsOf (rgb c))) ⌝ }
 {
     Claims {
         alone: bit_of(c.red.0) | bit_of(c.green.0) | bit_of(c.blue.0),
@@ -154,8 +164,11 @@ fn fault_led() -> Held
 
 // Then come hardware revision 0, 1, 2.
 pub fn first_claims(d: Description) -> Held
-    ensures { λ r. ⌜ (strapped d ≡ true → HeldIs r (madeAt 0 (firstClaims d))) ⌝ }
+    ensures { λ r. ⌜ ((c : Chip) → strapped c d ≡ true → HeldIs r (madeAt 0 (firstClaims d))) ⌝ }
 {
     let led = fault_led();
-    claim(led, three(d.revision0, d.revision1, d.revision2), 0)
+    let p = d.revision0;
+    let q = d.revision1;
+    let r = d.revision2;
+    claim(led, three(p, q, r), 0)
 }

@@ -19,6 +19,8 @@ use Rattle.format.proofs.Kept.{own-unbroken}
 use Rattle.format.proofs.Slots.{roomy-split}
 use Rattle.format.proofs.Written.{written-fits, length-written, record-reads-back}
 use Rattle.format.proofs.Whole.{written-append, written-whole, length-whole}
+use Rattle.format.specs.declared.pins.Chip.{Chip}
+use Rattle.format.specs.declared.settings.Settings.{Settings}
 
 -- a record is assembled again from its element and its part
 pub assembles : (r : Record) → allRoomy (part r) ≡ true → assemble (elementOf r) (written (part r)) ≡ some r
@@ -57,19 +59,23 @@ slots-length r =
 
 -- and is read back as the same record
 pub append-reads-back :
-    (r : Record) (more : List ℕ)
+    (chip : Chip) (r : Record) (more : List ℕ)
     → allRoomy (layout r) ≡ true
-    → ofItsKind r ≡ true
-    → decode (byte (written (elementSlots (elementOf r) (written (part r))) ++ more) 0) (content (written (elementSlots (elementOf r) (written (part r))) ++ more))
+    → ofItsKind chip r ≡ true
+    → decode chip (byte (written (elementSlots (elementOf r) (written (part r))) ++ more) 0) (content (written (elementSlots (elementOf r) (written (part r))) ++ more))
     ≡ some r
-append-reads-back r more h k =
-    ap (λ (l : List ℕ). decode (byte (l ++ more) 0) (content (l ++ more))) (slots-written r) ∙ record-reads-back r more h k
+append-reads-back chip r more h k =
+    ap (λ (l : List ℕ). decode chip (byte (l ++ more) 0) (content (l ++ more))) (slots-written r) ∙ record-reads-back chip r more h k
 
 -- what keeps the rules is not refused by 25, 8, 9 or 10
 pub body-roomy : (r : Record) → allRoomy (layout r) ≡ true → allRoomy (body r) ≡ true
 body-roomy r h = roomy-split (whole (idOf (elementOf r)) ∷ word (3 + length (body r))) (body r) h .1
 
-pub kept-break : (before : List Record) (r : Record) → elementBreaks before r ≡ none → allRoomy (part r) ≡ true → partBreaks (elementOf r) (written (part r)) ≡ none
+pub kept-break :
+    (s : Settings) (before : List Record) (r : Record)
+    → elementBreaks s before r ≡ none
+    → allRoomy (part r) ≡ true
+    → partBreaks s (elementOf r) (written (part r)) ≡ none
 unfolding partBreaks
-kept-break before r h k =
-    ap assembledBreaks (assembles r k) ∙ own-unbroken before r h
+kept-break s before r h k =
+    ap (assembledBreaks s) (assembles r k) ∙ own-unbroken s before r h

@@ -5,3 +5,4 @@ pub mod Making
 pub mod Refusals
 pub mod Tried
 pub mod BadWriters
+pub mod OtherChip

@@ -14,7 +14,7 @@ use Rattle.format.specs.Records.{Record, elementOf}
 use Rattle.format.specs.Layout.{opening, fixed, part, layout, layouts, table}
 use Rattle.format.specs.Table.{elementBreaks, PassKept}
 use Rattle.format.specs.Verdict.{stated}
-use Rattle.format.specs.Writing.{elementSlots, newLength, appendAnswer, appendLeaves, overwritten}
+use Rattle.format.specs.Writing.{writing, elementSlots, newLength, appendAnswer, appendLeaves, overwritten}
 use Rattle.format.specs.declared.records.Description.{Description}
 use Rattle.format.specs.declared.answers.Written.{Written}
 use Rattle.format.specs.declared.answers.Written.the-variants.{Length}
@@ -24,6 +24,7 @@ use Rattle.format.proofs.Whole.{written-append}
 use Rattle.format.proofs.Slots.{roomy-split}
 use Rattle.demands.proofs.Assembled.{body-roomy, kept-break, slots-written, slots-length}
 use Rattle.demands.specs.Runs.{standing, Appends, AllDone}
+use Rattle.format.specs.declared.pins.Chip.{Chip}
 
 -- the table so far
 table-length : (d : Description) (rs : List Record) → length (written (table d rs)) ≡ 16 + length (layouts rs)
@@ -88,44 +89,45 @@ leaves-standing d rs r c n e =
     ∙ ap (λ (w : List ℕ). w ++ z) (snoc-written d rs r n e)
     ∙ ap (λ (w : List ℕ). written (table d (rs ++ r ∷ [])) ++ w) rest
 
--- append's answer to a record of the list: the new length
-pub answers-length :
-    (d : Description) (rs : List Record) (r : Record) (c : List ℕ)
-    → elementBreaks rs r ≡ none
-    → allRoomy (layout r) ≡ true
-    → 16 + length (layouts (rs ++ r ∷ [])) ≤ length c
-    → 16 + length (layouts (rs ++ r ∷ [])) ≤ 4096
-    → appendAnswer (standing d rs c) (elementOf r) (written (part r)) ≡ Length (16 + length (layouts (rs ++ r ∷ [])))
-unfolding appendAnswer
-answers-length d rs r c h k long top =
-    let b = standing d rs c in
-    let m = 16 + length (layouts rs) in
-    let g : length (layouts (rs ++ r ∷ [])) ≡ length (layouts rs) + length (layout r) =
-    ap length (layouts-snoc rs r) ∙ length-append (layouts rs) (layout r) in
-    let s = standing-stated d rs c in
-    let q = roomy-split (fixed (elementOf r)) (part r) (body-roomy r k) in
-    let lb : length b ≡ length c = standing-length d rs c (omega (arith, g, long)) in
-    let new : newLength b (elementOf r) (written (part r)) ≡ 16 + length (layouts (rs ++ r ∷ [])) =
-    omega (arith, s, slots-length r, g) in
-    rw (le-leb 16 (length b) (omega (arith, lb, g, long)), le-leb 16 (stated b) (omega (arith, s)), le-leb (stated b) 4096 (omega (arith, s, g, top)), le-leb (stated b) (length b) (omega (arith, s, lb, g, long)), q .0, kept-break rs r h (q .1), new, le-leb (16 + length (layouts (rs ++ r ∷ []))) (length b) (omega (arith, lb, long)), le-leb (16 + length (layouts (rs ++ r ∷ []))) 4096 top) refl
+module _ (chip : Chip) where
+  -- append's answer to a record of the list: the new length
+  pub answers-length :
+      (d : Description) (rs : List Record) (r : Record) (c : List ℕ)
+      → elementBreaks (writing chip) rs r ≡ none
+      → allRoomy (layout r) ≡ true
+      → 16 + length (layouts (rs ++ r ∷ [])) ≤ length c
+      → 16 + length (layouts (rs ++ r ∷ [])) ≤ 4096
+      → appendAnswer chip (standing d rs c) (elementOf r) (written (part r)) ≡ Length (16 + length (layouts (rs ++ r ∷ [])))
+  unfolding appendAnswer
+  answers-length d rs r c h k long top =
+      let b = standing d rs c in
+      let m = 16 + length (layouts rs) in
+      let g : length (layouts (rs ++ r ∷ [])) ≡ length (layouts rs) + length (layout r) =
+      ap length (layouts-snoc rs r) ∙ length-append (layouts rs) (layout r) in
+      let s = standing-stated d rs c in
+      let q = roomy-split (fixed (elementOf r)) (part r) (body-roomy r k) in
+      let lb : length b ≡ length c = standing-length d rs c (omega (arith, g, long)) in
+      let new : newLength b (elementOf r) (written (part r)) ≡ 16 + length (layouts (rs ++ r ∷ [])) =
+      omega (arith, s, slots-length r, g) in
+      rw (le-leb 16 (length b) (omega (arith, lb, g, long)), le-leb 16 (stated b) (omega (arith, s)), le-leb (stated b) 4096 (omega (arith, s, g, top)), le-leb (stated b) (length b) (omega (arith, s, lb, g, long)), q .0, kept-break (writing chip) rs r h (q .1), new, le-leb (16 + length (layouts (rs ++ r ∷ []))) (length b) (omega (arith, lb, long)), le-leb (16 + length (layouts (rs ++ r ∷ []))) 4096 top) refl
 
 -- all records of the list, each in turn
 rejoin : (before : List Record) (r : Record) (rs : List Record) → before ++ r ∷ rs ≡ (before ++ r ∷ []) ++ rs
 rejoin before r rs = sym (append-assoc before (r ∷ []) rs)
 
 pub appended :
-    (d : Description) (before rs : List Record) (c : List ℕ) (ws : List Written) (after : List ℕ)
-    → PassKept before rs
+    (chip : Chip) (d : Description) (before rs : List Record) (c : List ℕ) (ws : List Written) (after : List ℕ)
+    → PassKept (writing chip) before rs
     → allRoomy (layouts rs) ≡ true
     → 16 + length (layouts (before ++ rs)) ≤ length c
     → 16 + length (layouts (before ++ rs)) ≤ 4096
-    → Appends (standing d before c) rs ws after
+    → Appends chip (standing d before c) rs ws after
     → AllDone ws × (after ≡ standing d (before ++ rs) c)
-appended d before [] c [] after k h long top run =
+appended chip d before [] c [] after k h long top run =
     (tt, sym run ∙ ap (λ (l : List Record). standing d l c) (sym (append-nil before)))
-appended d before [] c (w ∷ ws) after k h long top run = absurd run
-appended d before (r ∷ rs) c [] after k h long top run = absurd run
-appended d before (r ∷ rs) c (w ∷ ws) after k h long top run =
+appended chip d before [] c (w ∷ ws) after k h long top run = absurd run
+appended chip d before (r ∷ rs) c [] after k h long top run = absurd run
+appended chip d before (r ∷ rs) c (w ∷ ws) after k h long top run =
     let next = before ++ r ∷ [] in
     let split = roomy-split (layout r) (layouts rs) h in
     let size : length (layouts (before ++ r ∷ rs)) ≡ length (layouts next) + length (layouts rs) =
@@ -136,11 +138,11 @@ appended d before (r ∷ rs) c (w ∷ ws) after k h long top run =
     let e = elementOf r in
     let p = written (part r) in
     let answer : w ≡ Length n =
-    run .1 .answer ∙ answers-length d before r c (k .1) (split .0) (omega (arith, size, long)) (omega (arith, size, top)) in
+    run .1 .answer ∙ answers-length chip d before r c (k .1) (split .0) (omega (arith, size, long)) (omega (arith, size, top)) in
     let leaves : run .0 ≡ standing d next c =
     run .1 .leaves
     ∙ ap (λ (v : Written). appendLeaves v (standing d before c) e p) answer
     ∙ leaves-standing d before r c n refl in
     let more =
-    appended d next rs c ws after (k .2) (split .1) (subst (λ (l : List Record). 16 + length (layouts l) ≤ length c) (rejoin before r rs) long) (subst (λ (l : List Record). 16 + length (layouts l) ≤ 4096) (rejoin before r rs) top) (subst (λ (l : List ℕ). Appends l rs ws after) leaves (run .2)) in
+    appended chip d next rs c ws after (k .2) (split .1) (subst (λ (l : List Record). 16 + length (layouts l) ≤ length c) (rejoin before r rs) long) (subst (λ (l : List Record). 16 + length (layouts l) ≤ 4096) (rejoin before r rs) top) (subst (λ (l : List ℕ). Appends chip l rs ws after) leaves (run .2)) in
     (((n, answer), more .0), more .1 ∙ ap (λ (l : List Record). standing d l c) (sym (rejoin before r rs)))

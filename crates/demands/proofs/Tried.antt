@@ -15,6 +15,10 @@ use Rattle.format.specs.Verdict.{Accepts}
 use Rattle.format.specs.Known.{tableA}
 use Rattle.format.specs.declared.records.Description.{Description}
 use Rattle.format.proofs.Written.{written-fits, written-bytes}
+use Rattle.format.specs.declared.pins.Chip.{Chip}
+use Rattle.format.specs.declared.pins.Chip.the-variants.{C8051F320, C8051F321}
+use Rattle.format.specs.declared.pins.OptionalPin.the-variants.{Unused}
+use Rattle.format.specs.Writing.{writing}
 
 abbrev pub ofA : Description
 ofA =
@@ -24,9 +28,9 @@ ofA =
       serial = 7;
       spwr = true;
       power = record { 0 = 0 };
-      revision0 = record { 0 = 0xff };
-      revision1 = record { 0 = 0xff };
-      revision2 = record { 0 = 0xff };
+      revision0 = Unused;
+      revision1 = Unused;
+      revision2 = Unused;
     }
 
 -- strings 1 and 2, of no text
@@ -43,14 +47,14 @@ pub is-table-a : tried [] ≡ tableA 0x01 0x10 0x80 0xff
 is-table-a = refl
 
 -- they keep the rules, as is computed
-pub none-kept : Keeps ofA []
+pub none-kept : (chip : Chip) → Keeps (writing chip) ofA []
 unfolding descriptionRules ownRules rulesAgainst
-none-kept =
+none-kept chip =
     record { roomy-25 = refl; limit = omega arith; described = refl; passed = tt; zoned = refl; named = refl; clear = refl }
 
-pub one-kept : Keeps ofA (text1 ∷ [])
+pub one-kept : (chip : Chip) → Keeps (writing chip) ofA (text1 ∷ [])
 unfolding descriptionRules ownRules rulesAgainst
-one-kept =
+one-kept chip =
     record {
       roomy-25 = refl;
       limit = omega arith;
@@ -61,9 +65,9 @@ one-kept =
       clear = refl;
     }
 
-pub two-kept : Keeps ofA (text1 ∷ text2 ∷ [])
+pub two-kept : (chip : Chip) → Keeps (writing chip) ofA (text1 ∷ text2 ∷ [])
 unfolding descriptionRules ownRules rulesAgainst
-two-kept =
+two-kept chip =
     record {
       roomy-25 = refl;
       limit = omega arith;
@@ -75,8 +79,8 @@ two-kept =
     }
 
 -- and so they are accepted
-pub tried-accepted : (rs : List Record) → Keeps ofA rs → Accepts (tried rs) ofA rs
-tried-accepted rs k = record { keeps = k; fits = written-fits (table ofA rs) (k .roomy-25) }
+pub tried-accepted : (chip : Chip) (rs : List Record) → Keeps (writing chip) ofA rs → Accepts (writing chip) (tried rs) ofA rs
+tried-accepted chip rs k = record { keeps = k; fits = written-fits (table ofA rs) (k .roomy-25) }
 
-pub tried-bytes : (rs : List Record) → Keeps ofA rs → Bytes (tried rs)
-tried-bytes rs k = written-bytes (table ofA rs) (k .roomy-25)
+pub tried-bytes : (chip : Chip) (rs : List Record) → Keeps (writing chip) ofA rs → Bytes (tried rs)
+tried-bytes chip rs k = written-bytes (table ofA rs) (k .roomy-25)

@@ -13,6 +13,8 @@ use Rattle.format.specs.declared.records.Description.{Description}
 use Rattle.format.specs.declared.records.Element.{Element}
 use Rattle.format.specs.declared.answers.Written.{Written}
 use Rattle.writer.specs.Calls.{Started, Appended}
+use Rattle.format.specs.declared.pins.Chip.{Chip}
+use Rattle.format.specs.Writing.{writing}
 
 -- what a call answers, and the buffer after it
 pub record Outcome : Type 0 where
@@ -23,10 +25,10 @@ pub record Writer : Type 0 where
   pub start : List ℕ → Description → Outcome
   pub append : List ℕ → Element → List ℕ → Outcome
 
--- it keeps the words of start and of append on all inputs
-pub record KeepsWords (w : Writer) : Type 0 where
-  pub starts : (b : List ℕ) (d : Description) → Started b d (w .start b d .answer) (w .start b d .after)
-  pub appends : (b : List ℕ) (e : Element) (p : List ℕ) → Appended b e p (w .append b e p .answer) (w .append b e p .after)
+-- with this chip named it keeps the words of start and of append on all inputs
+pub record KeepsWords (chip : Chip) (w : Writer) : Type 0 where
+  pub starts : (b : List ℕ) (d : Description) → Started chip b d (w .start b d .answer) (w .start b d .after)
+  pub appends : (b : List ℕ) (e : Element) (p : List ℕ) → Appended chip b e p (w .append b e p .answer) (w .append b e p .after)
 
 -- the buffer after append for each record in turn, and with start before them
 abbrev pub appendsAll : Writer → List ℕ → List Record → List ℕ
@@ -38,12 +40,12 @@ writes w c d rs = appendsAll w (w .start c d .after) rs
 
 -- demand 2: 'Writing the records of an accepted table, in their order, into a buffer long enough gives that table again with its
 -- reserved places at zero'; the buffer's own bytes stand behind
-abbrev pub Demand2For : Writer → Type 0
-Demand2For w =
+abbrev pub Demand2For : Chip → Writer → Type 0
+Demand2For chip w =
     (b c : List ℕ) (d : Description) (rs : List Record)
     → Bytes b
     → Bytes c
-    → Accepts b d rs
+    → Accepts (writing chip) b d rs
     → length b ≤ length c
     → writes w c d rs ≡ cleared b (table d rs) ++ drop (length b) c
 

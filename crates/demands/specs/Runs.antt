@@ -11,14 +11,15 @@ use Rattle.format.specs.declared.records.Description.{Description}
 use Rattle.format.specs.declared.answers.Written.{Written}
 use Rattle.format.specs.declared.answers.Written.the-variants.{Length}
 use Rattle.writer.specs.Calls.{Appended}
+use Rattle.format.specs.declared.pins.Chip.{Chip}
 
--- appending the records to a buffer gives these answers and leaves these bytes
-abbrev pub Appends : List ℕ → List Record → List Written → List ℕ → Type 0
-Appends b [] [] after = b ≡ after
-Appends b [] (w ∷ ws) after = ⊥
-Appends b (r ∷ rs) [] after = ⊥
-Appends b (r ∷ rs) (w ∷ ws) after =
-    (between : List ℕ) × Appended b (elementOf r) (written (part r)) w between × Appends between rs ws after
+-- appending the records to a buffer, with this chip named, gives these answers and leaves these bytes
+abbrev pub Appends : Chip → List ℕ → List Record → List Written → List ℕ → Type 0
+Appends chip b [] [] after = b ≡ after
+Appends chip b [] (w ∷ ws) after = ⊥
+Appends chip b (r ∷ rs) [] after = ⊥
+Appends chip b (r ∷ rs) (w ∷ ws) after =
+    (between : List ℕ) × Appended chip b (elementOf r) (written (part r)) w between × Appends chip between rs ws after
 
 -- the buffer when so many records are written: their table, and the rest as it was
 abbrev pub standing : Description → List Record → List ℕ → List ℕ

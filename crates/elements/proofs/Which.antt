@@ -12,6 +12,7 @@ use borrow.Author.Tests.{eqb-true, leb-true, ne-eqb}
 use Rattle.format.specs.Slots.{byte}
 use Rattle.format.specs.Records.{Record, digital, analogue, fan, led, current, controller, tachometer, zone, string, rgb, elementOf}
 use Rattle.format.specs.Decode.{readDigital, readAnalogue, readFan, readLed, readCurrent, readDevice, readRgb, guard, bind, pick, cutBlocks, cutTwo, decode}
+use Rattle.format.specs.declared.pins.Chip.{Chip}
 use Rattle.format.specs.declared.records.Element.{Element}
 use Rattle.format.specs.declared.records.Element.the-variants.{Digital, Analogue, Fan, Led, Current, Controller, Tachometer, Zone, Text, Rgb}
 
@@ -35,44 +36,44 @@ even n m y x h =
     let z : y ≡ x = cc in
     (eqb-true n m (p .0), ap elementOf z)
 
-module _ (c : List ℕ) (x : Record) where
-  pub is-digital : decode 1 c ≡ some x → (length c ≡ 18) × (Digital (readDigital (byte c)) ≡ elementOf x)
+module _ (chip : Chip) (c : List ℕ) (x : Record) where
+  pub is-digital : decode chip 1 c ≡ some x → (length c ≡ 18) × (Digital (readDigital chip (byte c)) ≡ elementOf x)
   unfolding decode
-  is-digital h = even (length c) 18 (digital (readDigital (byte c))) x h
+  is-digital h = even (length c) 18 (digital (readDigital chip (byte c))) x h
 
-  pub is-analogue : decode 2 c ≡ some x → (length c ≡ 17) × (Analogue (readAnalogue (byte c)) ≡ elementOf x)
+  pub is-analogue : decode chip 2 c ≡ some x → (length c ≡ 17) × (Analogue (readAnalogue chip (byte c)) ≡ elementOf x)
   unfolding decode
-  is-analogue h = even (length c) 17 (analogue (readAnalogue (byte c))) x h
+  is-analogue h = even (length c) 17 (analogue (readAnalogue chip (byte c))) x h
 
-  pub is-fan : decode 3 c ≡ some x → (length c ≡ 13) × (Fan (readFan (byte c)) ≡ elementOf x)
+  pub is-fan : decode chip 3 c ≡ some x → (length c ≡ 13) × (Fan (readFan chip (byte c)) ≡ elementOf x)
   unfolding decode
-  is-fan h = even (length c) 13 (fan (readFan (byte c))) x h
+  is-fan h = even (length c) 13 (fan (readFan chip (byte c))) x h
 
-  pub is-led : decode 4 c ≡ some x → (length c ≡ 11) × (Led (readLed (byte c)) ≡ elementOf x)
+  pub is-led : decode chip 4 c ≡ some x → (length c ≡ 11) × (Led (readLed chip (byte c)) ≡ elementOf x)
   unfolding decode
-  is-led h = even (length c) 11 (led (readLed (byte c))) x h
+  is-led h = even (length c) 11 (led (readLed chip (byte c))) x h
 
-  pub is-current : decode 8 c ≡ some x → (length c ≡ 11) × (Current (readCurrent (byte c)) ≡ elementOf x)
+  pub is-current : decode chip 8 c ≡ some x → (length c ≡ 11) × (Current (readCurrent chip (byte c)) ≡ elementOf x)
   unfolding decode
-  is-current h = even (length c) 11 (current (readCurrent (byte c))) x h
+  is-current h = even (length c) 11 (current (readCurrent chip (byte c))) x h
 
-  pub is-rgb : decode 14 c ≡ some x → (length c ≡ 8) × (Rgb (readRgb (byte c)) ≡ elementOf x)
+  pub is-rgb : decode chip 14 c ≡ some x → (length c ≡ 8) × (Rgb (readRgb chip (byte c)) ≡ elementOf x)
   unfolding decode
-  is-rgb h = even (length c) 8 (rgb (readRgb (byte c))) x h
+  is-rgb h = even (length c) 8 (rgb (readRgb chip (byte c))) x h
 
-  pub is-controller : decode 9 c ≡ some x → (8 ≤ length c) × (Controller (readDevice (byte c)) ≡ elementOf x)
+  pub is-controller : decode chip 9 c ≡ some x → (8 ≤ length c) × (Controller (readDevice chip (byte c)) ≡ elementOf x)
   unfolding decode
   is-controller h =
-      let p = guard-some (leb 8 (length c)) (bind (cutBlocks (length c) (drop 8 c)) (λ l. some (controller (readDevice (byte c)) l))) x h in
-      (leb-true 8 (length c) (p .0), bind-element (cutBlocks (length c) (drop 8 c)) (λ l. controller (readDevice (byte c)) l) (Controller (readDevice (byte c))) x (λ l. refl) (p .1))
+      let p = guard-some (leb 8 (length c)) (bind (cutBlocks (length c) (drop 8 c)) (λ l. some (controller (readDevice chip (byte c)) l))) x h in
+      (leb-true 8 (length c) (p .0), bind-element (cutBlocks (length c) (drop 8 c)) (λ l. controller (readDevice chip (byte c)) l) (Controller (readDevice chip (byte c))) x (λ l. refl) (p .1))
 
-  pub is-tachometer : decode 10 c ≡ some x → (9 ≤ length c) × (Tachometer (readDevice (byte c)) ≡ elementOf x)
+  pub is-tachometer : decode chip 10 c ≡ some x → (9 ≤ length c) × (Tachometer (readDevice chip (byte c)) ≡ elementOf x)
   unfolding decode
   is-tachometer h =
-      let p = guard-some (leb 9 (length c)) (bind (cutTwo (drop 9 c)) (λ t. some (tachometer (readDevice (byte c)) (t .0) (t .1)))) x h in
-      (leb-true 9 (length c) (p .0), bind-element (cutTwo (drop 9 c)) (λ t. tachometer (readDevice (byte c)) (t .0) (t .1)) (Tachometer (readDevice (byte c))) x (λ t. refl) (p .1))
+      let p = guard-some (leb 9 (length c)) (bind (cutTwo (drop 9 c)) (λ t. some (tachometer (readDevice chip (byte c)) (t .0) (t .1)))) x h in
+      (leb-true 9 (length c) (p .0), bind-element (cutTwo (drop 9 c)) (λ t. tachometer (readDevice chip (byte c)) (t .0) (t .1)) (Tachometer (readDevice chip (byte c))) x (λ t. refl) (p .1))
 
-  pub is-text : decode 12 c ≡ some x → Text ≡ elementOf x
+  pub is-text : decode chip 12 c ≡ some x → Text ≡ elementOf x
   unfolding decode
   is-text h = let z : string c ≡ x = cc in ap elementOf z
 
@@ -88,7 +89,7 @@ module _ (c : List ℕ) (x : Record) where
       → (id ≡ 10 → ⊥)
       → (id ≡ 12 → ⊥)
       → (id ≡ 14 → ⊥)
-      → decode id c ≡ some x
+      → decode chip id c ≡ some x
       → Zone ≡ elementOf x
   unfolding decode
   is-zone id a b d e f g i j k h =

@@ -3,8 +3,11 @@
 use Prim.Native.Nat.{ℕ}
 use mathlib.Core.List.{List}
 use Rattle.format.specs.Records.{zoneNumber}
+use Rattle.format.specs.Layout.{optionalByte}
 use Rattle.format.specs.declared.records.Address.{Address}
 use Rattle.format.specs.declared.records.Address.the-variants.{Bus, Select}
+use Rattle.format.specs.declared.records.PwmFan.{PwmFan}
+use Rattle.format.specs.declared.records.StatusLed.{StatusLed}
 use Rattle.format.specs.declared.records.Element.{Element}
 use Rattle.format.specs.declared.records.Element.the-variants.{Digital, Analogue, Fan, Led, Current, Controller, Tachometer, Zone, Text, Rgb}
 use Rattle.elements.specs.declared.OwnPins.{OwnPins}
@@ -17,11 +20,17 @@ abbrev pub selectOf : Address → ℕ
 selectOf (Bus a) = 0xff
 selectOf (Select p) = p .0
 
+abbrev pub fanPins : PwmFan → OwnPins
+fanPins f = three (f .pwm .0) (optionalByte (f .tachometer)) 0xff
+
+abbrev pub lampPins : StatusLed → OwnPins
+lampPins l = three (optionalByte (l .one .pin)) (optionalByte (l .two .pin)) (optionalByte (l .three .pin))
+
 abbrev pub ownPins : Element → OwnPins
 ownPins (Digital d) = three (selectOf (d .address)) 0xff 0xff
 ownPins (Analogue a) = three (a .pin .0) 0xff 0xff
-ownPins (Fan f) = three (f .pwm .0) (f .tachometer .0) 0xff
-ownPins (Led l) = three (l .one .pin .0) (l .two .pin .0) (l .three .pin .0)
+ownPins (Fan f) = fanPins f
+ownPins (Led l) = lampPins l
 ownPins (Current c) = three (c .pin .0) 0xff 0xff
 ownPins (Controller d) = three (selectOf (d .address)) 0xff 0xff
 ownPins (Tachometer d) = three (selectOf (d .address)) 0xff 0xff

@@ -3,31 +3,35 @@
 ghost use mathlib.Core.Path.{_≡_};
 ghost use mathlib.Core.Option.{some};
 ghost use Rattle.format.specs.Records.{Record, elementOf, unknownPosition};
-ghost use Rattle.format.specs.Layout.{idOf};
+ghost use Rattle.format.specs.Layout.{idOf, optionalByte};
 ghost use Rattle.format.specs.Decode.{decode};
 ghost use Rattle.format.specs.Slots.{byte};
 ghost use Rattle.elements.specs.Parts.{partStart};
-ghost use Rattle.elements.specs.Own.{three as threeOf, selectOf, ownPins, zoneOf};
+ghost use Rattle.elements.specs.Own.{three as threeOf, selectOf, fanPins, lampPins, ownPins, zoneOf};
+use format::pins::Chip;
+use format::pins::OptionalPin;
 use format::records::Address;
 use format::records::Element;
 use format::records::Placement;
+use format::records::PwmFan;
+use format::records::StatusLed;
 use words::wide;
 
-// The element in the bytes after a header with this identifier.
-pub fn element_of(id: u8, b: &[u8]) -> Element
-    requires { ⌜ ((x : Record) × (decode id (now b) ≡ some x)) ⌝ }
-    ensures { λ r. ⌜ ((x : Record) → decode id (now (b .entry)) ≡ some x → r ≡ elementOf x) ⌝ }
+// The element in the bytes after a header with this identifier, its pins of this chip.
+pub fn element_of(id: u8, b: &[u8], chip: Chip) -> Element
+    requires { ⌜ ((x : Record) × (decode chip id (now b) ≡ some x)) ⌝ }
+    ensures { λ r. ⌜ ((x : Record) → decode chip id (now (b .entry)) ≡ some x → r ≡ elementOf x) ⌝ }
 {
     match id {
-        1 => Element::Digital(fields::digital(b)),
-        2 => Element::Analogue(fields::analogue(b)),
-        3 => Element::Fan(fields::fan(b)),
-        4 => Element::Led(fields::led(b)),
-        8 => Element::Current(fields::current(b)),
-        9 => Element::Controller(fields::device(b)),
-        10 => Element::Tachometer(fields::device(b)),
+        1 => Element::Digital(fields::digital(b, chip)),
+        2 => Element::Analogue(fields::analogue(b, chip)),
+        3 => Element::Fan(fields::fan(b, chip)),
+        4 => Element::Led(fields::led(b, chip)),
+        8 => Element::Current(fields::current(b, chip)),
+        9 => Element::Controller(fields::device(b, chip)),
+        10 => Element::Tachometer(fields::device(b, chip)),
         12 => Element::Text,
-        14 => Element::Rgb(fields::rgb(b)),
+        14 => Element::Rgb(fields::rgb(b, chip)),
         _ => Element::Zone,
     }
 }
@@ -94,11 +98,8 @@ pub fn shown(e: Element, part: &[u8]) -> Showing
             placed(d.placement.zone, selected(a))
         }
         Element::Analogue(a) => placed(a.placement.zone, own(a.pin.0, 255, 255)),
-        Element::Fan(f) => placed(f.placement.zone, own(f.pwm.0, f.tachometer.0, 255)),
-        Element::Led(l) => placed(
-            l.placement.zone,
-            own(l.one.pin.0, l.two.pin.0, l.three.pin.0),
-        ),
+        Element::Fan(f) => placed(f.placement.zone, fan_pins(f)),
+        Element::Led(l) => placed(l.placement.zone, lamp_pins(l)),
         Element::Current(c) => placed(c.placement.zone, own(c.pin.0, 255, 255)),
         Element::Controller(d) => {
             let a = d.address;
@@ -152,6 +153,35 @@ fn selected(a: Address) -> OwnPins
     ensures { λ r. ⌜ r ≡ threeOf (selectOf a) 0xff 0xff ⌝ }
 {
     own(select_of(a), 255, 255)
+}
+
+// The byte of a place that may be unused.
+pub fn byte_of(p: OptionalPin) -> u8
+    ensures { λ r. ⌜ r ≡ optionalByte p ⌝ }
+{
+    match p {
+        OptionalPin::Unused => 255,
+        OptionalPin::Used(q) => q.0,
+    }
+}
+
+fn fan_pins(f: PwmFan) -> OwnPins
+    ensures { λ r. ⌜ r ≡ fanPins f ⌝ }
+{
+    let t = f.tachometer;
+    own(f.pwm.0, byte_of(t), 255)
+}
+
+fn lamp_pins(l: StatusLed) -> OwnPins
+    ensures { λ r. ⌜ r ≡ lampPins l ⌝ }
+{
+    let a = l.one;
+    let b = l.two;
+    let c = l.three;
+    let p = a.pin;
+    let q = b.pin;
+    let r = c.pin;
+    own(byte_of(p), byte_of(q), byte_of(r))
 }
 
 // A zone descriptor's own number, from its part.

@@ -11,6 +11,7 @@ use Rattle.format.specs.Answers.{numberOf, valueOf, numberOfAsked, placeOfAsked
 use Rattle.format.specs.declared.answers.Answer.{Answer}
 use Rattle.format.specs.declared.answers.Asked.{Asked}
 use Rattle.format.specs.declared.answers.Asked.the-variants.{Element, Refused as NotGiven}
+use Rattle.format.specs.declared.settings.Settings.{Settings}
 
 abbrev pub packs : ℕ → ℕ → ℕ
 packs number beside = number + 256 * beside
@@ -19,9 +20,9 @@ abbrev pub packed : Answer → ℕ
 packed a = packs (numberOf a) (valueOf a)
 
 -- the number of the verdict on a table
-pub record Checked (b : List ℕ) (r : ℕ) : Type 0 where
+pub record Checked (σ : Settings) (b : List ℕ) (r : ℕ) : Type 0 where
   pub answer : Answer
-  pub verdict : Verdict b answer
+  pub verdict : Verdict σ b answer
   pub number : r ≡ packed answer
 
 -- the same of an element: beside 0 its identifier
@@ -32,15 +33,15 @@ besideAsked (NotGiven k p) = placeOfAsked (NotGiven k p)
 abbrev pub packedAsked : Asked → ℕ
 packedAsked a = packs (numberOfAsked a) (besideAsked a)
 
-pub record AskedFor (b : List ℕ) (k r : ℕ) : Type 0 where
+pub record AskedFor (σ : Settings) (b : List ℕ) (k r : ℕ) : Type 0 where
   pub answer : Asked
   pub part : List ℕ
-  pub gives : Gives b k answer part
+  pub gives : Gives σ b k answer part
   pub number : r ≡ packedAsked answer
 
 -- the length of its variable part
-pub record PartFor (b : List ℕ) (k r : ℕ) : Type 0 where
+pub record PartFor (σ : Settings) (b : List ℕ) (k r : ℕ) : Type 0 where
   pub answer : Asked
   pub part : List ℕ
-  pub gives : Gives b k answer part
+  pub gives : Gives σ b k answer part
   pub number : r ≡ length part

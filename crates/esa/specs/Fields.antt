@@ -11,28 +11,30 @@ use Rattle.format.specs.declared.answers.Asked.{Asked}
 use Rattle.format.specs.declared.answers.Asked.the-variants.{Element, Refused as NotGiven}
 use Rattle.numbers.specs.Into.{descriptionInto, elementInto}
 use Rattle.esa.specs.Face.{packs, packedAsked}
+use Rattle.format.specs.declared.settings.Settings.{Settings}
+use Rattle.format.specs.declared.pins.Chip.{Chip}
 
 abbrev pub packedDescribed : Described → ℕ
 packedDescribed a = packs (numberOfDescribed a) (placeOfDescribed a)
 
 -- what is left in the place: the numbers, or with a refusal what stood there
-abbrev pub describedLeaves : Described → List ℕ → List ℕ
-describedLeaves (Description d) n = descriptionInto d
-describedLeaves (NotDescribed k p) n = n
+abbrev pub describedLeaves : Chip → Described → List ℕ → List ℕ
+describedLeaves c (Description d) n = descriptionInto c d
+describedLeaves c (NotDescribed k p) n = n
 
-abbrev pub fieldsLeave : Asked → List ℕ → List ℕ → List ℕ
-fieldsLeave (Element e) part n = elementInto e part
-fieldsLeave (NotGiven k p) part n = n
+abbrev pub fieldsLeave : Chip → Asked → List ℕ → List ℕ → List ℕ
+fieldsLeave c (Element e) part n = elementInto c e part
+fieldsLeave c (NotGiven k p) part n = n
 
-pub record DescribedFor (b n : List ℕ) (r : ℕ) (after : List ℕ) : Type 0 where
+pub record DescribedFor (σ : Settings) (b n : List ℕ) (r : ℕ) (after : List ℕ) : Type 0 where
   pub answer : Described
-  pub describes : Describes b answer
+  pub describes : Describes σ b answer
   pub number : r ≡ packedDescribed answer
-  pub leaves : after ≡ describedLeaves answer n
+  pub leaves : after ≡ describedLeaves (σ .chip) answer n
 
-pub record FieldsFor (b : List ℕ) (k : ℕ) (n : List ℕ) (r : ℕ) (after : List ℕ) : Type 0 where
+pub record FieldsFor (σ : Settings) (b : List ℕ) (k : ℕ) (n : List ℕ) (r : ℕ) (after : List ℕ) : Type 0 where
   pub answer : Asked
   pub part : List ℕ
-  pub gives : Gives b k answer part
+  pub gives : Gives σ b k answer part
   pub number : r ≡ packedAsked answer
-  pub leaves : after ≡ fieldsLeave answer part n
+  pub leaves : after ≡ fieldsLeave (σ .chip) answer part n

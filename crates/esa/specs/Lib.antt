@@ -1,3 +1,4 @@
+pub mod Settled
 pub mod Face
 pub mod Fields
 pub mod Places

@@ -15,6 +15,7 @@ use Rattle.reader.specs.PartPlace.{GivesPlace}
 use Rattle.reader.specs.declared.Placed.{Placed}
 use Rattle.reader.specs.declared.Placed.the-variants.{At, Refused}
 use Rattle.esa.specs.Face.{packs}
+use Rattle.format.specs.declared.settings.Settings.{Settings}
 
 -- place and length, beside 0
 abbrev pub span : ℕ → ℕ → ℕ
@@ -24,9 +25,9 @@ abbrev pub packedPlaced : Placed → ℕ
 packedPlaced (At p n) = span p n
 packedPlaced (Refused j p) = packs j p
 
-pub record PlacedFor (b : List ℕ) (k r : ℕ) : Type 0 where
+pub record PlacedFor (σ : Settings) (b : List ℕ) (k r : ℕ) : Type 0 where
   pub answer : Placed
-  pub gives : GivesPlace b k answer
+  pub gives : GivesPlace σ b k answer
   pub number : r ≡ packedPlaced answer
 
 -- the text of a string stands at byte 3 of its part
@@ -34,25 +35,25 @@ abbrev pub packedText : Placed → List ℕ → ℕ
 packedText (At p n) part = span (p + 3) (length (textOf part))
 packedText (Refused j p) part = packs j p
 
-pub record TextPlaced (b : List ℕ) (k r : ℕ) : Type 0 where
+pub record TextPlaced (σ : Settings) (b : List ℕ) (k r : ℕ) : Type 0 where
   pub beside : Asked
   pub part : List ℕ
-  pub gives : Gives b k beside part
+  pub gives : Gives σ b k beside part
   pub place : Placed
-  pub placed : GivesPlace b k place
+  pub placed : GivesPlace σ b k place
   pub number : r ≡ packedText place part
 
 -- 0Ch is a string; of any other element the answer is 0, with 0 beside it
-abbrev pub TextOf : Bool → List ℕ → ℕ → ℕ → Type 0
-TextOf true b k r = TextPlaced b k r
-TextOf false b k r = r ≡ 0
+abbrev pub TextOf : Settings → Bool → List ℕ → ℕ → ℕ → Type 0
+TextOf σ true b k r = TextPlaced σ b k r
+TextOf σ false b k r = r ≡ 0
 
-abbrev pub TextAsked : Asked → List ℕ → ℕ → ℕ → Type 0
-TextAsked (Element e) b k r = TextOf (eqb (idOf e) 0x0c) b k r
-TextAsked (NotGiven j p) b k r = r ≡ packs j p
+abbrev pub TextAsked : Settings → Asked → List ℕ → ℕ → ℕ → Type 0
+TextAsked σ (Element e) b k r = TextOf σ (eqb (idOf e) 0x0c) b k r
+TextAsked σ (NotGiven j p) b k r = r ≡ packs j p
 
-pub record TextFor (b : List ℕ) (k r : ℕ) : Type 0 where
+pub record TextFor (σ : Settings) (b : List ℕ) (k r : ℕ) : Type 0 where
   pub answer : Asked
   pub part : List ℕ
-  pub gives : Gives b k answer part
-  pub text : TextAsked answer b k r
+  pub gives : Gives σ b k answer part
+  pub text : TextAsked σ answer b k r

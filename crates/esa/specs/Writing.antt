@@ -12,33 +12,35 @@ use Rattle.numbers.specs.From.{descriptionFrom, elementFrom}
 use Rattle.numbers.specs.declared.MaybeElement.{MaybeElement}
 use Rattle.numbers.specs.declared.MaybeElement.the-variants.{Element as Found, Unknown}
 use Rattle.esa.specs.Face.{packs}
+use Rattle.format.specs.declared.settings.Settings.{Settings}
+use Rattle.format.specs.declared.pins.Chip.{Chip}
 
 abbrev pub packedWritten : Written → ℕ
 packedWritten w = packs (numberOfWritten w) (valueOfWritten w)
 
 -- a table was started with the description in the numbers
-pub record StartedFor (b n : List ℕ) (r : ℕ) (after : List ℕ) : Type 0 where
+pub record StartedFor (c : Chip) (b n : List ℕ) (r : ℕ) (after : List ℕ) : Type 0 where
   pub answer : Written
-  pub started : Started b (descriptionFrom n) answer after
+  pub started : Started c b (descriptionFrom n) answer after
   pub number : r ≡ packedWritten answer
 
 -- an element was appended
-pub record AppendedOne (b : List ℕ) (e : Element) (p : List ℕ) (r : ℕ) (after : List ℕ) : Type 0 where
+pub record AppendedOne (c : Chip) (b : List ℕ) (e : Element) (p : List ℕ) (r : ℕ) (after : List ℕ) : Type 0 where
   pub answer : Written
-  pub appended : Appended b e p answer after
+  pub appended : Appended c b e p answer after
   pub number : r ≡ packedWritten answer
 
 -- 7: 'identifier not in the list above'; then no byte is altered
-abbrev pub AppendedAs : MaybeElement → List ℕ → List ℕ → ℕ → List ℕ → Type 0
-AppendedAs (Found e) b p r after = AppendedOne b e p r after
-AppendedAs Unknown b p r after = (r ≡ 7) × (after ≡ b)
+abbrev pub AppendedAs : Chip → MaybeElement → List ℕ → List ℕ → ℕ → List ℕ → Type 0
+AppendedAs c (Found e) b p r after = AppendedOne c b e p r after
+AppendedAs c Unknown b p r after = (r ≡ 7) × (after ≡ b)
 
 -- the element of the identifier in the numbers was appended
-pub record AppendedFor (b : List ℕ) (id : ℕ) (n p : List ℕ) (r : ℕ) (after : List ℕ) : Type 0 where
-  pub appended : AppendedAs (elementFrom id n) b p r after
+pub record AppendedFor (c : Chip) (b : List ℕ) (id : ℕ) (n p : List ℕ) (r : ℕ) (after : List ℕ) : Type 0 where
+  pub appended : AppendedAs c (elementFrom id n) b p r after
 
 -- the records of a table were written again
-pub record RewrittenFor (b c : List ℕ) (r : ℕ) (after : List ℕ) : Type 0 where
+pub record RewrittenFor (σ : Settings) (b c : List ℕ) (r : ℕ) (after : List ℕ) : Type 0 where
   pub answer : Written
-  pub rewritten : Rewritten b c answer after
+  pub rewritten : Rewritten σ b c answer after
   pub number : r ≡ packedWritten answer

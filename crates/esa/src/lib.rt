@@ -1,8 +1,9 @@
 // The C face: numbers and byte slices. An answer leaves as one number: the number of 'What comes back' and 256 times what
-// stands beside it.
+// stands beside it. Settings come as one number: bit 0 set is the 321, other bits are ignored.
 ghost use mathlib.Core.Path.{_≡_};
 ghost use Rattle.parts.specs.Inside.{blockIn, pairIn, listIn, listPairIn};
 ghost use Rattle.listing.specs.Lines.{Listed};
+ghost use Rattle.esa.specs.Settled.{settingsOf};
 ghost use Rattle.esa.specs.Face.{Checked, AskedFor, PartFor};
 ghost use Rattle.esa.specs.Fields.{DescribedFor, FieldsFor};
 ghost use Rattle.esa.specs.Places.{PlacedFor, TextPlaced, TextFor};
@@ -10,6 +11,8 @@ ghost use Rattle.esa.specs.Blocks.{packedBlock, packedPair, packedEntrie
 ghost use Rattle.esa.specs.Writing.{StartedFor, AppendedFor, RewrittenFor};
 use format::answers::Asked;
 use format::answers::Described;
+use format::pins::Chip;
+use format::settings::Settings;
 use numbers::MaybeElement;
 use reader::Placed;
 
@@ -17,20 +20,22 @@ mod packing;
 
 // Beside 0 stands the number of elements, beside a refusal its place.
 #[no_mangle]
-pub extern "C" fn esa_check(table: &[u8]) -> u64
-    ensures { λ r. ⌜ Checked (now (table .entry)) r ⌝ }
+pub extern "C" fn esa_check(table: &[u8], settings: u64) -> u64
+    ensures { λ r. ⌜ Checked (settingsOf settings) (now (table .entry)) r ⌝ }
 {
-    packing::answer(reader::check(table))
+    packing::answer(reader::check(table, settings_of(settings)))
 }
 
 // The description's numbers, where the answer is 0; with a refusal the numbers are left as they were.
 #[no_mangle]
-pub extern "C" fn esa_describe(table: &[u8], numbers: &mut [u8; 32]) -> u64
-    ensures { λ r. ⌜ DescribedFor (now (table .entry)) (now (numbers .entry)) r (now (numbers .exit)) ⌝ }
+pub extern "C" fn esa_describe(table: &[u8], settings: u64, numbers: &mut [u8; 32]) -> u64
+    ensures { λ r. ⌜ DescribedFor (settingsOf settings) (now (table .entry)) (now (numbers .entry)) r (now (numbers .exit)) ⌝ }
 {
-    match reader::description(table) {
+    let s = settings_of(settings);
+    match reader::description(table, s) {
         Described::Description(d) => {
-            *numbers = numbers::into::description(d);
+            let chip = s.chip;
+            *numbers = numbers::into::description(d, chip);
             0
         }
         Described::Refused(k, p) => packing::pack(k, p),
@@ -39,20 +44,22 @@ pub extern "C" fn esa_describe(table: &[u8], numbers: &mut [u8; 32]) -> u64
 
 // Beside 0 stands the identifier of element k, beside a refusal its place.
 #[no_mangle]
-pub extern "C" fn esa_element(table: &[u8], k: usize) -> u64
-    ensures { λ r. ⌜ AskedFor (now (table .entry)) k r ⌝ }
+pub extern "C" fn esa_element(table: &[u8], k: usize, settings: u64) -> u64
+    ensures { λ r. ⌜ AskedFor (settingsOf settings) (now (table .entry)) k r ⌝ }
 {
-    packing::asked(reader::element(table, k))
+    packing::asked(reader::element(table, k, settings_of(settings)))
 }
 
 // The same, and the numbers of element k where the answer is 0.
 #[no_mangle]
-pub extern "C" fn esa_fields(table: &[u8], k: usize, numbers: &mut [u8; 32]) -> u64
-    ensures { λ r. ⌜ FieldsFor (now (table .entry)) k (now (numbers .entry)) r (now (numbers .exit)) ⌝ }
+pub extern "C" fn esa_fields(table: &[u8], k: usize, settings: u64, numbers: &mut [u8; 32]) -> u64
+    ensures { λ r. ⌜ FieldsFor (settingsOf settings) (now (table .entry)) k (now (numbers .entry)) r (now (numbers .exit)) ⌝ }
 {
-    match reader::element(table, k) {
+    let s = settings_of(settings);
+    match reader::element(table, k, s) {
         Asked::Element(e) => {
-            *numbers = numbers::into::element(e, reader::part(table, k));
+            let chip = s.chip;
+            *numbers = numbers::into::element(e, reader::part(table, k, s), chip);
             packing::pack(0, words::wide(elements::id_of(e)))
         }
         Asked::Refused(j, p) => packing::pack(j, p),
@@ -61,19 +68,19 @@ pub extern "C" fn esa_fields(table: &[u8], k: usize, numbers: &mut [u8; 32]) -> 
 
 // The length of the variable part of element k; 0 with a refusal.
 #[no_mangle]
-pub extern "C" fn esa_part_length(table: &[u8], k: usize) -> usize
-    ensures { λ r. ⌜ PartFor (now (table .entry)) k r ⌝ }
+pub extern "C" fn esa_part_length(table: &[u8], k: usize, settings: u64) -> usize
+    ensures { λ r. ⌜ PartFor (settingsOf settings) (now (table .entry)) k r ⌝ }
 {
-    let part = reader::part(table, k);
+    let part = reader::part(table, k, settings_of(settings));
     part.len()
 }
 
 // Where the variable part of element k stands in the table, and how long it is.
 #[no_mangle]
-pub extern "C" fn esa_part(table: &[u8], k: usize) -> u64
-    ensures { λ r. ⌜ PlacedFor (now (table .entry)) k r ⌝ }
+pub extern "C" fn esa_part(table: &[u8], k: usize, settings: u64) -> u64
+    ensures { λ r. ⌜ PlacedFor (settingsOf settings) (now (table .entry)) k r ⌝ }
 {
-    match reader::part_place(table, k) {
+    match reader::part_place(table, k, settings_of(settings)) {
         Placed::At(p, n) => packing::span(p, n),
         Placed::Refused(j, p) => packing::pack(j, p),
     }
@@ -81,15 +88,16 @@ pub extern "C" fn esa_part(table: &[u8], k: usize) -> u64
 
 // The same of the text of a string; 0 for an element that is none.
 #[no_mangle]
-pub extern "C" fn esa_text(table: &[u8], k: usize) -> u64
-    ensures { λ r. ⌜ TextFor (now (table .entry)) k r ⌝ }
+pub extern "C" fn esa_text(table: &[u8], k: usize, settings: u64) -> u64
+    ensures { λ r. ⌜ TextFor (settingsOf settings) (now (table .entry)) k r ⌝ }
 {
-    match reader::element(table, k) {
+    let s = settings_of(settings);
+    match reader::element(table, k, s) {
         Asked::Element(e) => {
             if elements::id_of(e) != 0x0c {
                 return 0;
             }
-            text(table, k)
+            text(table, k, s)
         }
         Asked::Refused(j, p) => packing::pack(j, p),
     }
@@ -129,49 +137,73 @@ pub extern "C" fn esa_entry(part: &[u8], w: usize, i: usize) -> u64
 
 // Starts a table with the description in the numbers. Beside 0 stands the length, beside a refusal its place.
 #[no_mangle]
-pub extern "C" fn esa_start(buffer: &mut [u8], numbers: &[u8; 32]) -> u64
-    ensures { λ r. ⌜ StartedFor (now (buffer .entry)) (now (numbers .entry)) r (now (buffer .exit)) ⌝ }
+pub extern "C" fn esa_start(buffer: &mut [u8], settings: u64, numbers: &[u8; 32]) -> u64
+    ensures { λ r. ⌜ StartedFor (settingsOf settings .chip) (now (buffer .entry)) (now (numbers .entry)) r (now (buffer .exit)) ⌝ }
 {
-    packing::written(writer::start(buffer, numbers::from::description(numbers)))
+    let s = settings_of(settings);
+    let chip = s.chip;
+    packing::written(writer::start(buffer, numbers::from::description(numbers), chip))
 }
 
 // Appends the element of this identifier in the numbers, with its variable part. Beside 0 stands the new length, beside a
 // refusal its place; 7 for an identifier that is not one of the ten.
 #[no_mangle]
-pub extern "C" fn esa_append(buffer: &mut [u8], id: u8, numbers: &[u8; 32], part: &[u8]) -> u64
-    ensures { λ r. ⌜ AppendedFor (now (buffer .entry)) id (now (numbers .entry)) (now (part .entry)) r (now (buffer .exit)) ⌝ }
+pub extern "C" fn esa_append(
+    buffer: &mut [u8],
+    id: u8,
+    settings: u64,
+    numbers: &[u8; 32],
+    part: &[u8],
+) -> u64
+    ensures { λ r. ⌜ AppendedFor (settingsOf settings .chip) (now (buffer .entry)) id (now (numbers .entry)) (now (part .entry)) r (now (buffer .exit)) ⌝ }
 {
+    let s = settings_of(settings);
+    let chip = s.chip;
     match numbers::from::element(id, numbers) {
-        MaybeElement::Element(e) => packing::written(writer::append(buffer, e, part)),
+        MaybeElement::Element(e) => packing::written(writer::append(buffer, e, part, chip)),
         MaybeElement::Unknown => 7,
     }
 }
 
 // The records of an accepted table, written again into a buffer. Beside 0 stands the length, beside a refusal its place.
 #[no_mangle]
-pub extern "C" fn esa_rewrite(table: &[u8], out: &mut [u8]) -> u64
-    ensures { λ r. ⌜ RewrittenFor (now (table .entry)) (now (out .entry)) r (now (out .exit)) ⌝ }
+pub extern "C" fn esa_rewrite(table: &[u8], settings: u64, out: &mut [u8]) -> u64
+    ensures { λ r. ⌜ RewrittenFor (settingsOf settings) (now (table .entry)) (now (out .entry)) r (now (out .exit)) ⌝ }
 {
-    packing::written(rewriting::rewrite(table, out))
+    packing::written(rewriting::rewrite(table, out, settings_of(settings)))
 }
 
 // The listing of a table at the front of the buffer. The answer is its length in bytes.
 #[no_mangle]
-pub extern "C" fn esa_list(table: &[u8], out: &mut [u8; 4096]) -> usize
-    ensures { λ r. ⌜ Listed (now (table .entry)) (now (out .entry)) r (now (out .exit)) ⌝ }
+pub extern "C" fn esa_list(table: &[u8], settings: u64, out: &mut [u8; 4096]) -> usize
+    ensures { λ r. ⌜ Listed (settingsOf settings) (now (table .entry)) (now (out .entry)) r (now (out .exit)) ⌝ }
 {
-    listing::list(table, out)
+    listing::list(table, out, settings_of(settings))
 }
 
 // Where the text of element k stands if it is a string: at byte 3 of its part.
-fn text(table: &[u8], k: usize) -> u64
-    ensures { λ r. ⌜ TextPlaced (now (table .entry)) k r ⌝ }
+fn text(table: &[u8], k: usize, s: Settings) -> u64
+    ensures { λ r. ⌜ TextPlaced s (now (table .entry)) k r ⌝ }
 {
-    match reader::part_place(table, k) {
+    match reader::part_place(table, k, s) {
         Placed::At(p, _) => {
-            let text = parts::text(reader::part(table, k));
+            let text = parts::text(reader::part(table, k, s));
             packing::span(p + 3, text.len())
         }
         Placed::Refused(j, p) => packing::pack(j, p),
+    }
+}
+
+fn settings_of(settings: u64) -> Settings
+    ensures { λ r. ⌜ r ≡ settingsOf settings ⌝ }
+{
+    if settings % 2 == 0 {
+        Settings {
+            chip: Chip::C8051F320,
+        }
+    } else {
+        Settings {
+            chip: Chip::C8051F321,
+        }
     }
 }

@@ -1,10 +1,12 @@
-// From bytes to records, one function a kind. Each takes the slice from offset 3 of the element to its end.
+// From bytes to records, one function a kind. Each takes the slice from offset 3 of the element to its end, and the
+// chip whose pins the record's are.
 ghost use mathlib.Core.Path.{_≡_};
 ghost use Prim.Native.Nat.{_+_, _<_, _≤_};
 ghost use lib.ListN.{length};
 ghost use lib.Dec.{eqb};
 ghost use Rattle.format.specs.Slots.{byte};
-ghost use Rattle.format.specs.Decode.{readPlacement, pickAddress, readDigital, readAnalogue, readFan, readLamp, readLed, readCurrent, readDevice, readRgb, readDescription};
+ghost use Rattle.format.specs.Decode.{optionalOf, readPlacement, pickAddress, readDigital, readAnalogue, readFan, readLamp, readLed, readCurrent, readDevice, readRgb, readDescription};
+use format::pins::Chip;
 use format::pins::OptionalPin;
 use format::pins::Pin;
 use format::records::Address;
@@ -28,15 +30,15 @@ use words::wide32;
 use words::word;
 
 // 01h
-pub fn digital(b: &[u8]) -> DigitalSensor
+pub fn digital(b: &[u8], chip: Chip) -> DigitalSensor
     requires { ⌜ 18 ≤ length (now b) ⌝ }
-    ensures { λ r. ⌜ r ≡ readDigital (byte (now (b .entry))) ⌝ }
+    ensures { λ r. ⌜ r ≡ readDigital chip (byte (now (b .entry))) ⌝ }
 {
     let bus = b[5] % 16;
     DigitalSensor {
         placement: placement(b),
         bus,
-        address: address(bus, b[6]),
+        address: address(bus, b[6], chip),
         lsb: word(b, 8),
         msb: word(b, 10),
         minvalue: word(b, 12),
@@ -47,14 +49,14 @@ pub fn digital(b: &[u8]) -> DigitalSensor
 }
 
 // 02h
-pub fn analogue(b: &[u8]) -> AnalogueSensor
+pub fn analogue(b: &[u8], chip: Chip) -> AnalogueSensor
     requires { ⌜ 17 ≤ length (now b) ⌝ }
-    ensures { λ r. ⌜ r ≡ readAnalogue (byte (now (b .entry))) ⌝ }
+    ensures { λ r. ⌜ r ≡ readAnalogue chip (byte (now (b .entry))) ⌝ }
 {
     AnalogueSensor {
         placement: placement(b),
         thermal: b[5] % 16,
-        pin: Pin(b[6]),
+        pin: Pin(b[6], chip),
         at0: Counts(word(b, 7)),
         at25: Counts(word(b, 9)),
         at50: Counts(word(b, 11)),
@@ -64,14 +66,14 @@ pub fn analogue(b: &[u8]) -> AnalogueSensor
 }
 
 // 03h
-pub fn fan(b: &[u8]) -> PwmFan
+pub fn fan(b: &[u8], chip: Chip) -> PwmFan
     requires { ⌜ 13 ≤ length (now b) ⌝ }
-    ensures { λ r. ⌜ r ≡ readFan (byte (now (b .entry))) ⌝ }
+    ensures { λ r. ⌜ r ≡ readFan chip (byte (now (b .entry))) ⌝ }
 {
     PwmFan {
         placement: placement(b),
-        pwm: Pin(b[5]),
-        tachometer: OptionalPin(b[6]),
+        pwm: Pin(b[5], chip),
+        tachometer: optional(b[6], chip),
         ppr: b[7],
         minrpm: Rpm(word(b, 8)),
         maxrpm: Rpm(word(b, 10)),
@@ -80,61 +82,61 @@ pub fn fan(b: &[u8]) -> PwmFan
 }
 
 // 04h
-pub fn led(b: &[u8]) -> StatusLed
+pub fn led(b: &[u8], chip: Chip) -> StatusLed
     requires { ⌜ 11 ≤ length (now b) ⌝ }
-    ensures { λ r. ⌜ r ≡ readLed (byte (now (b .entry))) ⌝ }
+    ensures { λ r. ⌜ r ≡ readLed chip (byte (now (b .entry))) ⌝ }
 {
     StatusLed {
         placement: placement(b),
-        one: lamp(b, 5),
-        two: lamp(b, 7),
-        three: lamp(b, 9),
+        one: lamp(b, 5, chip),
+        two: lamp(b, 7, chip),
+        three: lamp(b, 9, chip),
     }
 }
 
 // 08h
-pub fn current(b: &[u8]) -> CurrentSensor
+pub fn current(b: &[u8], chip: Chip) -> CurrentSensor
     requires { ⌜ 11 ≤ length (now b) ⌝ }
-    ensures { λ r. ⌜ r ≡ readCurrent (byte (now (b .entry))) ⌝ }
+    ensures { λ r. ⌜ r ≡ readCurrent chip (byte (now (b .entry))) ⌝ }
 {
     CurrentSensor {
         placement: placement(b),
-        pin: Pin(b[5]),
+        pin: Pin(b[5], chip),
         imin: Deciamps(word(b, 7)),
         imax: Deciamps(word(b, 9)),
     }
 }
 
 // 09h and 0Ah, before their blocks
-pub fn device(b: &[u8]) -> BusDevice
+pub fn device(b: &[u8], chip: Chip) -> BusDevice
     requires { ⌜ 8 ≤ length (now b) ⌝ }
-    ensures { λ r. ⌜ r ≡ readDevice (byte (now (b .entry))) ⌝ }
+    ensures { λ r. ⌜ r ≡ readDevice chip (byte (now (b .entry))) ⌝ }
 {
     let bus = b[5] % 16;
     BusDevice {
         placement: placement(b),
         bus,
-        address: address(bus, b[6]),
+        address: address(bus, b[6], chip),
     }
 }
 
 // 0Eh
-pub fn rgb(b: &[u8]) -> RgbLed
+pub fn rgb(b: &[u8], chip: Chip) -> RgbLed
     requires { ⌜ 8 ≤ length (now b) ⌝ }
-    ensures { λ r. ⌜ r ≡ readRgb (byte (now (b .entry))) ⌝ }
+    ensures { λ r. ⌜ r ≡ readRgb chip (byte (now (b .entry))) ⌝ }
 {
     RgbLed {
         placement: placement(b),
-        red: Pin(b[5]),
-        green: Pin(b[6]),
-        blue: Pin(b[7]),
+        red: Pin(b[5], chip),
+        green: Pin(b[6], chip),
+        blue: Pin(b[7], chip),
     }
 }
 
 // The description: the slice is the whole table.
-pub fn description(t: &[u8]) -> Description
+pub fn description(t: &[u8], chip: Chip) -> Description
     requires { ⌜ 12 ≤ length (now t) ⌝ }
-    ensures { λ r. ⌜ r ≡ readDescription (byte (now (t .entry))) ⌝ }
+    ensures { λ r. ⌜ r ≡ readDescription chip (byte (now (t .entry))) ⌝ }
 {
     Description {
         device: t[3],
@@ -142,9 +144,9 @@ pub fn description(t: &[u8]) -> Description
         serial: wide32(t[5]) + 256 * wide32(t[6]) + 65536 * wide32(t[7]),
         spwr: 128 <= t[8],
         power: FourMilliamps(t[8] % 128),
-        revision0: OptionalPin(t[9]),
-        revision1: OptionalPin(t[10]),
-        revision2: OptionalPin(t[11]),
+        revision0: optional(t[9], chip),
+        revision1: optional(t[10], chip),
+        revision2: optional(t[11], chip),
     }
 }
 
@@ -163,22 +165,33 @@ pub fn placement(b: &[u8]) -> Placement
 }
 
 // By the bus type: SPI has a chip select, every other code a bus address.
-fn address(bus: u8, b: u8) -> Address
-    ensures { λ r. ⌜ r ≡ pickAddress (eqb bus 3) b ⌝ }
+fn address(bus: u8, b: u8, chip: Chip) -> Address
+    ensures { λ r. ⌜ r ≡ pickAddress chip (eqb bus 3) b ⌝ }
 {
     if bus == 3 {
-        Address::Select(Pin(b))
+        Address::Select(Pin(b, chip))
     } else {
         Address::Bus(b / 2)
     }
 }
 
-fn lamp(b: &[u8], i: usize) -> Lamp
+// A place that may be unused.
+pub fn optional(b: u8, chip: Chip) -> OptionalPin
+    ensures { λ r. ⌜ r ≡ optionalOf chip b ⌝ }
+{
+    if b == 255 {
+        OptionalPin::Unused
+    } else {
+        OptionalPin::Used(Pin(b, chip))
+    }
+}
+
+fn lamp(b: &[u8], i: usize, chip: Chip) -> Lamp
     requires { ⌜ i + 1 < length (now b) ⌝ }
-    ensures { λ r. ⌜ r ≡ readLamp (byte (now (b .entry))) i ⌝ }
+    ensures { λ r. ⌜ r ≡ readLamp chip (byte (now (b .entry))) i ⌝ }
 {
     Lamp {
-        pin: OptionalPin(b[i]),
+        pin: optional(b[i], chip),
         colour: b[i + 1] / 16,
         purpose: b[i + 1] % 16,
     }

@@ -14,6 +14,7 @@ use Rattle.format.specs.Claims.{Claim, Made, madeAt, claimsOf, firstClai
 use Rattle.format.specs.Table.{elementBreaks, PassKept}
 use Rattle.format.specs.declared.records.Description.{Description}
 use Rattle.format.proofs.Lengths.{snoc-length}
+use Rattle.format.specs.declared.settings.Settings.{Settings}
 
 pub gathered-append :
     (numbers : Role → List ℕ) (rs ss : List Record) → gathered numbers (rs ++ ss) ≡ gathered numbers rs ++ gathered numbers ss
@@ -45,11 +46,11 @@ claims-snoc d rs r =
 
 -- the pass over a list with one element more
 pub pass-snoc :
-    (before rs : List Record) (r : Record)
-    → PassKept before rs
+    (s : Settings) (before rs : List Record) (r : Record)
+    → PassKept s before rs
     → length (before ++ rs) < 96
-    → elementBreaks (before ++ rs) r ≡ none
-    → PassKept before (rs ++ r ∷ [])
-pass-snoc before [] r k few e = (rw append-nil at few, rw append-nil at e, tt)
-pass-snoc before (x ∷ rs) r k few e =
-    (k .0, k .1, pass-snoc (before ++ x ∷ []) rs r (k .2) (rw append-snoc few) (rw append-snoc e))
+    → elementBreaks s (before ++ rs) r ≡ none
+    → PassKept s before (rs ++ r ∷ [])
+pass-snoc s before [] r k few e = (rw append-nil at few, rw append-nil at e, tt)
+pass-snoc s before (x ∷ rs) r k few e =
+    (k .0, k .1, pass-snoc s (before ++ x ∷ []) rs r (k .2) (rw append-snoc few) (rw append-snoc e))

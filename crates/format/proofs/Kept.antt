@@ -3,14 +3,25 @@
 -- Assumes nothing.
 use Prim.Native.Nat.{ℕ, suc, _<_}
 use mathlib.Core.Path.{_≡_, refl, sym, _∙_, ap}
-use mathlib.Core.Bool.{Bool, true, false, _&&_, false≢true}
+use mathlib.Core.Bool.{Bool, true, false, _&&_, not, false≢true}
+use lib.Dec.{eqb, ltb}
+use borrow.Author.Tests.{eqb-true}
 use mathlib.Core.List.{List, [], _∷_, _++_}
 use mathlib.Core.Option.{Option, none, some}
 use native.Mathlib.Omega.{arith}
 use Rattle.format.specs.Records.{Record, digital, analogue, fan, led, current, controller, tachometer, zone, string, rgb}
-use Rattle.format.specs.Rules.{Rule, unlessKept, firstBroken, numbered, descriptionRules, typed, powered, strapped, ownRules, shaped, coded, pinned, busTypes, ofItsBus, addressed, filled, ofItsKind}
-use Rattle.format.specs.Pins.{among}
+use Rattle.format.specs.Rules.{Rule, unlessKept, firstBroken, numbered, descriptionRules, typed, powered, strapped, ownRules, shaped, coded, pinned, busTypes, ofItsBus, chosen, addressed, selected, rises, filled, ofItsDevice, ofItsKind, descriptionKind}
+use Rattle.format.specs.Pins.{among, ofChip, allowed, unused, allowedOrUnused, standing, permitted}
+use Rattle.format.specs.declared.pins.Chip.{Chip}
+use Rattle.format.specs.declared.pins.Chip.the-variants.{C8051F320, C8051F321}
+use Rattle.format.specs.declared.pins.Use.{Use}
+use Rattle.format.specs.declared.pins.Use.the-variants.{FanPin, AnaloguePin, ChipSelect, StatusLed, HardwareRevision}
+use Rattle.format.specs.declared.pins.Pin.{Pin}
+use Rattle.format.specs.declared.pins.OptionalPin.{OptionalPin}
+use Rattle.format.specs.declared.pins.OptionalPin.the-variants.{Unused, Used}
+use Rattle.format.specs.declared.settings.Settings.{Settings}
 use Rattle.format.specs.declared.records.Address.{Address}
+use Rattle.format.specs.declared.records.Address.the-variants.{Bus, Select}
 use Rattle.format.specs.declared.records.Description.{Description}
 use Rattle.format.specs.ZonesAndStrings.{rulesAgainst}
 use Rattle.format.specs.Table.{elementBreaks, descriptionBreaks}
@@ -83,80 +94,138 @@ pub some-number : (o : Option ℕ) → (numbered o ≡ 0 → ⊥) → o ≡ some
 some-number none n = absurd (n refl)
 some-number (some k) n = refl
 
-pub own-numbered : (r : Record) → Numbered (ownRules r)
+pub own-numbered : (s : Settings) (r : Record) → Numbered (ownRules s r)
 unfolding ownRules
-own-numbered r = (omega arith, (omega arith, (omega arith, tt)))
+own-numbered s r = (omega arith, (omega arith, (omega arith, tt)))
 
 pub against-numbered : (before : List Record) (r : Record) → Numbered (rulesAgainst before r)
 unfolding rulesAgainst
 against-numbered before r = (omega arith, (omega arith, tt))
 
-pub description-numbered : (d : Description) → Numbered (descriptionRules d)
+pub description-numbered : (c : Chip) (d : Description) → Numbered (descriptionRules c d)
 unfolding descriptionRules
-description-numbered d = (omega arith, (omega arith, (omega arith, tt)))
+description-numbered c d = (omega arith, (omega arith, (omega arith, tt)))
 
 -- a description that breaks none of its rules, and a record that breaks none by itself
-pub record DescriptionKept (d : Description) : Type 0 where
+pub record DescriptionKept (c : Chip) (d : Description) : Type 0 where
   pub type-4 : typed d ≡ true
   pub power-5 : powered d ≡ true
-  pub pins-10 : strapped d ≡ true
+  pub pins-10 : strapped c d ≡ true
 
-pub description-kept : (d : Description) → descriptionBreaks d ≡ none → DescriptionKept d
+pub description-kept : (c : Chip) (d : Description) → descriptionBreaks c d ≡ none → DescriptionKept c d
 unfolding descriptionRules
-description-kept d h =
-    let k = each-kept (descriptionRules d) h in
+description-kept c d h =
+    let k = each-kept (descriptionRules c d) h in
     record { type-4 = k .0; power-5 = k .1 .0; pins-10 = k .1 .1 .0 }
 
-pub kept-description : (d : Description) → DescriptionKept d → descriptionBreaks d ≡ none
+pub kept-description : (c : Chip) (d : Description) → DescriptionKept c d → descriptionBreaks c d ≡ none
 unfolding descriptionRules
-kept-description d k = rw (k .type-4, k .power-5, k .pins-10) refl
+kept-description c d k = rw (k .type-4, k .power-5, k .pins-10) refl
 
-pub record OwnKept (r : Record) : Type 0 where
+pub record OwnKept (s : Settings) (r : Record) : Type 0 where
   pub shape-8 : shaped r ≡ true
   pub codes-9 : coded r ≡ true
-  pub pins-10 : pinned r ≡ true
+  pub pins-10 : pinned (s .chip) r ≡ true
 
-pub own-kept : (r : Record) → firstBroken (ownRules r) ≡ none → OwnKept r
-unfolding ownRules
-own-kept r h =
-    let k = each-kept (ownRules r) h in
-    record { shape-8 = k .0; codes-9 = k .1 .0; pins-10 = k .1 .1 .0 }
+module _ (s : Settings) where
+  pub own-kept : (r : Record) → firstBroken (ownRules s r) ≡ none → OwnKept s r
+  unfolding ownRules
+  own-kept r h =
+      let k = each-kept (ownRules s r) h in
+      record { shape-8 = k .0; codes-9 = k .1 .0; pins-10 = k .1 .1 .0 }
 
--- 8, before all others
-pub misshapen : (r : Record) → shaped r ≡ false → firstBroken (ownRules r) ≡ some 8
-unfolding ownRules
-misshapen r h = simp h
+  -- 8, before all others
+  pub misshapen : (r : Record) → shaped r ≡ false → firstBroken (ownRules s r) ≡ some 8
+  unfolding ownRules
+  misshapen r h = simp h
 
--- an element after others: its own rules, then those against them
-pub own-breaks : (before : List Record) (r : Record) {k : ℕ} → firstBroken (ownRules r) ≡ some k → elementBreaks before r ≡ some k
-own-breaks before r h = broken-first (ownRules r) (rulesAgainst before r) h
+  -- an element after others: its own rules, then those against them
+  pub own-breaks :
+      (before : List Record) (r : Record) {k : ℕ} → firstBroken (ownRules s r) ≡ some k → elementBreaks s before r ≡ some k
+  own-breaks before r h = broken-first (ownRules s r) (rulesAgainst before r) h
 
-pub then-against :
-    (before : List Record) (r : Record)
-    → firstBroken (ownRules r) ≡ none
-    → elementBreaks before r ≡ firstBroken (rulesAgainst before r)
-then-against before r h = kept-then (ownRules r) (rulesAgainst before r) h
+  pub then-against :
+      (before : List Record) (r : Record)
+      → firstBroken (ownRules s r) ≡ none
+      → elementBreaks s before r ≡ firstBroken (rulesAgainst before r)
+  then-against before r h = kept-then (ownRules s r) (rulesAgainst before r) h
 
-pub own-unbroken : (before : List Record) (r : Record) → elementBreaks before r ≡ none → firstBroken (ownRules r) ≡ none
-own-unbroken before r h =
-    kept-each (ownRules r) (kept-split (ownRules r) (rulesAgainst before r) (each-kept (ownRules r ++ rulesAgainst before r) h) .0)
+  pub own-unbroken : (before : List Record) (r : Record) → elementBreaks s before r ≡ none → firstBroken (ownRules s r) ≡ none
+  own-unbroken before r h =
+      kept-each (ownRules s r) (kept-split (ownRules s r) (rulesAgainst before r) (each-kept (ownRules s r ++ rulesAgainst before r) h) .0)
 
--- a record that keeps 9 has an address of its bus type's kind
-addressed-kind : (bus : ℕ) (a : Address) → addressed bus a ≡ true → ofItsBus bus a ≡ true
-addressed-kind bus a h = and-true (among bus busTypes) (ofItsBus bus a) h .1
+-- What keeps 9 and 10 is of its kind. No use of a pin permits FFh.
+none-permits : (c : Chip) (u : Use) → among 0xff (permitted c u) ≡ false
+none-permits C8051F320 FanPin = refl
+none-permits C8051F320 AnaloguePin = refl
+none-permits C8051F320 ChipSelect = refl
+none-permits C8051F320 StatusLed = refl
+none-permits C8051F320 HardwareRevision = refl
+none-permits C8051F321 FanPin = refl
+none-permits C8051F321 AnaloguePin = refl
+none-permits C8051F321 ChipSelect = refl
+none-permits C8051F321 StatusLed = refl
+none-permits C8051F321 HardwareRevision = refl
 
-pub coded-kind : (r : Record) → coded r ≡ true → ofItsKind r ≡ true
-coded-kind (digital d) h = addressed-kind (d .bus) (d .address) h
-coded-kind (analogue a) h = refl
-coded-kind (fan f) h = refl
-coded-kind (led l) h = refl
-coded-kind (current c) h = refl
-coded-kind (controller d bs) h =
-    addressed-kind (d .bus) (d .address) (and-true (addressed (d .bus) (d .address)) (filled bs) h .0)
-coded-kind (tachometer d a b) h = addressed-kind (d .bus) (d .address) h
-coded-kind (zone bytes) h = refl
-coded-kind (string bytes) h = refl
-coded-kind (rgb r) h = refl
+module _ (c : Chip) where
+  allowed-chip : (u : Use) (p : Pin) → allowed c u p ≡ true → ofChip c p ≡ true
+  allowed-chip u p h = and-true (ofChip c p) (among (p .0) (permitted c u)) h .0
 
-pub unbroken-kind : (before : List Record) (r : Record) → elementBreaks before r ≡ none → ofItsKind r ≡ true
-unbroken-kind before r h = coded-kind r (own-kept r (own-unbroken before r h) .codes-9)
+  pub allowed-used : (u : Use) (p : Pin) → allowed c u p ≡ true → not (eqb (p .0) 0xff) ≡ true
+  allowed-used u p h = go (eqb (p .0) 0xff) refl
+    where
+      go : (t : Bool) → eqb (p .0) 0xff ≡ t → not t ≡ true
+      go true e =
+          let m = and-true (ofChip c p) (among (p .0) (permitted c u)) h .1 in
+          absurd (false≢true (sym (none-permits c u) ∙ (rw (eqb-true (p .0) 0xff e) at m)))
+      go false e = refl
+
+  allowed-standing : (u : Use) (p : OptionalPin) → allowedOrUnused c u p ≡ true → standing c p ≡ true
+  allowed-standing u Unused h = refl
+  allowed-standing u (Used p) h = simp (allowed-chip u p h, allowed-used u p h)
+
+  pub three-standing :
+      (u : Use) (p q r : OptionalPin)
+      → allowedOrUnused c u p && (allowedOrUnused c u q && allowedOrUnused c u r) ≡ true
+      → standing c p && (standing c q && standing c r) ≡ true
+  three-standing u p q r h =
+      let k = and-true (allowedOrUnused c u p) (allowedOrUnused c u q && allowedOrUnused c u r) h in
+      let l = and-true (allowedOrUnused c u q) (allowedOrUnused c u r) (k .1) in
+      simp (allowed-standing u p (k .0), allowed-standing u q (l .0), allowed-standing u r (l .1))
+
+  selected-chosen : (a : Address) → selected c a ≡ true → chosen c a ≡ true
+  selected-chosen (Bus a) h = refl
+  selected-chosen (Select p) h = allowed-chip ChipSelect p h
+
+  device-kind : (bus : ℕ) (a : Address) → addressed bus a ≡ true → selected c a ≡ true → ofItsDevice c bus a ≡ true
+  device-kind bus a h k = simp (and-true (among bus busTypes) (ofItsBus bus a) h .1, selected-chosen a k)
+
+  pub kept-kind : (r : Record) → coded r ≡ true → pinned c r ≡ true → ofItsKind c r ≡ true
+  kept-kind (digital d) h k = device-kind (d .bus) (d .address) h k
+  kept-kind (analogue a) h k = allowed-chip AnaloguePin (a .pin) k
+  kept-kind (fan f) h k =
+      let p = and-true (allowed c FanPin (f .pwm)) (allowedOrUnused c FanPin (f .tachometer) && rises (f .pwm) (f .tachometer)) k in
+      let q = and-true (allowedOrUnused c FanPin (f .tachometer)) (rises (f .pwm) (f .tachometer)) (p .1) in
+      simp (allowed-chip FanPin (f .pwm) (p .0), allowed-standing FanPin (f .tachometer) (q .0))
+  kept-kind (led l) h k = three-standing StatusLed (l .one .pin) (l .two .pin) (l .three .pin) k
+  kept-kind (current x) h k = allowed-chip AnaloguePin (x .pin) k
+  kept-kind (controller d bs) h k =
+      device-kind (d .bus) (d .address) (and-true (addressed (d .bus) (d .address)) (filled bs) h .0) k
+  kept-kind (tachometer d a b) h k = device-kind (d .bus) (d .address) h k
+  kept-kind (zone bytes) h k = refl
+  kept-kind (string bytes) h k = refl
+  kept-kind (rgb r) h k =
+      let up = ltb (r .red .0) (r .green .0) && ltb (r .green .0) (r .blue .0) in
+      let p = and-true (allowed c FanPin (r .red)) (allowed c FanPin (r .green) && (allowed c FanPin (r .blue) && up)) k in
+      let q = and-true (allowed c FanPin (r .green)) (allowed c FanPin (r .blue) && up) (p .1) in
+      let t = and-true (allowed c FanPin (r .blue)) up (q .1) in
+      simp (allowed-chip FanPin (r .red) (p .0), allowed-chip FanPin (r .green) (q .0), allowed-chip FanPin (r .blue) (t .0))
+
+pub unbroken-kind : (s : Settings) (before : List Record) (r : Record) → elementBreaks s before r ≡ none → ofItsKind (s .chip) r ≡ true
+unbroken-kind s before r h =
+    let k = own-kept s r (own-unbroken s before r h) in
+    kept-kind (s .chip) r (k .codes-9) (k .pins-10)
+
+pub described-kind : (c : Chip) (d : Description) → descriptionBreaks c d ≡ none → descriptionKind c d ≡ true
+described-kind c d h =
+    three-standing c HardwareRevision (d .revision0) (d .revision1) (d .revision2) (description-kept c d h .pins-10)

@@ -1,4 +1,5 @@
--- Rows of bytes and answers: the reader computes them all, and its answer is the only one. The starred rows are one statement.
+-- Rows of bytes and answers: the reader computes them all, and its answer is the only one. The starred rows are one statement,
+-- of whatever settings.
 -- Assumes nothing.
 use Prim.Native.Nat.{ℕ, zero, suc, _<_}
 use native.Mathlib.Omega.{arith}
@@ -13,11 +14,14 @@ use Rattle.format.specs.ZonesAndStrings.{rulesAgainst}
 use Rattle.format.specs.Verdict.{Verdict}
 use Rattle.format.specs.Decode.{decode}
 use Rattle.format.specs.Reader.{verdictOf, pass, step}
-use Rattle.format.specs.Known.{Row, starred, twofold, zoned, ofPins}
+use Rattle.format.specs.Known.{Row, starred, twofold, zoned, ofPins, apart}
 use Rattle.format.specs.declared.answers.Answer.{Answer}
 use Rattle.format.specs.declared.answers.Answer.the-variants.{Accepted, Refused}
 use Rattle.format.proofs.Kept.{and-true}
 use Rattle.format.proofs.Theorem.{meets}
+use Rattle.format.specs.declared.pins.Chip.{Chip}
+use Rattle.format.specs.declared.pins.Chip.the-variants.{C8051F320, C8051F321}
+use Rattle.format.specs.declared.settings.Settings.{Settings}
 
 abbrev pub same : Answer → Answer → Bool
 same (Accepted n) (Accepted m) = eqb n m
@@ -45,49 +49,66 @@ small-bytes (b ∷ bs) h zero = ltb-true b 256 (and-true (ltb b 256) (small bs) 
 small-bytes (b ∷ bs) h (suc i) = small-bytes bs (and-true (ltb b 256) (small bs) h .1) i
 
 -- the test that is computed
-abbrev pub right : List Row → Bool
-right [] = true
-right (r ∷ rs) = small (r .bytes) && same (verdictOf (r .bytes)) (r .answer) && right rs
+abbrev pub right : Settings → List Row → Bool
+right s [] = true
+right s (r ∷ rs) = small (r .bytes) && same (verdictOf s (r .bytes)) (r .answer) && right s rs
 
 -- what it shows: each row's bytes have the row's answer
-abbrev pub Each : List Row → Type 0
-Each [] = Unit {0}
-Each (r ∷ rs) = Verdict (r .bytes) (r .answer) × Each rs
+abbrev pub Each : Settings → List Row → Type 0
+Each s [] = Unit {0}
+Each s (r ∷ rs) = Verdict s (r .bytes) (r .answer) × Each s rs
 
-pub right-each : (rs : List Row) → right rs ≡ true → Each rs
-right-each [] h = tt
-right-each (r ∷ rs) h =
-    let t = and-true (small (r .bytes) && same (verdictOf (r .bytes)) (r .answer)) (right rs) h in
-    let u = and-true (small (r .bytes)) (same (verdictOf (r .bytes)) (r .answer)) (t .0) in
-    (rw (same-is (verdictOf (r .bytes)) (r .answer) (u .1)) at (meets (r .bytes) (small-bytes (r .bytes) (u .0))), right-each rs (t .1))
+pub right-each : (s : Settings) (rs : List Row) → right s rs ≡ true → Each s rs
+right-each s [] h = tt
+right-each s (r ∷ rs) h =
+    let t = and-true (small (r .bytes) && same (verdictOf s (r .bytes)) (r .answer)) (right s rs) h in
+    let u = and-true (small (r .bytes)) (same (verdictOf s (r .bytes)) (r .answer)) (t .0) in
+    (rw (same-is (verdictOf s (r .bytes)) (r .answer) (u .1)) at (meets s (r .bytes) (small-bytes (r .bytes) (u .0))), right-each s rs (t .1))
 
-computed : right starred ≡ true
+-- the settings with a chip
+abbrev on : Chip → Settings
+on c = record { chip = c }
+
+computed : (c : Chip) → right (on c) starred ≡ true
 unfolding verdictOf pass step decode descriptionRules ownRules rulesAgainst
-computed = refl
+computed C8051F320 = refl
+computed C8051F321 = refl
 
-pub known-tables : Each starred
-known-tables = right-each starred computed
+pub known-tables : (s : Settings) → Each s starred
+known-tables s = right-each s starred (computed (s .chip))
 
 -- the order of the rules
-computed-twofold : right twofold ≡ true
+computed-twofold : (c : Chip) → right (on c) twofold ≡ true
 unfolding verdictOf pass step decode descriptionRules ownRules rulesAgainst
-computed-twofold = refl
+computed-twofold C8051F320 = refl
+computed-twofold C8051F321 = refl
 
-pub order-of-rules : Each twofold
-order-of-rules = right-each twofold computed-twofold
+pub order-of-rules : (s : Settings) → Each s twofold
+order-of-rules s = right-each s twofold (computed-twofold (s .chip))
 
 -- a zone descriptor after the element that names it
-computed-zoned : right zoned ≡ true
+computed-zoned : (c : Chip) → right (on c) zoned ≡ true
 unfolding verdictOf pass step decode descriptionRules ownRules rulesAgainst
-computed-zoned = refl
+computed-zoned C8051F320 = refl
+computed-zoned C8051F321 = refl
 
-pub zone-comes-later : Each zoned
-zone-comes-later = right-each zoned computed-zoned
+pub zone-comes-later : (s : Settings) → Each s zoned
+zone-comes-later s = right-each s zoned (computed-zoned (s .chip))
 
 -- one chip select for two, and a lamp on the fan list
-computed-pins : right ofPins ≡ true
+computed-pins : (c : Chip) → right (on c) ofPins ≡ true
 unfolding verdictOf pass step decode descriptionRules ownRules rulesAgainst
-computed-pins = refl
+computed-pins C8051F320 = refl
+computed-pins C8051F321 = refl
 
-pub pins-of-elements : Each ofPins
-pins-of-elements = right-each ofPins computed-pins
+pub pins-of-elements : (s : Settings) → Each s ofPins
+pins-of-elements s = right-each s ofPins (computed-pins (s .chip))
+
+-- the pins that the 321 lacks
+computed-apart : (c : Chip) → right (on c) (apart c) ≡ true
+unfolding verdictOf pass step decode descriptionRules ownRules rulesAgainst
+computed-apart C8051F320 = refl
+computed-apart C8051F321 = refl
+
+pub chips-apart : (s : Settings) → Each s (apart (s .chip))
+chips-apart s = right-each s (apart (s .chip)) (computed-apart (s .chip))

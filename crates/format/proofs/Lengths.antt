@@ -10,6 +10,7 @@ use Rattle.format.specs.Records.{Record}
 use Rattle.format.specs.Layout.{layout, layouts}
 use Rattle.format.specs.Table.{PassKept}
 use Rattle.format.proofs.Slots.{starts-count}
+use Rattle.format.specs.declared.settings.Settings.{Settings}
 
 pub fits-length : (c : List ℕ) (ss : List Slot) → Fits c ss → length c ≡ length ss
 fits-length c ss h = omega (arith, starts-count c ss [] h)
@@ -26,8 +27,8 @@ pub snoc-length : (rs : List Record) (r : Record) → length (layouts (rs ++ r �
 snoc-length rs r = ap length (layouts-snoc rs r) ∙ length-append (layouts rs) (layout r)
 
 -- 11: '0 to 96 elements'
-pub at-most-96 : (before rs : List Record) → length before ≤ 96 → PassKept before rs → length before + length rs ≤ 96
-at-most-96 before [] h k = omega (arith, h)
-at-most-96 before (r ∷ rs) h k =
+pub at-most-96 : (s : Settings) (before rs : List Record) → length before ≤ 96 → PassKept s before rs → length before + length rs ≤ 96
+at-most-96 s before [] h k = omega (arith, h)
+at-most-96 s before (r ∷ rs) h k =
     let n = length-append before (r ∷ []) in
-    omega (arith, n, at-most-96 (before ++ r ∷ []) rs (omega (arith, n, k .0)) (k .2))
+    omega (arith, n, at-most-96 s (before ++ r ∷ []) rs (omega (arith, n, k .0)) (k .2))

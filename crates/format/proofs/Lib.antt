@@ -17,3 +17,4 @@ pub mod KnownTables
 pub mod FieldRows
 pub mod Demand3
 pub mod BadReaders
+pub mod Chips

@@ -13,6 +13,7 @@ use Rattle.format.specs.ZonesAndStrings.{Role, placed, zoning, naming, r
 use Rattle.format.specs.Claims.{claimsOf}
 use Rattle.format.specs.Placed.{withPlacement}
 use Rattle.format.specs.declared.records.Placement.{Placement}
+use Rattle.format.specs.declared.settings.Settings.{Settings}
 
 -- the slots of an element with those of a placement in bytes 3 to 7, where it has one
 abbrev pub replaced : Placement → Role → List Slot → List Slot
@@ -32,18 +33,18 @@ placement-layout p (zone bytes) = refl
 placement-layout p (string bytes) = refl
 placement-layout p (rgb r) = refl
 
-pub placement-rules : (p : Placement) (r : Record) → ownRules (withPlacement p r) ≡ ownRules r
+pub placement-rules : (s : Settings) (p : Placement) (r : Record) → ownRules s (withPlacement p r) ≡ ownRules s r
 unfolding ownRules
-placement-rules p (digital d) = refl
-placement-rules p (analogue a) = refl
-placement-rules p (fan f) = refl
-placement-rules p (led l) = refl
-placement-rules p (current c) = refl
-placement-rules p (controller d bs) = refl
-placement-rules p (tachometer d a b) = refl
-placement-rules p (zone bytes) = refl
-placement-rules p (string bytes) = refl
-placement-rules p (rgb r) = refl
+placement-rules s p (digital d) = refl
+placement-rules s p (analogue a) = refl
+placement-rules s p (fan f) = refl
+placement-rules s p (led l) = refl
+placement-rules s p (current c) = refl
+placement-rules s p (controller d bs) = refl
+placement-rules s p (tachometer d a b) = refl
+placement-rules s p (zone bytes) = refl
+placement-rules s p (string bytes) = refl
+placement-rules s p (rgb r) = refl
 
 pub placement-claims : (p : Placement) (r : Record) → claimsOf (withPlacement p r) ≡ claimsOf r
 placement-claims p (digital d) = refl

@@ -19,6 +19,7 @@ use Rattle.format.specs.Reader.{Outcome, took, stop, orStop, unlessBroke
 use Rattle.format.proofs.Slots.{starts-over, starts-length}
 use Rattle.format.proofs.Kept.{and-true, unbroken-kind}
 use Rattle.format.proofs.Decoding.{starts-stated, starts-next, StandsIf, decoded-stands, stands-decoded}
+use Rattle.format.specs.declared.settings.Settings.{Settings}
 
 -- rule 6 as numbers
 framed-facts : (bs : List ℕ) → framed bs ≡ true → (3 ≤ length bs) × (3 ≤ stated bs) × (stated bs ≤ length bs)
@@ -50,10 +51,10 @@ starts-known : (bs : List ℕ) (r : Record) (rest : List ℕ) → Starts bs (lay
 starts-known bs r rest h = rw (starts-over bs (layout r) rest h .0) (id-known r)
 
 -- what a step's outcome says of the bytes
-abbrev pub Meets : List Record → List ℕ → Outcome → Type 0
-Meets before bs (took r) =
-    (length before < 96) × (elementBreaks before r ≡ none) × Starts bs (layout r) (drop (stated bs) bs)
-Meets before bs (stop k) = Breaks before bs k
+abbrev pub Meets : Settings → List Record → List ℕ → Outcome → Type 0
+Meets s before bs (took r) =
+    (length before < 96) × (elementBreaks s before r ≡ none) × Starts bs (layout r) (drop (stated bs) bs)
+Meets s before bs (stop k) = Breaks s before bs k
 
 or-stop :
     (P : Outcome → Type 0) (t : Bool) (k : ℕ) (o : Outcome) → (t ≡ true → P o) → (t ≡ false → P (stop k)) → P (orStop t k o)
@@ -61,70 +62,70 @@ or-stop P true k o f g = f refl
 or-stop P false k o f g = g refl
 
 judge-meets :
-    (before : List Record) (bs : List ℕ)
+    (s : Settings) (before : List Record) (bs : List ℕ)
     → framed bs ≡ true
     → length before < 96
     → known (byte bs 0) ≡ true
     → (o : Option Record)
-    → decode (byte bs 0) (content bs) ≡ o
-    → StandsIf bs o
-    → Meets before bs (judge before o)
-judge-meets before bs fr few kn none d h = unlaid fr few kn λ r s. none-stands (stands-decoded bs r s)
+    → decode (s .chip) (byte bs 0) (content bs) ≡ o
+    → StandsIf (s .chip) bs o
+    → Meets s before bs (judge s before o)
+judge-meets s before bs fr few kn none d h = unlaid fr few kn λ r st. none-stands (stands-decoded (s .chip) bs r st)
   where
-    none-stands : {r : Record} → decode (byte bs 0) (content bs) ≡ some r → ⊥
+    none-stands : {r : Record} → decode (s .chip) (byte bs 0) (content bs) ≡ some r → ⊥
     none-stands e = let z : _≡_ {A = ℕ} 0 1 = cc in omega arith
-judge-meets before bs fr few kn (some r) d h = go (elementBreaks before r) refl
+judge-meets s before bs fr few kn (some r) d h = go (elementBreaks s before r) refl
   where
-    go : (o : Option ℕ) → elementBreaks before r ≡ o → Meets before bs (unlessBroken r o)
+    go : (o : Option ℕ) → elementBreaks s before r ≡ o → Meets s before bs (unlessBroken r o)
     go none e = (few, e, rw (starts-next bs r (h .rest) (h .starts)) at (h .starts))
     go (some k) e = faulty r few h e
 
-pub step-meets : (before : List Record) (bs : List ℕ) → Bytes bs → 0 < length bs → Meets before bs (step before bs)
+pub step-meets : (s : Settings) (before : List Record) (bs : List ℕ) → Bytes bs → 0 < length bs → Meets s before bs (step s before bs)
 unfolding step
-step-meets before bs small more =
-    or-stop (Meets before bs) (framed bs) 6 _
+step-meets s before bs small more =
+    or-stop (Meets s before bs) (framed bs) 6 _
     (λ fr.
-    or-stop (Meets before bs) (ltb (length before) 96) 11 _
+    or-stop (Meets s before bs) (ltb (length before) 96) 11 _
     (λ few.
-    or-stop (Meets before bs) (known (byte bs 0)) 7 _
+    or-stop (Meets s before bs) (known (byte bs 0)) 7 _
     (λ kn.
     let f = framed-facts bs fr in
-    judge-meets before bs fr (ltb-true _ _ few) kn (decode (byte bs 0) (content bs)) refl (decoded-stands bs small (f .1) (f .2)))
+    judge-meets s before bs fr (ltb-true _ _ few) kn (decode (s .chip) (byte bs 0) (content bs)) refl (decoded-stands (s .chip) bs small (f .1) (f .2)))
     (λ kn. unknown fr (ltb-true _ _ few) kn))
     (λ few. crowded fr (ltb-false _ _ few)))
     (λ fr. header more fr)
 
 -- a record that stands there and breaks no rule is taken
 pub step-took :
-    (before : List Record) (bs : List ℕ) (r : Record) (rest : List ℕ)
+    (s : Settings) (before : List Record) (bs : List ℕ) (r : Record) (rest : List ℕ)
     → length before < 96
-    → elementBreaks before r ≡ none
+    → elementBreaks s before r ≡ none
     → Starts bs (layout r) rest
-    → step before bs ≡ took r
+    → step s before bs ≡ took r
 unfolding step
-step-took before bs r rest few e s =
-    let d = stands-decoded bs r (record { rest = rest; starts = s; kind = unbroken-kind before r e }) in
-    simp (starts-framed bs r rest s, lt-ltb _ _ few, starts-known bs r rest s, d, e)
+step-took s before bs r rest few e h =
+    let d = stands-decoded (s .chip) bs r (record { rest = rest; starts = h; kind = unbroken-kind s before r e }) in
+    simp (starts-framed bs r rest h, lt-ltb _ _ few, starts-known bs r rest h, d, e)
 
 -- what breaks a rule is answered by its number
-pub step-stop : (before : List Record) (bs : List ℕ) {k : ℕ} → Bytes bs → Breaks before bs k → step before bs ≡ stop k
+pub step-stop : (s : Settings) (before : List Record) (bs : List ℕ) {k : ℕ} → Bytes bs → Breaks s before bs k → step s before bs ≡ stop k
 unfolding step
-step-stop before bs small (header more fr) = simp fr
-step-stop before bs small (crowded fr many) = simp (fr, le-ltb _ _ many)
-step-stop before bs small (unknown fr few kn) = simp (fr, lt-ltb _ _ few, kn)
-step-stop before bs small (unlaid fr few kn nothing) =
+step-stop s before bs small (header more fr) = simp fr
+step-stop s before bs small (crowded fr many) = simp (fr, le-ltb _ _ many)
+step-stop s before bs small (unknown fr few kn) = simp (fr, lt-ltb _ _ few, kn)
+step-stop s before bs small (unlaid fr few kn nothing) =
     let f = framed-facts bs fr in
-    simp (fr, lt-ltb _ _ few, kn) (go (decode (byte bs 0) (content bs)) (decoded-stands bs small (f .1) (f .2)))
+    simp (fr, lt-ltb _ _ few, kn) (go (decode (s .chip) (byte bs 0) (content bs)) (decoded-stands (s .chip) bs small (f .1) (f .2)))
   where
-    go : (o : Option Record) → StandsIf bs o → judge before o ≡ stop 8
+    go : (o : Option Record) → StandsIf (s .chip) bs o → judge s before o ≡ stop 8
     go none h = refl
     go (some r) h = absurd (nothing r h)
-step-stop before bs small (faulty r few s e) =
-    simp (starts-framed bs r (s .rest) (s .starts), lt-ltb _ _ few, starts-known bs r (s .rest) (s .starts), stands-decoded bs r s, e)
+step-stop s before bs small (faulty r few h e) =
+    simp (starts-framed bs r (h .rest) (h .starts), lt-ltb _ _ few, starts-known bs r (h .rest) (h .starts), stands-decoded (s .chip) bs r h, e)
 
-pub breaks-more : (before : List Record) (bs : List ℕ) {k : ℕ} → Breaks before bs k → 0 < length bs
-breaks-more before bs (header more fr) = more
-breaks-more before bs (crowded fr many) = omega (arith, framed-facts bs fr)
-breaks-more before bs (unknown fr few kn) = omega (arith, framed-facts bs fr)
-breaks-more before bs (unlaid fr few kn nothing) = omega (arith, framed-facts bs fr)
-breaks-more before bs (faulty r few s e) = omega (arith, starts-length bs (layout r) (s .rest) (s .starts))
+pub breaks-more : (s : Settings) (before : List Record) (bs : List ℕ) {k : ℕ} → Breaks s before bs k → 0 < length bs
+breaks-more s before bs (header more fr) = more
+breaks-more s before bs (crowded fr many) = omega (arith, framed-facts bs fr)
+breaks-more s before bs (unknown fr few kn) = omega (arith, framed-facts bs fr)
+breaks-more s before bs (unlaid fr few kn nothing) = omega (arith, framed-facts bs fr)
+breaks-more s before bs (faulty r few h e) = omega (arith, starts-length bs (layout r) (h .rest) (h .starts))

@@ -12,7 +12,7 @@ use borrow.Author.Tests.{ltb-true}
 use Rattle.format.specs.Slots.{Slot, whole, low, high, halves, flag, reserved, bit, byteOf, written, Holds, Starts, Fits, roomy, allRoomy, byte, Bytes}
 use Rattle.format.specs.Records.{Record, elementOf}
 use Rattle.format.specs.Layout.{layout, opening, table}
-use Rattle.format.specs.Rules.{ofItsKind}
+use Rattle.format.specs.Rules.{ofItsKind, descriptionKind}
 use Rattle.format.specs.Table.{Keeps}
 use Rattle.format.specs.Verdict.{Verdict, Accepts, accepted}
 use Rattle.format.specs.Cleared.{clearedByte, cleared}
@@ -23,6 +23,8 @@ use Rattle.format.proofs.Slots.{starts-over}
 use Rattle.format.proofs.Kept.{and-true}
 use Rattle.format.proofs.EachKind.{description-only}
 use Rattle.format.proofs.Decoding.{stands-decoded}
+use Rattle.format.specs.declared.pins.Chip.{Chip}
+use Rattle.format.specs.declared.settings.Settings.{Settings}
 
 -- each slot
 bit-small : (t : Bool) → bit t < 2
@@ -81,24 +83,25 @@ length-written (s ∷ ss) = ap suc (length-written ss)
 
 -- what is written reads back as the same record
 pub record-reads-back :
-    (r : Record) (more : List ℕ)
+    (c : Chip) (r : Record) (more : List ℕ)
     → allRoomy (layout r) ≡ true
-    → ofItsKind r ≡ true
-    → decode (byte (written (layout r) ++ more) 0) (content (written (layout r) ++ more)) ≡ some r
-record-reads-back r more h k =
-    stands-decoded (written (layout r) ++ more) r (record { rest = more; starts = written-starts (layout r) more h; kind = k })
+    → ofItsKind c r ≡ true
+    → decode c (byte (written (layout r) ++ more) 0) (content (written (layout r) ++ more)) ≡ some r
+record-reads-back c r more h k =
+    stands-decoded c (written (layout r) ++ more) r (record { rest = more; starts = written-starts (layout r) more h; kind = k })
 
 pub description-reads-back :
-    (d : Description) (n : ℕ) (more : List ℕ)
+    (c : Chip) (d : Description) (n : ℕ) (more : List ℕ)
     → allRoomy (opening d n) ≡ true
-    → d ≡ readDescription (byte (written (opening d n) ++ more))
-description-reads-back d n more h =
-    description-only (byte (written (opening d n) ++ more)) d n
-    (starts-over (written (opening d n) ++ more) (opening d n) more (written-starts (opening d n) more h))
+    → descriptionKind c d ≡ true
+    → d ≡ readDescription c (byte (written (opening d n) ++ more))
+description-reads-back c d n more h k =
+    description-only c (byte (written (opening d n) ++ more)) d n
+    (starts-over (written (opening d n) ++ more) (opening d n) more (written-starts (opening d n) more h)) k
 
 -- records that keep the rules are accepted as they are written
-pub written-accepted : (d : Description) (rs : List Record) → Keeps d rs → Verdict (written (table d rs)) (Accepted (length rs))
-written-accepted d rs k = accepted d rs (record { keeps = k; fits = written-fits (table d rs) (k .roomy-25) })
+pub written-accepted : (s : Settings) (d : Description) (rs : List Record) → Keeps s d rs → Verdict s (written (table d rs)) (Accepted (length rs))
+written-accepted s d rs k = accepted d rs (record { keeps = k; fits = written-fits (table d rs) (k .roomy-25) })
 
 -- what bytes fit is written as those bytes with their reserved places at zero
 starts-cleared : (bs : List ℕ) (ss : List Slot) → Fits bs ss → written ss ≡ cleared bs ss
@@ -107,5 +110,5 @@ starts-cleared [] (s ∷ ss) h = absurd h
 starts-cleared (b ∷ bs) (s ∷ ss) h = λ i. holds-cleared b s (h .0) i ∷ starts-cleared bs ss (h .1) i
 
 -- demand 2, of the layout: the records of an accepted table are written as that table with its reserved places at zero
-pub written-again : (b : List ℕ) (d : Description) (rs : List Record) → Accepts b d rs → written (table d rs) ≡ cleared b (table d rs)
-written-again b d rs c = starts-cleared b (table d rs) (c .fits)
+pub written-again : (s : Settings) (b : List ℕ) (d : Description) (rs : List Record) → Accepts s b d rs → written (table d rs) ≡ cleared b (table d rs)
+written-again s b d rs c = starts-cleared b (table d rs) (c .fits)

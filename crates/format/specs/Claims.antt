@@ -1,4 +1,4 @@
--- 15: claims on pins, in their order, and the first that clashes.
+-- 15: claims on pins, in their order, and the first that clashes. A table's pins are all of one chip, so a claim names the byte.
 -- Assumes nothing.
 use Prim.Native.Nat.{ℕ, _+_}
 use mathlib.Core.Bool.{Bool, true, false, _&&_, _||_, not}
@@ -8,10 +8,10 @@ use lib.ListN.{length}
 use lib.Dec.{eqb}
 use Rattle.format.specs.Records.{Record, digital, analogue, fan, led, current, controller, tachometer, zone, string, rgb}
 use Rattle.format.specs.Layout.{layout}
-use Rattle.format.specs.Pins.{unused}
 use Rattle.format.specs.Rules.{unlessKept}
 use Rattle.format.specs.declared.pins.Pin.{Pin}
 use Rattle.format.specs.declared.pins.OptionalPin.{OptionalPin}
+use Rattle.format.specs.declared.pins.OptionalPin.the-variants.{Unused, Used}
 use Rattle.format.specs.declared.records.Description.{Description}
 use Rattle.format.specs.declared.records.Address.{Address}
 use Rattle.format.specs.declared.records.Address.the-variants.{Bus, Select}
@@ -65,12 +65,9 @@ firstClash earlier (m ∷ ms) = unlessKept (not (clashes (m .what) earlier)) (m 
 abbrev pub own : Pin → Claim
 own p = claim alone (p .0)
 
-abbrev pub unlessUnused : Bool → Claim → List Claim
-unlessUnused true c = []
-unlessUnused false c = c ∷ []
-
 abbrev pub ownUsed : OptionalPin → List Claim
-ownUsed p = unlessUnused (unused p) (claim alone (p .0))
+ownUsed Unused = []
+ownUsed (Used p) = own p ∷ []
 
 -- 'P0.3 and P0.4 for bus types 0 to 2, P0.0 to P0.2 for SPI', then 'a chip select being one' of its own pins. Claims are
 -- made by records that keep 9, and so the address tells the bus type

@@ -9,6 +9,10 @@ use lib.Dec.{eqb, leb}
 use Rattle.format.specs.Slots.{byte}
 use Rattle.format.specs.Records.{Block, Record, digital, analogue, fan, led, current, controller, tachometer, zone, string, rgb}
 use Rattle.format.specs.Verdict.{stated}
+use Rattle.format.specs.declared.pins.Chip.{Chip}
+use Rattle.format.specs.declared.pins.Pin.{Pin}
+use Rattle.format.specs.declared.pins.OptionalPin.{OptionalPin}
+use Rattle.format.specs.declared.pins.OptionalPin.the-variants.{Unused, Used}
 use Rattle.format.specs.declared.records.Description.{Description}
 use Rattle.format.specs.declared.records.Placement.{Placement}
 use Rattle.format.specs.declared.records.DigitalSensor.{DigitalSensor}
@@ -23,7 +27,18 @@ use Rattle.format.specs.declared.records.RegisterPair.{RegisterPair}
 use Rattle.format.specs.declared.records.Address.{Address}
 use Rattle.format.specs.declared.records.Address.the-variants.{Bus, Select}
 
--- each record by its numbers, in the order of its fields
+-- a pin of a chip by its byte, and what stands in a place that may be unused
+abbrev pub pinOf : Chip → ℕ → Pin
+pinOf c b = record { 0 = b; 1 = c }
+
+abbrev pub pickPin : Bool → Pin → OptionalPin
+pickPin true p = Unused
+pickPin false p = Used p
+
+abbrev pub optionalOf : Chip → ℕ → OptionalPin
+optionalOf c b = pickPin (eqb b 0xff) (pinOf c b)
+
+-- each record by its numbers and pins, in the order of its fields
 abbrev pub placementOf : ℕ → ℕ → ℕ → ℕ → ℕ → Placement
 placementOf s x y z n =
     record { string = s; x = record { 0 = x }; y = record { 0 = y }; z = record { 0 = z }; zone = n }
@@ -42,12 +57,12 @@ digitalOf p bus a lsb msb v t w u =
       maxtemp = record { 0 = u };
     }
 
-abbrev pub analogueOf : Placement → ℕ → ℕ → ℕ → ℕ → ℕ → ℕ → ℕ → AnalogueSensor
+abbrev pub analogueOf : Placement → ℕ → Pin → ℕ → ℕ → ℕ → ℕ → ℕ → AnalogueSensor
 analogueOf p t pin a b c d e =
     record {
       placement = p;
       thermal = t;
-      pin = record { 0 = pin };
+      pin = pin;
       at0 = record { 0 = a };
       at25 = record { 0 = b };
       at50 = record { 0 = c };
@@ -55,35 +70,35 @@ analogueOf p t pin a b c d e =
       at100 = record { 0 = e };
     }
 
-abbrev pub fanOf : Placement → ℕ → ℕ → ℕ → ℕ → ℕ → ℕ → PwmFan
+abbrev pub fanOf : Placement → Pin → OptionalPin → ℕ → ℕ → ℕ → ℕ → PwmFan
 fanOf p pwm t ppr a b duty =
     record {
       placement = p;
-      pwm = record { 0 = pwm };
-      tachometer = record { 0 = t };
+      pwm = pwm;
+      tachometer = t;
       ppr = ppr;
       minrpm = record { 0 = a };
       maxrpm = record { 0 = b };
       duty = duty;
     }
 
-abbrev pub lampOf : ℕ → ℕ → ℕ → Lamp
-lampOf pin c u = record { pin = record { 0 = pin }; colour = c; purpose = u }
+abbrev pub lampOf : OptionalPin → ℕ → ℕ → Lamp
+lampOf pin c u = record { pin = pin; colour = c; purpose = u }
 
 abbrev pub ledOf : Placement → Lamp → Lamp → Lamp → StatusLed
 ledOf p a b c = record { placement = p; one = a; two = b; three = c }
 
-abbrev pub currentOf : Placement → ℕ → ℕ → ℕ → CurrentSensor
+abbrev pub currentOf : Placement → Pin → ℕ → ℕ → CurrentSensor
 currentOf p pin a b =
-    record { placement = p; pin = record { 0 = pin }; imin = record { 0 = a }; imax = record { 0 = b } }
+    record { placement = p; pin = pin; imin = record { 0 = a }; imax = record { 0 = b } }
 
 abbrev pub deviceOf : Placement → ℕ → Address → BusDevice
 deviceOf p bus a = record { placement = p; bus = bus; address = a }
 
-abbrev pub rgbOf : Placement → ℕ → ℕ → ℕ → RgbLed
-rgbOf p r g b = record { placement = p; red = record { 0 = r }; green = record { 0 = g }; blue = record { 0 = b } }
+abbrev pub rgbOf : Placement → Pin → Pin → Pin → RgbLed
+rgbOf p r g b = record { placement = p; red = r; green = g; blue = b }
 
-abbrev pub descriptionOf : ℕ → ℕ → ℕ → Bool → ℕ → ℕ → ℕ → ℕ → Description
+abbrev pub descriptionOf : ℕ → ℕ → ℕ → Bool → ℕ → OptionalPin → OptionalPin → OptionalPin → Description
 descriptionOf k s n f u a b c =
     record {
       device = k;
@@ -91,9 +106,9 @@ descriptionOf k s n f u a b c =
       serial = n;
       spwr = f;
       power = record { 0 = u };
-      revision0 = record { 0 = a };
-      revision1 = record { 0 = b };
-      revision2 = record { 0 = c };
+      revision0 = a;
+      revision1 = b;
+      revision2 = c;
     }
 
 abbrev pub pairOf : ℕ → ℕ → RegisterPair
@@ -109,42 +124,42 @@ wordAt f i = f i + 256 * f (i + 1)
 abbrev pub readPlacement : (ℕ → ℕ) → Placement
 readPlacement f = placementOf (f 0) (f 1) (f 2) (f 3) (f 4)
 
-abbrev pub pickAddress : Bool → ℕ → Address
-pickAddress true b = Select (record { 0 = b })
-pickAddress false b = Bus (b / 2)
+abbrev pub pickAddress : Chip → Bool → ℕ → Address
+pickAddress c true b = Select (pinOf c b)
+pickAddress c false b = Bus (b / 2)
 
-abbrev pub readAddress : (ℕ → ℕ) → Address
-readAddress f = pickAddress (eqb (f 5 % 16) 3) (f 6)
+abbrev pub readAddress : Chip → (ℕ → ℕ) → Address
+readAddress c f = pickAddress c (eqb (f 5 % 16) 3) (f 6)
 
-abbrev pub readDigital : (ℕ → ℕ) → DigitalSensor
-readDigital f =
-    digitalOf (readPlacement f) (f 5 % 16) (readAddress f) (wordAt f 8) (wordAt f 10) (wordAt f 12) (f 14) (wordAt f 15) (f 17)
+abbrev pub readDigital : Chip → (ℕ → ℕ) → DigitalSensor
+readDigital c f =
+    digitalOf (readPlacement f) (f 5 % 16) (readAddress c f) (wordAt f 8) (wordAt f 10) (wordAt f 12) (f 14) (wordAt f 15) (f 17)
 
-abbrev pub readAnalogue : (ℕ → ℕ) → AnalogueSensor
-readAnalogue f =
-    analogueOf (readPlacement f) (f 5 % 16) (f 6) (wordAt f 7) (wordAt f 9) (wordAt f 11) (wordAt f 13) (wordAt f 15)
+abbrev pub readAnalogue : Chip → (ℕ → ℕ) → AnalogueSensor
+readAnalogue c f =
+    analogueOf (readPlacement f) (f 5 % 16) (pinOf c (f 6)) (wordAt f 7) (wordAt f 9) (wordAt f 11) (wordAt f 13) (wordAt f 15)
 
-abbrev pub readFan : (ℕ → ℕ) → PwmFan
-readFan f = fanOf (readPlacement f) (f 5) (f 6) (f 7) (wordAt f 8) (wordAt f 10) (f 12)
+abbrev pub readFan : Chip → (ℕ → ℕ) → PwmFan
+readFan c f = fanOf (readPlacement f) (pinOf c (f 5)) (optionalOf c (f 6)) (f 7) (wordAt f 8) (wordAt f 10) (f 12)
 
-abbrev pub readLamp : (ℕ → ℕ) → ℕ → Lamp
-readLamp f i = lampOf (f i) (f (suc i) / 16) (f (suc i) % 16)
+abbrev pub readLamp : Chip → (ℕ → ℕ) → ℕ → Lamp
+readLamp c f i = lampOf (optionalOf c (f i)) (f (suc i) / 16) (f (suc i) % 16)
 
-abbrev pub readLed : (ℕ → ℕ) → StatusLed
-readLed f = ledOf (readPlacement f) (readLamp f 5) (readLamp f 7) (readLamp f 9)
+abbrev pub readLed : Chip → (ℕ → ℕ) → StatusLed
+readLed c f = ledOf (readPlacement f) (readLamp c f 5) (readLamp c f 7) (readLamp c f 9)
 
-abbrev pub readCurrent : (ℕ → ℕ) → CurrentSensor
-readCurrent f = currentOf (readPlacement f) (f 5) (wordAt f 7) (wordAt f 9)
+abbrev pub readCurrent : Chip → (ℕ → ℕ) → CurrentSensor
+readCurrent c f = currentOf (readPlacement f) (pinOf c (f 5)) (wordAt f 7) (wordAt f 9)
 
-abbrev pub readDevice : (ℕ → ℕ) → BusDevice
-readDevice f = deviceOf (readPlacement f) (f 5 % 16) (readAddress f)
+abbrev pub readDevice : Chip → (ℕ → ℕ) → BusDevice
+readDevice c f = deviceOf (readPlacement f) (f 5 % 16) (readAddress c f)
 
-abbrev pub readRgb : (ℕ → ℕ) → RgbLed
-readRgb f = rgbOf (readPlacement f) (f 5) (f 6) (f 7)
+abbrev pub readRgb : Chip → (ℕ → ℕ) → RgbLed
+readRgb c f = rgbOf (readPlacement f) (pinOf c (f 5)) (pinOf c (f 6)) (pinOf c (f 7))
 
-abbrev pub readDescription : (ℕ → ℕ) → Description
-readDescription f =
-    descriptionOf (f 3) (f 4) (f 5 + 256 * f 6 + 65536 * f 7) (leb 128 (f 8)) (f 8 % 128) (f 9) (f 10) (f 11)
+abbrev pub readDescription : Chip → (ℕ → ℕ) → Description
+readDescription c f =
+    descriptionOf (f 3) (f 4) (f 5 + 256 * f 6 + 65536 * f 7) (leb 128 (f 8)) (f 8 % 128) (optionalOf c (f 9)) (optionalOf c (f 10)) (optionalOf c (f 11))
 
 -- the element's bytes after its header
 abbrev pub content : List ℕ → List ℕ
@@ -189,17 +204,17 @@ pick true a b = a
 pick false a b = b
 
 -- the record in the bytes after a header, by its identifier, where they have the layout's length
-unfoldable pub decode : ℕ → List ℕ → Option Record
-decode id c =
-    pick (eqb id 0x01) (guard (eqb (length c) 18) (some (digital (readDigital (byte c)))))
-    (pick (eqb id 0x02) (guard (eqb (length c) 17) (some (analogue (readAnalogue (byte c)))))
-    (pick (eqb id 0x03) (guard (eqb (length c) 13) (some (fan (readFan (byte c)))))
-    (pick (eqb id 0x04) (guard (eqb (length c) 11) (some (led (readLed (byte c)))))
-    (pick (eqb id 0x08) (guard (eqb (length c) 11) (some (current (readCurrent (byte c)))))
+unfoldable pub decode : Chip → ℕ → List ℕ → Option Record
+decode k id c =
+    pick (eqb id 0x01) (guard (eqb (length c) 18) (some (digital (readDigital k (byte c)))))
+    (pick (eqb id 0x02) (guard (eqb (length c) 17) (some (analogue (readAnalogue k (byte c)))))
+    (pick (eqb id 0x03) (guard (eqb (length c) 13) (some (fan (readFan k (byte c)))))
+    (pick (eqb id 0x04) (guard (eqb (length c) 11) (some (led (readLed k (byte c)))))
+    (pick (eqb id 0x08) (guard (eqb (length c) 11) (some (current (readCurrent k (byte c)))))
     (pick (eqb id 0x09)
-    (guard (leb 8 (length c)) (bind (cutBlocks (length c) (drop 8 c)) (λ l. some (controller (readDevice (byte c)) l))))
+    (guard (leb 8 (length c)) (bind (cutBlocks (length c) (drop 8 c)) (λ l. some (controller (readDevice k (byte c)) l))))
     (pick (eqb id 0x0a)
-    (guard (leb 9 (length c)) (bind (cutTwo (drop 9 c)) (λ t. some (tachometer (readDevice (byte c)) (t .0) (t .1)))))
+    (guard (leb 9 (length c)) (bind (cutTwo (drop 9 c)) (λ t. some (tachometer (readDevice k (byte c)) (t .0) (t .1)))))
     (pick (eqb id 0x0b) (some (zone c))
     (pick (eqb id 0x0c) (some (string c))
-    (pick (eqb id 0x0e) (guard (eqb (length c) 8) (some (rgb (readRgb (byte c))))) none)))))))))
+    (pick (eqb id 0x0e) (guard (eqb (length c) 8) (some (rgb (readRgb k (byte c))))) none)))))))))

@@ -1,11 +1,14 @@
 -- One element of each of the ten kinds as raw bytes, every field another number, and beside it the record that the tables of the
--- specification put there, field by field. Reserved places are not zero. The bytes were derived from the tables by hand and not
+-- specification put there, field by field, its pins of the chip that the caller names. Reserved places are not zero. The bytes were derived from the tables by hand and not
 -- from the layout. 31h to 3Ah fill fields of one byte, 41h to 4Ch those of two, lowest byte first, and 96h to 99h reserved bytes.
 -- Assumes nothing.
 use Prim.Native.Nat.{ℕ}
 use mathlib.Core.Bool.{Bool, true, false}
 use mathlib.Core.List.{List, [], _∷_}
 use Rattle.format.specs.Records.{Block, Record, digital, analogue, fan, led, current, controller, tachometer, zone, string, rgb}
+use Rattle.format.specs.declared.pins.Chip.{Chip}
+use Rattle.format.specs.declared.pins.Pin.{Pin}
+use Rattle.format.specs.declared.pins.OptionalPin.the-variants.{Unused, Used}
 use Rattle.format.specs.declared.records.Description.{Description}
 use Rattle.format.specs.declared.records.Placement.{Placement}
 use Rattle.format.specs.declared.records.RegisterPair.{RegisterPair}
@@ -22,6 +25,10 @@ bytes holds r = record { bytes = bytes; holds = r }
 -- bytes 3 to 7 of eight of the kinds: STRING INDEX, X POS, Y POS, Z POS, ZONE IDENTIFIER
 abbrev pub placed : Placement
 placed = record { string = 0x31; x = record { 0 = 0x32 }; y = record { 0 = 0x33 }; z = record { 0 = 0x34 }; zone = 0x35 }
+
+-- PORT and PIN as one byte
+abbrev pub pinAt : Chip → ℕ → Pin
+pinAt c b = record { 0 = b; 1 = c }
 
 -- Table 23: REGISTER ADDRESS, REGISTER DATA
 abbrev pub pair1 : RegisterPair
@@ -59,8 +66,8 @@ stringPart = 0x31 ∷ 0x41 ∷ 0x42 ∷ 0x43 ∷ 0x44 ∷ 0x45 ∷ 0x46 ∷ []
 abbrev pub stringText : List ℕ
 stringText = 0x43 ∷ 0x44 ∷ 0x45 ∷ 0x46 ∷ []
 
-abbrev pub fieldRows : List FieldRow
-fieldRows =
+abbrev pub fieldRows : Chip → List FieldRow
+fieldRows c =
     -- Table 11, byte 8 with BUS TYPE 1, byte 9 with BUS ADDRESS 36h
     (0x01 ∷ 0x15 ∷ 0x00 ∷ 0x31 ∷ 0x32 ∷ 0x33 ∷ 0x34 ∷ 0x35 ∷ 0xf1 ∷ 0x6d ∷ 0x99
     ∷ 0x41 ∷ 0x42 ∷ 0x43 ∷ 0x44 ∷ 0x45 ∷ 0x46 ∷ 0x37 ∷ 0x47 ∷ 0x48 ∷ 0x38 ∷ []
@@ -81,7 +88,7 @@ fieldRows =
     holds analogue (record {
       placement = placed;
       thermal = 9;
-      pin = record { 0 = 0x36 };
+      pin = pinAt c 0x36;
       at0 = record { 0 = 0x4241 };
       at25 = record { 0 = 0x4443 };
       at50 = record { 0 = 0x4645 };
@@ -93,8 +100,20 @@ fieldRows =
     ∷ 0x36 ∷ 0x37 ∷ 0x38 ∷ 0x41 ∷ 0x42 ∷ 0x43 ∷ 0x44 ∷ 0x39 ∷ []
     holds fan (record {
       placement = placed;
-      pwm = record { 0 = 0x36 };
-      tachometer = record { 0 = 0x37 };
+      pwm = pinAt c 0x36;
+      tachometer = Used (pinAt c 0x37);
+      ppr = 0x38;
+      minrpm = record { 0 = 0x4241 };
+      maxrpm = record { 0 = 0x4443 };
+      duty = 0x39;
+    }))
+    -- the same, with no tachometer
+    ∷ (0x03 ∷ 0x10 ∷ 0x00 ∷ 0x31 ∷ 0x32 ∷ 0x33 ∷ 0x34 ∷ 0x35
+    ∷ 0x36 ∷ 0xff ∷ 0x38 ∷ 0x41 ∷ 0x42 ∷ 0x43 ∷ 0x44 ∷ 0x39 ∷ []
+    holds fan (record {
+      placement = placed;
+      pwm = pinAt c 0x36;
+      tachometer = Unused;
       ppr = 0x38;
       minrpm = record { 0 = 0x4241 };
       maxrpm = record { 0 = 0x4443 };
@@ -105,16 +124,16 @@ fieldRows =
     ∷ 0x36 ∷ 0x12 ∷ 0x37 ∷ 0x45 ∷ 0x38 ∷ 0x78 ∷ []
     holds led (record {
       placement = placed;
-      one = record { pin = record { 0 = 0x36 }; colour = 1; purpose = 2 };
-      two = record { pin = record { 0 = 0x37 }; colour = 4; purpose = 5 };
-      three = record { pin = record { 0 = 0x38 }; colour = 7; purpose = 8 };
+      one = record { pin = Used (pinAt c 0x36); colour = 1; purpose = 2 };
+      two = record { pin = Used (pinAt c 0x37); colour = 4; purpose = 5 };
+      three = record { pin = Used (pinAt c 0x38); colour = 7; purpose = 8 };
     }))
     -- Table 20
     ∷ (0x08 ∷ 0x0e ∷ 0x00 ∷ 0x31 ∷ 0x32 ∷ 0x33 ∷ 0x34 ∷ 0x35
     ∷ 0x36 ∷ 0x99 ∷ 0x41 ∷ 0x42 ∷ 0x43 ∷ 0x44 ∷ []
     holds current (record {
       placement = placed;
-      pin = record { 0 = 0x36 };
+      pin = pinAt c 0x36;
       imin = record { 0 = 0x4241 };
       imax = record { 0 = 0x4443 };
     }))
@@ -122,7 +141,7 @@ fieldRows =
     ∷ (0x09 ∷ 0x1b ∷ 0x00 ∷ 0x31 ∷ 0x32 ∷ 0x33 ∷ 0x34 ∷ 0x35 ∷ 0xf3 ∷ 0x36 ∷ 0x99
     ∷ 0x37 ∷ 0x02 ∷ 0x41 ∷ 0x42 ∷ 0x43 ∷ 0x44 ∷ 0x45 ∷ 0x46 ∷ 0x47 ∷ 0x48
     ∷ 0x38 ∷ 0x01 ∷ 0x49 ∷ 0x4a ∷ 0x4b ∷ 0x4c ∷ []
-    holds controller (record { placement = placed; bus = 3; address = Select (record { 0 = 0x36 }) }) (block1 ∷ block2 ∷ []))
+    holds controller (record { placement = placed; bus = 3; address = Select (pinAt c 0x36) }) (block1 ∷ block2 ∷ []))
     -- Table 24, byte 8 with BUS TYPE 2, byte 9 with BUS ADDRESS 36h
     ∷ (0x0a ∷ 0x1a ∷ 0x00 ∷ 0x31 ∷ 0x32 ∷ 0x33 ∷ 0x34 ∷ 0x35 ∷ 0xf2 ∷ 0x6d ∷ 0x99 ∷ 0x98
     ∷ 0x02 ∷ 0x41 ∷ 0x42 ∷ 0x43 ∷ 0x44 ∷ 0x45 ∷ 0x46 ∷ 0x47 ∷ 0x48
@@ -135,28 +154,28 @@ fieldRows =
     ∷ (0x0e ∷ 0x0b ∷ 0x00 ∷ 0x31 ∷ 0x32 ∷ 0x33 ∷ 0x34 ∷ 0x35 ∷ 0x36 ∷ 0x37 ∷ 0x38 ∷ []
     holds rgb (record {
       placement = placed;
-      red = record { 0 = 0x36 };
-      green = record { 0 = 0x37 };
-      blue = record { 0 = 0x38 };
+      red = pinAt c 0x36;
+      green = pinAt c 0x37;
+      blue = pinAt c 0x38;
     }))
     ∷ []
 
--- Table 4, byte 8 with SPWR 1 and POWER UNITS 36h, and with SPWR 0
+-- Table 4, byte 8 with SPWR 1 and POWER UNITS 36h, and with SPWR 0; the third hardware revision pin is unused
 abbrev pub openingRow : ℕ → List ℕ
 openingRow power =
-    0x01 ∷ 0x10 ∷ 0x00 ∷ 0x31 ∷ 0x32 ∷ 0x41 ∷ 0x42 ∷ 0x43 ∷ power ∷ 0x37 ∷ 0x38 ∷ 0x39 ∷ 0x99 ∷ 0x98 ∷ 0x97 ∷ 0x96 ∷ []
+    0x01 ∷ 0x10 ∷ 0x00 ∷ 0x31 ∷ 0x32 ∷ 0x41 ∷ 0x42 ∷ 0x43 ∷ power ∷ 0x37 ∷ 0x38 ∷ 0xff ∷ 0x99 ∷ 0x98 ∷ 0x97 ∷ 0x96 ∷ []
 
-abbrev pub descriptionRow : Bool → Description
-descriptionRow spwr =
+abbrev pub descriptionRow : Chip → Bool → Description
+descriptionRow c spwr =
     record {
       device = 0x31;
       string = 0x32;
       serial = 0x434241;
       spwr = spwr;
       power = record { 0 = 0x36 };
-      revision0 = record { 0 = 0x37 };
-      revision1 = record { 0 = 0x38 };
-      revision2 = record { 0 = 0x39 };
+      revision0 = Used (pinAt c 0x37);
+      revision1 = Used (pinAt c 0x38);
+      revision2 = Unused;
     }
 
 -- a position with FFh where a test is true

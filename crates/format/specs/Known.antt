@@ -1,8 +1,11 @@
 -- The starred rows of 'Known tables', rows of two faults at once, and a row whose zone descriptor comes after the element that
--- names it. Their answers are proved of the verdict itself.
+-- names it. Their answers are proved of the verdict itself, on each
+-- chip. The last rows tell the chips apart.
 -- Assumes nothing.
 use Prim.Native.Nat.{ℕ}
 use mathlib.Core.List.{List, [], _∷_, _++_}
+use Rattle.format.specs.declared.pins.Chip.{Chip}
+use Rattle.format.specs.declared.pins.Chip.the-variants.{C8051F320, C8051F321}
 use Rattle.format.specs.declared.answers.Answer.{Answer}
 use Rattle.format.specs.declared.answers.Answer.the-variants.{Accepted, Refused}
 
@@ -131,4 +134,33 @@ ofPins =
     (after 88 (sensorS 0x14 ++ sensorS 0x14 ++ zone1) gives Accepted 3)
     ∷ (after 60 (ledL 0x04 ++ zone1) gives Accepted 2)
     ∷ (after 60 (ledL 0x05 ++ zone1) gives Refused 10 16)
+    ∷ []
+
+-- 'The smaller chip': a pin that the 320 has and the 321 lacks.
+
+-- an analogue sensor in zone 1, on this pin
+abbrev pub sensorT : ℕ → List ℕ
+sensorT pin =
+    0x02
+    ∷ 0x14 ∷ 0x00
+    ∷ 0x00 ∷ 0xff ∷ 0xff ∷ 0xff ∷ 0x01
+    ∷ 0x01 ∷ pin
+    ∷ 0x00 ∷ 0x00 ∷ 0x00 ∷ 0x00 ∷ 0x00 ∷ 0x00 ∷ 0x00 ∷ 0x00 ∷ 0x00 ∷ 0x00
+    ∷ []
+
+-- an answer of the 320, and one of the 321
+abbrev pub by : Chip → Answer → Answer → Answer
+by C8051F320 a b = a
+by C8051F321 a b = b
+
+-- P2.4, P2.7, P2.5, P2.6, each in a use of its own; the zone left out: 10 before 13; P2.3 and P3.0 are on both
+abbrev pub apart : Chip → List Row
+apart c =
+    (after 66 (sensorT 0x24 ++ zone1) gives by c (Accepted 2) (Refused 10 16))
+    ∷ (after 60 (ledL 0x27 ++ zone1) gives by c (Accepted 2) (Refused 10 16))
+    ∷ (tableA 0x01 0x10 0x80 0x25 gives by c (Accepted 0) (Refused 10 0))
+    ∷ (after 67 (sensorS 0x26 ++ zone1) gives by c (Accepted 2) (Refused 10 16))
+    ∷ (after 36 (sensorT 0x24) gives by c (Refused 13 16) (Refused 10 16))
+    ∷ (after 66 (sensorT 0x23 ++ zone1) gives Accepted 2)
+    ∷ (after 66 (sensorT 0x30 ++ zone1) gives Accepted 2)
     ∷ []

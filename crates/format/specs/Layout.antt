@@ -7,6 +7,7 @@ use Rattle.format.specs.Slots.{Slot, whole, low, high, halves, flag, res
 use Rattle.format.specs.Records.{Block, Record, digital, analogue, fan, led, current, controller, tachometer, zone, string, rgb, elementOf}
 use Rattle.format.specs.declared.pins.Pin.{Pin}
 use Rattle.format.specs.declared.pins.OptionalPin.{OptionalPin}
+use Rattle.format.specs.declared.pins.OptionalPin.the-variants.{Unused, Used}
 use Rattle.format.specs.declared.records.Description.{Description}
 use Rattle.format.specs.declared.records.Placement.{Placement}
 use Rattle.format.specs.declared.records.Lamp.{Lamp}
@@ -16,12 +17,18 @@ use Rattle.format.specs.declared.records.Address.the-variants.{Bus, Sele
 use Rattle.format.specs.declared.records.Element.{Element}
 use Rattle.format.specs.declared.records.Element.the-variants.{Digital, Analogue, Fan, Led, Current, Controller, Tachometer, Zone, Text, Rgb}
 
--- a pin byte: 'the port in bits 7-4 and the pin in bits 3-0', which a record holds as one number
+-- a pin byte: 'the port in bits 7-4 and the pin in bits 3-0', which a record holds as one number; the
+-- layout does not say the chip
 abbrev pub pinSlot : Pin → Slot
 pinSlot p = whole (p .0)
 
+-- FFh where the place is unused
+abbrev pub optionalByte : OptionalPin → ℕ
+optionalByte Unused = 0xff
+optionalByte (Used p) = p .0
+
 abbrev pub optionalPinSlot : OptionalPin → Slot
-optionalPinSlot p = whole (p .0)
+optionalPinSlot p = whole (optionalByte p)
 
 -- Table 4, the description, in a table of so many bytes
 abbrev pub opening : Description → ℕ → List Slot

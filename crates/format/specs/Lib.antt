@@ -16,4 +16,5 @@ pub mod FieldRows
 pub mod Bargain
 pub mod Decode
 pub mod Reader
+pub mod Chips
 pub mod Writing

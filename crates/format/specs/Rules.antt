@@ -10,11 +10,14 @@ use lib.Dec.{eqb, ltb, leb}
 use Rattle.format.specs.Records.{Block, Record, digital, analogue, fan, led, current, controller, tachometer, zone, string, rgb, stringNumber}
 use Rattle.format.specs.Slots.{allRoomy}
 use Rattle.format.specs.Layout.{opening, fixed}
-use Rattle.format.specs.Pins.{among, allowed, unused, allowedOrUnused}
+use Rattle.format.specs.Pins.{among, ofChip, allowed, unused, allowedOrUnused, standing}
 use Rattle.format.specs.declared.units.Counts.{Counts}
 use Rattle.format.specs.declared.pins.Use.the-variants.{FanPin, AnaloguePin, ChipSelect, StatusLed, HardwareRevision}
 use Rattle.format.specs.declared.pins.Pin.{Pin}
 use Rattle.format.specs.declared.pins.OptionalPin.{OptionalPin}
+use Rattle.format.specs.declared.pins.OptionalPin.the-variants.{Unused, Used}
+use Rattle.format.specs.declared.pins.Chip.{Chip}
+use Rattle.format.specs.declared.settings.Settings.{Settings}
 use Rattle.format.specs.declared.records.Description.{Description}
 use Rattle.format.specs.declared.records.Lamp.{Lamp}
 use Rattle.format.specs.declared.records.Element.{Element}
@@ -52,13 +55,13 @@ abbrev pub powered : Description → Bool
 powered d = d .spwr || leb (d .power .0) 125
 
 -- 10, of the hardware revision pins
-abbrev pub strapped : Description → Bool
-strapped d =
-    allowedOrUnused HardwareRevision (d .revision0)
-    && (allowedOrUnused HardwareRevision (d .revision1) && allowedOrUnused HardwareRevision (d .revision2))
+abbrev pub strapped : Chip → Description → Bool
+strapped c d =
+    allowedOrUnused c HardwareRevision (d .revision0)
+    && (allowedOrUnused c HardwareRevision (d .revision1) && allowedOrUnused c HardwareRevision (d .revision2))
 
-unfoldable pub descriptionRules : Description → List Rule
-descriptionRules d = rule 4 (typed d) ∷ rule 5 (powered d) ∷ rule 10 (strapped d) ∷ []
+unfoldable pub descriptionRules : Chip → Description → List Rule
+descriptionRules c d = rule 4 (typed d) ∷ rule 5 (powered d) ∷ rule 10 (strapped c d) ∷ []
 
 -- An element. 8: '.. the blocks do not fill it exactly, or 09h has over 6 blocks or none'. A record's blocks always fill it;
 -- 'length differs from the layout' can meet a zone descriptor (Table 30: 30 bytes) and a string (Table 29: 6 or more)
@@ -119,35 +122,36 @@ coded (string bytes) = not (eqb (stringNumber bytes) 0)
 coded (rgb r) = true
 
 -- 10, of a chip select
-abbrev pub selected : Address → Bool
-selected (Bus a) = true
-selected (Select p) = allowed ChipSelect p
+abbrev pub selected : Chip → Address → Bool
+selected c (Bus a) = true
+selected c (Select p) = allowed c ChipSelect p
 
 -- 'PWM before tachometer .. in strictly rising order of the fan list'
 abbrev pub rises : Pin → OptionalPin → Bool
-rises p q = unused q || ltb (p .0) (q .0)
+rises p Unused = true
+rises p (Used q) = ltb (p .0) (q .0)
 
 -- 10: 'a used pin that does not exist, is not permitted, or breaks the rising order'; red, green, blue rise too
-abbrev pub pinned : Record → Bool
-pinned (digital d) = selected (d .address)
-pinned (analogue a) = allowed AnaloguePin (a .pin)
-pinned (fan f) = allowed FanPin (f .pwm) && (allowedOrUnused FanPin (f .tachometer) && rises (f .pwm) (f .tachometer))
-pinned (led l) =
-    allowedOrUnused StatusLed (l .one .pin)
-    && (allowedOrUnused StatusLed (l .two .pin) && allowedOrUnused StatusLed (l .three .pin))
-pinned (current c) = allowed AnaloguePin (c .pin)
-pinned (controller d bs) = selected (d .address)
-pinned (tachometer d a b) = selected (d .address)
-pinned (zone bytes) = true
-pinned (string bytes) = true
-pinned (rgb r) =
-    allowed FanPin (r .red)
-    && (allowed FanPin (r .green)
-    && (allowed FanPin (r .blue) && (ltb (r .red .0) (r .green .0) && ltb (r .green .0) (r .blue .0))))
+abbrev pub pinned : Chip → Record → Bool
+pinned c (digital d) = selected c (d .address)
+pinned c (analogue a) = allowed c AnaloguePin (a .pin)
+pinned c (fan f) = allowed c FanPin (f .pwm) && (allowedOrUnused c FanPin (f .tachometer) && rises (f .pwm) (f .tachometer))
+pinned c (led l) =
+    allowedOrUnused c StatusLed (l .one .pin)
+    && (allowedOrUnused c StatusLed (l .two .pin) && allowedOrUnused c StatusLed (l .three .pin))
+pinned c (current x) = allowed c AnaloguePin (x .pin)
+pinned c (controller d bs) = selected c (d .address)
+pinned c (tachometer d a b) = selected c (d .address)
+pinned c (zone bytes) = true
+pinned c (string bytes) = true
+pinned c (rgb r) =
+    allowed c FanPin (r .red)
+    && (allowed c FanPin (r .green)
+    && (allowed c FanPin (r .blue) && (ltb (r .red .0) (r .green .0) && ltb (r .green .0) (r .blue .0))))
 
 -- the rules that an element keeps or breaks by itself, in their order: the reader and the writer share them
-unfoldable pub ownRules : Record → List Rule
-ownRules r = rule 8 (shaped r) ∷ rule 9 (coded r) ∷ rule 10 (pinned r) ∷ []
+unfoldable pub ownRules : Settings → Record → List Rule
+ownRules s r = rule 8 (shaped r) ∷ rule 9 (coded r) ∷ rule 10 (pinned (s .chip) r) ∷ []
 
 -- Rule 25, of the description and of an element's fields: 'a number in the record is too large for its field'; here, that none
 -- is. Lengths and ENTRIES are the layout's and not the record's, so that a part that is too long for them is none of 25's.
@@ -157,15 +161,26 @@ descriptionRoomy d = allRoomy (opening d 16)
 abbrev pub elementRoomy : Element → Bool
 elementRoomy e = allRoomy (fixed e)
 
--- whether a record's address is of the kind that its bus type has
-abbrev pub ofItsKind : Record → Bool
-ofItsKind (digital d) = ofItsBus (d .bus) (d .address)
-ofItsKind (analogue a) = true
-ofItsKind (fan f) = true
-ofItsKind (led l) = true
-ofItsKind (current c) = true
-ofItsKind (controller d bs) = ofItsBus (d .bus) (d .address)
-ofItsKind (tachometer d a b) = ofItsBus (d .bus) (d .address)
-ofItsKind (zone bytes) = true
-ofItsKind (string bytes) = true
-ofItsKind (rgb r) = true
+-- What leaves no trace in the bytes, and so is asked of a record that stands there: its address is of the kind that its bus type
+-- has, its pins are of the named chip, and what FFh stands for is unused.
+abbrev pub chosen : Chip → Address → Bool
+chosen c (Bus a) = true
+chosen c (Select p) = ofChip c p
+
+abbrev pub ofItsDevice : Chip → ℕ → Address → Bool
+ofItsDevice c bus a = ofItsBus bus a && chosen c a
+
+abbrev pub ofItsKind : Chip → Record → Bool
+ofItsKind c (digital d) = ofItsDevice c (d .bus) (d .address)
+ofItsKind c (analogue a) = ofChip c (a .pin)
+ofItsKind c (fan f) = ofChip c (f .pwm) && standing c (f .tachometer)
+ofItsKind c (led l) = standing c (l .one .pin) && (standing c (l .two .pin) && standing c (l .three .pin))
+ofItsKind c (current x) = ofChip c (x .pin)
+ofItsKind c (controller d bs) = ofItsDevice c (d .bus) (d .address)
+ofItsKind c (tachometer d a b) = ofItsDevice c (d .bus) (d .address)
+ofItsKind c (zone bytes) = true
+ofItsKind c (string bytes) = true
+ofItsKind c (rgb r) = ofChip c (r .red) && (ofChip c (r .green) && ofChip c (r .blue))
+
+abbrev pub descriptionKind : Chip → Description → Bool
+descriptionKind c d = standing c (d .revision0) && (standing c (d .revision1) && standing c (d .revision2))

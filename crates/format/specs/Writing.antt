@@ -13,6 +13,8 @@ use Rattle.format.specs.Rules.{firstBroken, ownRules, descriptionRoomy, 
 use Rattle.format.specs.Table.{descriptionBreaks}
 use Rattle.format.specs.Verdict.{stated}
 use Rattle.format.specs.Decode.{bind, whenNil, cutBlocks, cutTwo}
+use Rattle.format.specs.declared.pins.Chip.{Chip}
+use Rattle.format.specs.declared.settings.Settings.{Settings}
 use Rattle.format.specs.declared.records.Description.{Description}
 use Rattle.format.specs.declared.records.Element.{Element}
 use Rattle.format.specs.declared.records.Element.the-variants.{Digital, Analogue, Fan, Led, Current, Controller, Tachometer, Zone, Text, Rgb}
@@ -33,12 +35,12 @@ assemble Text p = some (string p)
 assemble (Rgb r) p = whenNil p (rgb r)
 
 -- the first of 8, 9 and 10 that an element with its part breaks
-abbrev pub assembledBreaks : Option Record → Option ℕ
-assembledBreaks none = some 8
-assembledBreaks (some r) = firstBroken (ownRules r)
+abbrev pub assembledBreaks : Settings → Option Record → Option ℕ
+assembledBreaks s none = some 8
+assembledBreaks s (some r) = firstBroken (ownRules s r)
 
-unfoldable pub partBreaks : Element → List ℕ → Option ℕ
-partBreaks e p = assembledBreaks (assemble e p)
+unfoldable pub partBreaks : Settings → Element → List ℕ → Option ℕ
+partBreaks s e p = assembledBreaks s (assemble e p)
 
 -- the slots of an element with its part
 abbrev pub elementSlots : Element → List ℕ → List Slot
@@ -53,10 +55,14 @@ abbrev pub unlessBrokenAt : Option ℕ → ℕ → Written → Written
 unlessBrokenAt none p later = later
 unlessBrokenAt (some k) p later = Refused k p
 
+-- the writer's settings: the caller names the chip alone
+abbrev pub writing : Chip → Settings
+writing c = record { chip = c }
+
 -- start: 'checks 1, 25, 4, 5, 10; writes 16 bytes with length 16'
-unfoldable pub startAnswer : List ℕ → Description → Written
-startAnswer b d =
-    orRefused (leb 16 (length b)) 1 0 (orRefused (descriptionRoomy d) 25 0 (unlessBrokenAt (descriptionBreaks d) 0 (Length 16)))
+unfoldable pub startAnswer : Chip → List ℕ → Description → Written
+startAnswer c b d =
+    orRefused (leb 16 (length b)) 1 0 (orRefused (descriptionRoomy d) 25 0 (unlessBrokenAt (descriptionBreaks c d) 0 (Length 16)))
 
 -- append: '1; 3, when that length is under 16, over 4,096 or past the buffer; then 25, 8, 9, 10 on the record, where the length
 -- so far stands for "element" ..; then 16, when the new length would pass the buffer or 4,096'
@@ -69,12 +75,12 @@ lengthStands b = leb 16 (stated b) && (leb (stated b) 4096 && leb (stated b) (le
 abbrev pub hasRoom : List ℕ → ℕ → Bool
 hasRoom b n = leb n (length b) && leb n 4096
 
-unfoldable pub appendAnswer : List ℕ → Element → List ℕ → Written
-appendAnswer b e p =
+unfoldable pub appendAnswer : Chip → List ℕ → Element → List ℕ → Written
+appendAnswer c b e p =
     orRefused (leb 16 (length b)) 1 0
     (orRefused (lengthStands b) 3 0
     (orRefused (elementRoomy e) 25 0
-    (unlessBrokenAt (partBreaks e p) (stated b)
+    (unlessBrokenAt (partBreaks (writing c) e p) (stated b)
     (orRefused (hasRoom b (newLength b e p)) 16 0 (Length (newLength b e p))))))
 
 -- 'It changes bytes 1-2 and the new element's bytes only'; 'Every refusal returns number and place, and all lent bytes stay'

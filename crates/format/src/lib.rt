@@ -3,4 +3,5 @@
 pub mod answers;
 pub mod pins;
 pub mod records;
+pub mod settings;
 pub mod units;

@@ -14,6 +14,7 @@ use Rattle.format.specs.Slots.{byte}
 use Rattle.format.specs.Records.{Record, controller, tachometer}
 use Rattle.format.specs.Rules.{ownRules, pinned}
 use Rattle.format.specs.Decode.{decode, guard, bind, readDevice, cutBlocks, cutTwo}
+use Rattle.format.specs.declared.settings.Settings.{Settings}
 use Rattle.format.specs.declared.records.BusDevice.{BusDevice}
 use Rattle.format.proofs.Kept.{own-numbered, zero-none, own-kept}
 use Rattle.rules.specs.Broken.{DeviceBreaks}
@@ -26,36 +27,36 @@ use Rattle.found.specs.Judged.{ownFault, Judged, ClaimsOf, BusClaims, De
 use Rattle.found.specs.declared.Found.{Found}
 
 -- a record that breaks no rule by itself keeps 10
-own-pinned : (x : Record) → ownFault (some x) ≡ 0 → pinned x ≡ true
-own-pinned x h = own-kept x (zero-none (ownRules x) (own-numbered x) h) .pins-10
+own-pinned : (s : Settings) (x : Record) → ownFault s (some x) ≡ 0 → pinned (s .chip) x ≡ true
+own-pinned s x h = own-kept s x (zero-none (ownRules s x) (own-numbered s x) h) .pins-10
 
-module _ (id : ℕ) (c : List ℕ) (r : Found) where
+module _ (s : Settings) (id : ℕ) (c : List ℕ) (r : Found) where
   -- no record is there
-  pub none-there : decode id c ≡ none → r .fault ≡ 8 → Judged id c r
+  pub none-there : decode (s .chip) id c ≡ none → r .fault ≡ 8 → Judged s id c r
   none-there d p =
-      record { right = p ∙ sym (ap ownFault d); long = λ e. absurd (omega (arith, p, e)); claimed = λ e. absurd (omega (arith, p, e)) }
+      record { right = p ∙ sym (ap (ownFault s) d); long = λ e. absurd (omega (arith, p, e)); claimed = λ e. absurd (omega (arith, p, e)) }
 
   -- a record is there: its fault is found, and where it has none its claims are made
   judged :
       (x : Record)
-      → decode id c ≡ some x
+      → decode (s .chip) id c ≡ some x
       → 5 ≤ length c
-      → r .fault ≡ ownFault (some x)
+      → r .fault ≡ ownFault s (some x)
       → (r .fault ≡ 0 → ClaimsOf x (r .claims))
-      → Judged id c r
+      → Judged s id c r
   judged x d l p f =
       record {
-        right = p ∙ sym (ap ownFault d);
+        right = p ∙ sym (ap (ownFault s) d);
         long = λ n. l;
         claimed =
             λ n z w.
             let v : x ≡ z = cc in
-            subst (λ (z : Record). ClaimsOf z (r .claims)) v (f n) (own-pinned z (rw v at (sym p ∙ n)));
+            subst (λ (z : Record). ClaimsOf z (r .claims)) v (f n) (s .chip) (own-pinned s z (rw v at (sym p ∙ n)));
       }
 
   -- a kind of a fixed length
-  module _ {X : Type 0} (kind : X → Record) (read : (ℕ → ℕ) → X) (n : ℕ) (d : decode id c ≡ guard (eqb (length c) n) (some (kind (read (byte c))))) where
-    pub wrong-length : (length c ≡ n → ⊥) → r .fault ≡ 8 → Judged id c r
+  module _ {X : Type 0} (kind : X → Record) (read : (ℕ → ℕ) → X) (n : ℕ) (d : decode (s .chip) id c ≡ guard (eqb (length c) n) (some (kind (read (byte c))))) where
+    pub wrong-length : (length c ≡ n → ⊥) → r .fault ≡ 8 → Judged s id c r
     wrong-length h p = none-there (d ∙ rw (ne-eqb (length c) n h) refl) p
 
     pub right-length :
@@ -63,27 +64,27 @@ module _ (id : ℕ) (c : List ℕ) (r : Found) where
         → length c ≡ n
         → leb 5 n ≡ true
         → x ≡ read (byte c)
-        → fault ≡ ownFault (some (kind x))
+        → fault ≡ ownFault s (some (kind x))
         → ClaimsOf (kind x) claims
         → (r .fault ≡ fault) × (r .claims ≡ claims)
-        → Judged id c r
+        → Judged s id c r
     right-length x l m e p f q =
         judged (kind x) (d ∙ rw (eq-eqb (length c) n l, ← e) refl) (omega (arith, leb-true 5 n m)) (q .0 ∙ p) (λ z. rw (q .1) f)
 
   -- a device on a bus, by its fixed bytes and what its part says
   device-judged :
       {A : Type 0} (kind : A → Record) (o : Option A)
-      → decode id c ≡ bind o (λ a. some (kind a))
+      → decode (s .chip) id c ≡ bind o (λ a. some (kind a))
       → 5 ≤ length c
-      → r .fault ≡ ownFault (bind o (λ a. some (kind a)))
+      → r .fault ≡ ownFault s (bind o (λ a. some (kind a)))
       → (r .fault ≡ 0 → (a : A) → ClaimsOf (kind a) (r .claims))
-      → Judged id c r
+      → Judged s id c r
   device-judged kind none d l p f = none-there d p
   device-judged kind (some a) d l p f = judged (kind a) d l p (λ n. f n a)
 
 -- what is found of a device: 8 by its part, or what its fixed fields say
-module _ (d : BusDevice) (part : Part) (r : Found) where
-  pub found-8 : part .whole ≡ false → r .fault ≡ 8 → DeviceFound d part r
+module _ (s : Settings) (d : BusDevice) (part : Part) (r : Found) where
+  pub found-8 : part .whole ≡ false → r .fault ≡ 8 → DeviceFound s d part r
   found-8 w p =
       record {
         misshapen = λ _. p;
@@ -95,10 +96,10 @@ module _ (d : BusDevice) (part : Part) (r : Found) where
       (e : BusDevice) {fault : ℕ} {claims : Claims}
       → part .whole ≡ true
       → e ≡ d
-      → DeviceBreaks e (part .full) fault
+      → DeviceBreaks s e (part .full) fault
       → BusClaims (e .address) claims
       → (r .fault ≡ fault) × (r .claims ≡ claims)
-      → DeviceFound d part r
+      → DeviceFound s d part r
   found-whole e w q b f p =
       record {
         misshapen = λ v. absurd (false≢true (sym v ∙ w));
@@ -110,29 +111,29 @@ module _ (d : BusDevice) (part : Part) (r : Found) where
 pub rest : (n : ℕ) (b : List ℕ) → take (length b - n) (drop n b) ≡ drop n b
 rest n b = take-all (length b - n) (drop n b) (omega (arith, length-drop n b))
 
-module _ (c : List ℕ) (r : Found) where
+module _ (s : Settings) (c : List ℕ) (r : Found) where
   -- with no room for the fixed bytes no record is there
-  pub controller-short : length c < 8 → r .fault ≡ 8 → Judged 9 c r
+  pub controller-short : length c < 8 → r .fault ≡ 8 → Judged s 9 c r
   unfolding decode
-  controller-short h p = none-there 9 c r (simp (lt-leb 8 (length c) h)) p
+  controller-short h p = none-there s 9 c r (simp (lt-leb 8 (length c) h)) p
 
-  pub tachometer-short : length c < 9 → r .fault ≡ 8 → Judged 10 c r
+  pub tachometer-short : length c < 9 → r .fault ≡ 8 → Judged s 10 c r
   unfolding decode
-  tachometer-short h p = none-there 10 c r (simp (lt-leb 9 (length c) h)) p
+  tachometer-short h p = none-there s 10 c r (simp (lt-leb 9 (length c) h)) p
 
-  module _ (part : Part) (f : DeviceFound (readDevice (byte c)) part r) where
+  module _ (part : Part) (f : DeviceFound s (readDevice (s .chip) (byte c)) part r) where
     -- 09h
-    pub controller-judged : 8 ≤ length c → SpeedPart (drop 8 c) part → Judged 9 c r
+    pub controller-judged : 8 ≤ length c → SpeedPart (drop 8 c) part → Judged s 9 c r
     unfolding decode
-    controller-judged h s =
-        device-judged 9 c r (λ l. controller (readDevice (byte c)) l) (cutBlocks (length c) (drop 8 c)) (simp (le-leb 8 (length c) h)) (omega arith)
-        (speed-fault part (r .fault) (f .misshapen) (readDevice (byte c)) (cutBlocks (length c) (drop 8 c)) (s (length c) (omega (arith, length-drop 8 c))) (λ w. f .breaks w .of-controller))
+    controller-judged h q =
+        device-judged s 9 c r (λ l. controller (readDevice (s .chip) (byte c)) l) (cutBlocks (length c) (drop 8 c)) (simp (le-leb 8 (length c) h)) (omega arith)
+        (speed-fault s part (r .fault) (f .misshapen) (readDevice (s .chip) (byte c)) (cutBlocks (length c) (drop 8 c)) (q (length c) (omega (arith, length-drop 8 c))) (λ w. f .breaks w .of-controller))
         (λ n l. f .claimed n)
 
     -- 0Ah
-    pub tachometer-judged : 9 ≤ length c → PairsPart 2 (drop 9 c) part → Judged 10 c r
+    pub tachometer-judged : 9 ≤ length c → PairsPart 2 (drop 9 c) part → Judged s 10 c r
     unfolding decode
-    tachometer-judged h s =
-        device-judged 10 c r (λ q. tachometer (readDevice (byte c)) (q .0) (q .1)) (cutTwo (drop 9 c)) (simp (le-leb 9 (length c) h)) (omega arith)
-        (pairs-fault part (r .fault) (f .misshapen) (λ q. tachometer (readDevice (byte c)) (q .0) (q .1)) (cutTwo (drop 9 c)) (s .0 ∙ two (drop 9 c)) (λ w q. f .breaks w .of-tachometer (q .0) (q .1) (s .1)))
+    tachometer-judged h e =
+        device-judged s 10 c r (λ q. tachometer (readDevice (s .chip) (byte c)) (q .0) (q .1)) (cutTwo (drop 9 c)) (simp (le-leb 9 (length c) h)) (omega arith)
+        (pairs-fault s part (r .fault) (f .misshapen) (λ q. tachometer (readDevice (s .chip) (byte c)) (q .0) (q .1)) (cutTwo (drop 9 c)) (e .0 ∙ two (drop 9 c)) (λ w q. f .breaks w .of-tachometer (q .0) (q .1) (e .1)))
         (λ n q. f .claimed n)

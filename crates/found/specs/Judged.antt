@@ -1,4 +1,4 @@
--- What is to be found of an element by itself.
+-- What is to be found of an element by itself, under the settings that the caller names.
 -- Assumes nothing.
 use Prim.Native.Nat.{ℕ, _≤_}
 use mathlib.Core.Path.{_≡_}
@@ -11,6 +11,8 @@ use Rattle.format.specs.Rules.{numbered, pinned, selected}
 use Rattle.format.specs.Claims.{claimsOf, onBus}
 use Rattle.format.specs.Decode.{decode}
 use Rattle.format.specs.Writing.{assembledBreaks}
+use Rattle.format.specs.declared.pins.Chip.{Chip}
+use Rattle.format.specs.declared.settings.Settings.{Settings}
 use Rattle.format.specs.declared.records.Address.{Address}
 use Rattle.format.specs.declared.records.BusDevice.{BusDevice}
 use Rattle.rules.specs.Broken.{DeviceBreaks}
@@ -20,25 +22,25 @@ use Rattle.blocks.specs.declared.Part.{Part}
 use Rattle.found.specs.declared.Found.{Found}
 
 -- the first of 8, 9 and 10 that it breaks, or 0
-abbrev pub ownFault : Option Record → ℕ
-ownFault o = numbered (assembledBreaks o)
+abbrev pub ownFault : Settings → Option Record → ℕ
+ownFault s o = numbered (assembledBreaks s o)
 
 -- of bytes after a header with this identifier: the fault, or room for the placement and the claims
-pub record Judged (id : ℕ) (c : List ℕ) (r : Found) : Type 0 where
-  pub right : r .fault ≡ ownFault (decode id c)
+pub record Judged (s : Settings) (id : ℕ) (c : List ℕ) (r : Found) : Type 0 where
+  pub right : r .fault ≡ ownFault s (decode (s .chip) id c)
   pub long : r .fault ≡ 0 → 5 ≤ length c
   pub claimed :
-      r .fault ≡ 0 → (x : Record) → decode id c ≡ some x → ClaimsAre (r .claims) (claimsOf x)
+      r .fault ≡ 0 → (x : Record) → decode (s .chip) id c ≡ some x → ClaimsAre (r .claims) (claimsOf x)
 
--- the claims of a record, and of a device on a bus, that keeps 10
+-- the claims of a record, and of a device on a bus, that keeps 10 on some chip
 abbrev pub ClaimsOf : Record → Claims → Type 0
-ClaimsOf x cs = pinned x ≡ true → ClaimsAre cs (claimsOf x)
+ClaimsOf x cs = (c : Chip) → pinned c x ≡ true → ClaimsAre cs (claimsOf x)
 
 abbrev pub BusClaims : Address → Claims → Type 0
-BusClaims a cs = selected a ≡ true → ClaimsAre cs (onBus a)
+BusClaims a cs = (c : Chip) → selected c a ≡ true → ClaimsAre cs (onBus a)
 
 -- of the fixed fields of 09h or 0Ah and of what its part says, without the part
-pub record DeviceFound (d : BusDevice) (part : Part) (r : Found) : Type 0 where
+pub record DeviceFound (s : Settings) (d : BusDevice) (part : Part) (r : Found) : Type 0 where
   pub misshapen : part .whole ≡ false → r .fault ≡ 8
-  pub breaks : part .whole ≡ true → DeviceBreaks d (part .full) (r .fault)
+  pub breaks : part .whole ≡ true → DeviceBreaks s d (part .full) (r .fault)
   pub claimed : r .fault ≡ 0 → BusClaims (d .address) (r .claims)

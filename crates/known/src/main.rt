@@ -2,6 +2,8 @@
 // with tabs; below the first, of whose listing document 01 has a line, that listing. Table A and fan F are written out as the
 // document has them, A with its length mended. tools/known holds what is printed to the second program.
 use format::answers::Answer;
+use format::pins::Chip;
+use format::settings::Settings;
 use libc::STDOUT_FILENO;
 use sending::send;
 
@@ -32,9 +34,16 @@ fn print_answer(number: u8, beside: usize) {
     io::write_all(STDOUT_FILENO, &[b'\n']);
 }
 
+// The known tables are those of the 320.
+fn larger() -> Settings {
+    Settings {
+        chip: Chip::C8051F320,
+    }
+}
+
 fn row(table: &[u8]) {
     print_table(table);
-    match reader::check(table) {
+    match reader::check(table, larger()) {
         Answer::Accepted(n) => print_answer(0, n),
         Answer::Refused(k, p) => print_answer(k, p),
     }
@@ -43,7 +52,7 @@ fn row(table: &[u8]) {
 fn row_and_listing(table: &[u8]) {
     row(table);
     let mut out = io::buffer();
-    let length = listing::list(table, &mut out);
+    let length = listing::list(table, &mut out, larger());
     send(length, &out);
 }
 

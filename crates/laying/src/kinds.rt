@@ -4,6 +4,7 @@ ghost use mathlib.Core.Bool.{true};
 ghost use Rattle.format.specs.Slots.{byteOf, halves, roomy, allRoomy, written};
 ghost use Rattle.format.specs.Layout.{address, fixed};
 ghost use Rattle.format.specs.declared.records.Element.the-variants.{Digital, Analogue, Fan, Led, Current, Controller, Tachometer, Rgb};
+use elements::byte_of;
 use format::records::Address;
 use format::records::AnalogueSensor;
 use format::records::BusDevice;
@@ -93,6 +94,8 @@ pub fn analogue(a: AnalogueSensor) -> [u8; 17]
 pub fn fan(f: PwmFan) -> [u8; 13]
     ensures { λ r. ⌜ r ≡ written (fixed (Fan f)) ⌝ }
 {
+    let t = f.tachometer;
+    let tachometer = byte_of(t);
     [
         f.placement.string,
         f.placement.x.0,
@@ -100,7 +103,7 @@ pub fn fan(f: PwmFan) -> [u8; 13]
         f.placement.z.0,
         f.placement.zone,
         f.pwm.0,
-        f.tachometer.0,
+        tachometer,
         f.ppr,
         (f.minrpm.0 % 256) as u8,
         (f.minrpm.0 / 256) as u8,
@@ -118,17 +121,20 @@ pub fn led(l: StatusLed) -> [u8; 11]
     let one = l.one;
     let two = l.two;
     let three = l.three;
+    let p = one.pin;
+    let q = two.pin;
+    let r = three.pin;
     [
         l.placement.string,
         l.placement.x.0,
         l.placement.y.0,
         l.placement.z.0,
         l.placement.zone,
-        one.pin.0,
+        byte_of(p),
         colour_byte(one),
-        two.pin.0,
+        byte_of(q),
         colour_byte(two),
-        three.pin.0,
+        byte_of(r),
         colour_byte(three),
     ]
 }

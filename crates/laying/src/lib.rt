@@ -115,6 +115,9 @@ fn description_bytes(d: Description) -> [u8; 16]
     ensures { λ r. ⌜ r ≡ written (opening d 16) ⌝ }
 {
     let power = flag_byte(d.spwr, d.power.0);
+    let a = d.revision0;
+    let b = d.revision1;
+    let c = d.revision2;
     [
         1,
         16,
@@ -125,9 +128,9 @@ fn description_bytes(d: Description) -> [u8; 16]
         (d.serial / 256 % 256) as u8,
         (d.serial / 65536) as u8,
         power,
-        d.revision0.0,
-        d.revision1.0,
-        d.revision2.0,
+        elements::byte_of(a),
+        elements::byte_of(b),
+        elements::byte_of(c),
         RESERVED,
         RESERVED,
         RESERVED,

@@ -10,15 +10,16 @@ use Rattle.format.proofs.Asking.{never-both}
 use Rattle.format.proofs.Demand3.{unique, only-one-list}
 use Rattle.spelling.specs.Spelling.{Put}
 use Rattle.listing.specs.Lines.{Listing, listed, refused, Listed}
+use Rattle.format.specs.declared.settings.Settings.{Settings}
 
-pub only-text : (b s t : List ℕ) → Bytes b → Listing b s → Listing b t → s ≡ t
-only-text b s t small (listed d rs a) (listed d′ rs′ a′) =
-    let same = only-one-list b d d′ rs rs′ small a a′ in
+pub only-text : (σ : Settings) (b s t : List ℕ) → Bytes b → Listing σ b s → Listing σ b t → s ≡ t
+only-text σ b s t small (listed d rs a) (listed d′ rs′ a′) =
+    let same = only-one-list σ b d d′ rs rs′ small a a′ in
     cc
-only-text b s t small (listed d rs a) (refused v) = absurd (never-both b d rs small a v)
-only-text b s t small (refused v) (listed d rs a) = absurd (never-both b d rs small a v)
-only-text b s t small (refused {k = k} {p = p} v) (refused {k = k′} {p = p′} v′) =
-    let q = unique b (Refused k p) (Refused k′ p′) small v v′ in
+only-text σ b s t small (listed d rs a) (refused v) = absurd (never-both σ b d rs small a v)
+only-text σ b s t small (refused v) (listed d rs a) = absurd (never-both σ b d rs small a v)
+only-text σ b s t small (refused {k = k} {p = p} v) (refused {k = k′} {p = p′} v′) =
+    let q = unique σ b (Refused k p) (Refused k′ p′) small v v′ in
     cc
 
 put-one-way : (c s : List ℕ) (n n′ : ℕ) (after after′ : List ℕ) → Put c 0 s n after → Put c 0 s n′ after′ → (n ≡ n′) × (after ≡ after′)
@@ -32,11 +33,11 @@ put-one-way c s n n′ after after′ p q =
     )
 
 pub only-list :
-    (b c : List ℕ) (n n′ : ℕ) (after after′ : List ℕ)
+    (σ : Settings) (b c : List ℕ) (n n′ : ℕ) (after after′ : List ℕ)
     → Bytes b
-    → Listed b c n after
-    → Listed b c n′ after′
+    → Listed σ b c n after
+    → Listed σ b c n′ after′
     → (n ≡ n′) × (after ≡ after′)
-only-list b c n n′ after after′ small l m =
-    let same = only-text b (l .text) (m .text) small (l .is) (m .is) in
+only-list σ b c n n′ after after′ small l m =
+    let same = only-text σ b (l .text) (m .text) small (l .is) (m .is) in
     put-one-way c (m .text) n n′ after after′ (subst (λ (s : List ℕ). Put c 0 s n after) same (l .put)) (m .put)

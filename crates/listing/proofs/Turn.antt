@@ -20,6 +20,8 @@ use Rattle.walking.proofs.Left.{reads, begin, next, onward, ended}
 use Rattle.spelling.specs.Spelling.{Put}
 use Rattle.spelling.proofs.Putting.{then, put-none}
 use Rattle.listing.specs.Lines.{tableLine, elementLine, elementLines, refusedLine, Listed, listed, refused}
+use Rattle.format.specs.declared.pins.Chip.{Chip}
+use Rattle.format.specs.declared.settings.Settings.{Settings}
 
 -- the line of an element behind those of the elements before it
 abbrev lineAt : ℕ → Record → List ℕ
@@ -41,21 +43,21 @@ pub record Lined (c : List ℕ) (from end : ℕ) (out : List ℕ) (done left : L
   pub put : Put c from (elementLines 16 done) end out
   pub bound : end ≤ from + 38 * length done
 
-pub refusal : (b c : List ℕ) {k p n : ℕ} (after : List ℕ) → Verdict b (Refused k p) → Put c 0 (refusedLine k p) n after → Listed b c n after
-refusal b c {k} {p} after v put = record { text = refusedLine k p; is = refused v; put = put }
+pub refusal : (σ : Settings) (b c : List ℕ) {k p n : ℕ} (after : List ℕ) → Verdict σ b (Refused k p) → Put c 0 (refusedLine k p) n after → Listed σ b c n after
+refusal σ b c {k} {p} after v put = record { text = refusedLine k p; is = refused v; put = put }
 
-pub begun : (b c : List ℕ) (from : ℕ) {n : ℕ} → Verdict b (Accepted n) → Walk b 16 (Lined c from from c)
-begun b c from v = begin b (Lined c from from c) v (λ rs e. record { put = put-none c from; bound = omega arith })
+pub begun : (σ : Settings) (b c : List ℕ) (from : ℕ) {n : ℕ} → Verdict σ b (Accepted n) → Walk σ b 16 (Lined c from from c)
+begun σ b c from v = begin σ b (Lined c from from c) v (λ rs e. record { put = put-none c from; bound = omega arith })
 
-module _ (b c : List ℕ) (from at end : ℕ) (out : List ℕ) (w : Walk b at (Lined c from end out)) where
+module _ (σ : Settings) (b c : List ℕ) (from at end : ℕ) (out : List ℕ) (w : Walk σ b at (Lined c from end out)) where
   -- there is room for a line
   pub room : at < length b → from ≤ 67 → end + 38 ≤ 4096
   room h short =
-      let g = next b at (Lined c from end out) w h in
+      let g = next σ b at (Lined c from end out) w h in
       omega (
         arith,
         w .state .bound,
-        at-most-96 [] (w .done ++ w .left) (omega arith) (w .accepts .keeps .passed),
+        at-most-96 σ [] (w .done ++ w .left) (omega arith) (w .accepts .keeps .passed),
         length-append (w .done) (w .left),
         ap length (g .same),
       )
@@ -64,15 +66,15 @@ module _ (b c : List ℕ) (from at end : ℕ) (out : List ℕ) (w : Walk b at (L
       {n end′ : ℕ} (e : Element) (p after : List ℕ)
       → at < length b
       → n ≡ stated (drop at b)
-      → ((x : Record) → Here b at x → e ≡ elementOf x)
-      → ((x : Record) → Here b at x → p ≡ written (part x))
+      → ((x : Record) → Here (σ .chip) b at x → e ≡ elementOf x)
+      → ((k : Chip) (x : Record) → Here k b at x → p ≡ written (part x))
       → Put out end (elementLine at e p) end′ after × (end′ ≤ end + 38)
-      → Walk b (at + n) (Lined c from end′ after)
+      → Walk σ b (at + n) (Lined c from end′ after)
   turned {end′ = end′} e p after h l es ps put =
-      onward b at (Lined c from end out) w (Lined c from end′ after) h l (λ g.
+      onward σ b at (Lined c from end out) w (Lined c from end′ after) h l (λ g.
       let line : elementLine at e p ≡ lineAt (16 + length (layouts (w .done))) (g .r) =
       ap (λ (x : Element). elementLine at x p) (es (g .r) (g .here))
-      ∙ ap (λ (l : List ℕ). elementLine at (elementOf (g .r)) l) (ps (g .r) (g .here))
+      ∙ ap (λ (l : List ℕ). elementLine at (elementOf (g .r)) l) (ps (σ .chip) (g .r) (g .here))
       ∙ ap (λ (m : ℕ). lineAt m (g .r)) (w .place) in
       let text : elementLines 16 (w .done) ++ elementLine at e p ≡ elementLines 16 (w .done ++ g .r ∷ []) =
       ap (λ (l : List ℕ). elementLines 16 (w .done) ++ l) line ∙ sym (lines-snoc 16 (w .done) (g .r)) in
@@ -84,12 +86,12 @@ module _ (b c : List ℕ) (from at end : ℕ) (out : List ℕ) (w : Walk b at (L
   pub whole :
       (c₀ : List ℕ) (d : Description)
       → length b ≤ at
-      → d ≡ readDescription (byte b)
+      → d ≡ readDescription (σ .chip) (byte b)
       → Put c₀ 0 (tableLine (length b) d) from c
-      → Listed b c₀ end out
+      → Listed σ b c₀ end out
   whole c₀ d h e put =
-      let z = ended b at (Lined c from end out) w h in
-      let same = e ∙ sym (reads b (z .d) (z .rs) (z .accepts) .1) in
+      let z = ended σ b at (Lined c from end out) w h in
+      let same = e ∙ sym (reads σ b (z .d) (z .rs) (z .accepts) .1) in
       record {
         text = tableLine (length b) (z .d) ++ elementLines 16 (z .rs);
         is = listed (z .d) (z .rs) (z .accepts);

@@ -7,7 +7,7 @@ use lib.ListN.{length}
 use lib.Dec.{eqb}
 use Rattle.format.specs.Slots.{written}
 use Rattle.format.specs.Records.{Record, elementOf}
-use Rattle.format.specs.Layout.{idOf, part, layout}
+use Rattle.format.specs.Layout.{optionalByte, idOf, part, layout}
 use Rattle.format.specs.Verdict.{Accepts, Verdict}
 use Rattle.format.specs.declared.records.Description.{Description}
 use Rattle.format.specs.declared.records.Element.{Element}
@@ -15,6 +15,7 @@ use Rattle.format.specs.declared.answers.Answer.the-variants.{Refused}
 use Rattle.spelling.specs.Spelling.{decimal, hexPair, dash, pinOrDash, joined, used, Put}
 use Rattle.elements.specs.Own.{ownPins, zoneOf}
 use Rattle.elements.specs.declared.OwnPins.{OwnPins}
+use Rattle.format.specs.declared.settings.Settings.{Settings}
 
 -- fields parted by tabs, and one line feed at the end
 abbrev pub line : List (List ℕ) → List ℕ
@@ -28,7 +29,7 @@ supply d = cond (d .spwr) (115 ∷ 101 ∷ 108 ∷ 102 ∷ []) (decimal (4 * d .
 
 -- '.. three hardware pins or `-`'
 abbrev pub hardwarePins : Description → List (List ℕ)
-hardwarePins d = pinOrDash (d .revision0 .0) ∷ pinOrDash (d .revision1 .0) ∷ pinOrDash (d .revision2 .0) ∷ []
+hardwarePins d = pinOrDash (optionalByte (d .revision0)) ∷ pinOrDash (optionalByte (d .revision1)) ∷ pinOrDash (optionalByte (d .revision2)) ∷ []
 
 -- the fields after the type
 abbrev pub afterType : Description → List (List ℕ)
@@ -60,13 +61,13 @@ elementLines at [] = []
 elementLines at (r ∷ rs) =
     elementLine at (elementOf r) (written (part r)) ++ elementLines (at + length (layout r)) rs
 
--- the text that a table's bytes are to be given
-pub data Listing (b : List ℕ) : List ℕ → Type 0 where
-  listed : (d : Description) (rs : List Record) → Accepts b d rs → Listing b (tableLine (length b) d ++ elementLines 16 rs)
-  refused : {k p : ℕ} → Verdict b (Refused k p) → Listing b (refusedLine k p)
+-- the text that a table's bytes are to be given, under settings σ; it names no chip
+pub data Listing (σ : Settings) (b : List ℕ) : List ℕ → Type 0 where
+  listed : (d : Description) (rs : List Record) → Accepts σ b d rs → Listing σ b (tableLine (length b) d ++ elementLines 16 rs)
+  refused : {k p : ℕ} → Verdict σ b (Refused k p) → Listing σ b (refusedLine k p)
 
 -- that text at the front of the lent buffer, and how long it is; the rest of the buffer is as it was
-pub record Listed (b c : List ℕ) (n : ℕ) (after : List ℕ) : Type 0 where
+pub record Listed (σ : Settings) (b c : List ℕ) (n : ℕ) (after : List ℕ) : Type 0 where
   pub text : List ℕ
-  pub is : Listing b text
+  pub is : Listing σ b text
   pub put : Put c 0 text n after

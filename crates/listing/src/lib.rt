@@ -6,11 +6,13 @@ ghost use lib.ListN.{length};
 ghost use Rattle.spelling.specs.Spelling.{Put, decimal, hexPair, pinOrDash};
 ghost use Rattle.listing.specs.Lines.{line, supply, hardwarePins, afterType, tableLine, pinsText, zoneText, elementLine, refusedLine, Listed};
 use elements::OwnPins;
+use elements::byte_of;
 use elements::id_of;
 use elements::shown;
 use format::answers::Answer;
 use format::records::Description;
 use format::records::Element;
+use format::settings::Settings;
 use format::units::FourMilliamps;
 use spelling::put;
 use spelling::put_decimal;
@@ -23,18 +25,20 @@ use walking::part_at;
 use words::wide;
 
 // Puts the listing of a table at the front of the buffer, and answers its length. No listing is longer than 3,715 bytes.
-pub fn list(table: &[u8], out: &mut [u8; 4096]) -> usize
-    ensures { λ r. ⌜ Listed (now (table .entry)) (now (out .entry)) r (now (out .exit)) ⌝ }
+pub fn list(table: &[u8], out: &mut [u8; 4096], settings: Settings) -> usize
+    ensures { λ r. ⌜ Listed settings (now (table .entry)) (now (out .entry)) r (now (out .exit)) ⌝ }
 {
-    let answer = reader::check(table);
+    let answer = reader::check(table, settings);
     let Answer::Accepted(_) = answer else {
         let r = reader::handed_on(answer);
         return put_refused(out, r.number, r.place);
     };
-    let mut end = put_table(out, table.len(), fields::description(table));
+    let chip = settings.chip;
+    let mut end = put_table(out, table.len(), fields::description(table, chip));
     let mut at: usize = 16;
     while at < table.len() {
-        let e = element_at(table, at);
+        let chip = settings.chip;
+        let e = element_at(table, at, chip);
         end = put_element(out, end, at, e, part_at(table, at));
         at += length_at(table, at);
     }
@@ -106,9 +110,12 @@ fn put_hardware(out: &mut [u8], at: usize, d: Description) -> usize
     requires { ⌜ at + 15 ≤ length (now out) ⌝ }
     ensures { λ r. ⌜ Put (now (out .entry)) at (line (hardwarePins d)) r (now (out .exit)) × (r ≤ at + 15) ⌝ }
 {
-    let a = put_pin(out, at, d.revision0.0, 9);
-    let b = put_pin(out, a, d.revision1.0, 9);
-    put_pin(out, b, d.revision2.0, 10)
+    let p = d.revision0;
+    let q = d.revision1;
+    let r = d.revision2;
+    let a = put_pin(out, at, byte_of(p), 9);
+    let b = put_pin(out, a, byte_of(q), 9);
+    put_pin(out, b, byte_of(r), 10)
 }
 
 // A pin or `-`, and what ends the field.

@@ -1,22 +1,34 @@
--- What was put into the numbers is read back from them: every element and every description, whatever its fields.
+-- What was put into the numbers is read back from them: every element and every description of the named chip, whatever its fields.
+-- Of its kind: FFh is an unused place, and all pins are of one chip.
 -- Assumes nothing.
 use Prim.Native.Nat.{ℕ, _+_, _*_, _/_, _%_}
 use native.Mathlib.Omega.{arith}
-use mathlib.Core.Path.{_≡_, refl}
-use mathlib.Core.Bool.{Bool, true, false, not}
+use mathlib.Core.Path.{_≡_, refl, sym, _∙_, ap}
+use mathlib.Core.Bool.{Bool, true, false, _&&_, not}
+use borrow.Author.Tests.{not-true}
 use mathlib.Core.List.{List}
 use lib.Dec.{eqb}
 use Rattle.format.specs.Slots.{bit}
-use Rattle.format.specs.Layout.{idOf}
-use Rattle.format.specs.Decode.{digitalOf, analogueOf, fanOf, currentOf, deviceOf, descriptionOf}
+use Rattle.format.specs.Records.{Record, digital, analogue, fan, led, current, controller, tachometer, zone, string, rgb, elementOf}
+use Rattle.format.specs.Layout.{idOf, optionalByte}
+use Rattle.format.specs.Pins.{ofChip, standing}
+use Rattle.format.specs.Rules.{ofItsBus, chosen, ofItsKind, descriptionKind}
+use Rattle.format.specs.Decode.{pinOf, optionalOf, digitalOf, analogueOf, fanOf, lampOf, ledOf, currentOf, deviceOf, rgbOf, descriptionOf}
+use Rattle.format.specs.declared.pins.Chip.{Chip}
+use Rattle.format.specs.declared.pins.Chip.the-variants.{C8051F320, C8051F321}
+use Rattle.format.specs.declared.pins.Pin.{Pin}
+use Rattle.format.specs.declared.pins.OptionalPin.{OptionalPin}
+use Rattle.format.specs.declared.pins.OptionalPin.the-variants.{Unused, Used}
 use Rattle.format.specs.declared.records.Description.{Description}
 use Rattle.format.specs.declared.records.Address.{Address}
 use Rattle.format.specs.declared.records.Address.the-variants.{Bus, Select}
-use Rattle.format.specs.declared.records.Element.{Element}
-use Rattle.format.specs.declared.records.Element.the-variants.{Digital, Analogue, Fan, Led, Current, Controller, Tachometer, Zone, Text, Rgb}
+use Rattle.format.specs.declared.records.Lamp.{Lamp}
+use Rattle.format.specs.declared.records.Element.the-variants.{Digital, Analogue, Fan, Led, Current, Controller, Tachometer, Rgb}
+use Rattle.format.proofs.Kept.{and-true}
+use Rattle.format.proofs.EachKind.{pin-only}
 use Rattle.numbers.specs.declared.MaybeElement.the-variants.{Element as Found}
-use Rattle.numbers.specs.From.{addressFrom, elementFrom, descriptionFrom}
-use Rattle.numbers.specs.Into.{kindOf, addressOf, elementInto, descriptionInto}
+use Rattle.numbers.specs.From.{pickChip, addressFrom, elementFrom, descriptionFrom}
+use Rattle.numbers.specs.Into.{chipNumber, kindOf, addressOf, elementInto, descriptionInto}
 
 -- the number in the bytes that it was put into
 two : (v : ℕ) → v % 256 + 256 * (v / 256) ≡ v
@@ -25,29 +37,70 @@ two v = omega arith
 four : (v : ℕ) → v % 256 + 256 * (v / 256 % 256) + 65536 * (v / 65536 % 256) + 16777216 * (v / 16777216) ≡ v
 four v = omega arith
 
-back : (a : Address) → addressFrom (eqb (kindOf a) 0) (addressOf a) ≡ a
-back (Bus a) = refl
-back (Select p) = refl
-
 flag : (t : Bool) → not (eqb (bit t) 0) ≡ t
 flag true = refl
 flag false = refl
 
-pub from-into : (e : Element) (p : List ℕ) → elementFrom (idOf e) (elementInto e p) ≡ Found e
-from-into (Digital d) p =
-    λ i. Found (Digital (digitalOf (d .placement) (d .bus) (back (d .address) i) (two (d .lsb) i) (two (d .msb) i) (two (d .minvalue) i) (d .mintemp .0) (two (d .maxvalue) i) (d .maxtemp .0)))
-from-into (Analogue a) p =
-    λ i. Found (Analogue (analogueOf (a .placement) (a .thermal) (a .pin .0) (two (a .at0 .0) i) (two (a .at25 .0) i) (two (a .at50 .0) i) (two (a .at75 .0) i) (two (a .at100 .0) i)))
-from-into (Fan f) p =
-    λ i. Found (Fan (fanOf (f .placement) (f .pwm .0) (f .tachometer .0) (f .ppr) (two (f .minrpm .0) i) (two (f .maxrpm .0) i) (f .duty)))
-from-into (Led l) p = refl
-from-into (Current c) p = λ i. Found (Current (currentOf (c .placement) (c .pin .0) (two (c .imin .0) i) (two (c .imax .0) i)))
-from-into (Controller d) p = λ i. Found (Controller (deviceOf (d .placement) (d .bus) (back (d .address) i)))
-from-into (Tachometer d) p = λ i. Found (Tachometer (deviceOf (d .placement) (d .bus) (back (d .address) i)))
-from-into Zone p = refl
-from-into Text p = refl
-from-into (Rgb r) p = refl
+-- the chip in byte 31, and what carries it
+abbrev named : Chip → Chip
+named c = pickChip (eqb (chipNumber c) 0)
 
-pub description-from-into : (d : Description) → descriptionFrom (descriptionInto d) ≡ d
-description-from-into d =
-    λ i. descriptionOf (d .device) (d .string) (four (d .serial) i) (flag (d .spwr) i) (d .power .0) (d .revision0 .0) (d .revision1 .0) (d .revision2 .0)
+chip-back : (c : Chip) → named c ≡ c
+chip-back C8051F320 = refl
+chip-back C8051F321 = refl
+
+module _ (c : Chip) where
+  pin-back : (p : Pin) → ofChip c p ≡ true → pinOf (named c) (p .0) ≡ p
+  pin-back p h = ap (λ (k : Chip). pinOf k (p .0)) (chip-back c) ∙ sym (pin-only c (p .0) p refl h)
+
+  optional-back : (p : OptionalPin) → standing c p ≡ true → optionalOf (named c) (optionalByte p) ≡ p
+  optional-back Unused h = refl
+  optional-back (Used p) h =
+      let q = and-true (ofChip c p) (not (eqb (p .0) 0xff)) h in
+      rw (not-true (eqb (p .0) 0xff) (q .1)) (ap Used (pin-back p (q .0)))
+
+  back : (a : Address) → chosen c a ≡ true → addressFrom (named c) (eqb (kindOf a) 0) (addressOf a) ≡ a
+  back (Bus a) h = refl
+  back (Select p) h = ap Select (pin-back p h)
+
+  address-back :
+      (bus : ℕ) (a : Address) → ofItsBus bus a && chosen c a ≡ true → addressFrom (named c) (eqb (kindOf a) 0) (addressOf a) ≡ a
+  address-back bus a h = back a (and-true (ofItsBus bus a) (chosen c a) h .1)
+
+  lamp-back : (l : Lamp) → standing c (l .pin) ≡ true → lampOf (optionalOf (named c) (optionalByte (l .pin))) (l .colour) (l .purpose) ≡ l
+  lamp-back l h = ap (λ (p : OptionalPin). lampOf p (l .colour) (l .purpose)) (optional-back (l .pin) h)
+
+  pub from-into :
+      (x : Record) (p : List ℕ)
+      → ofItsKind c x ≡ true
+      → elementFrom (idOf (elementOf x)) (elementInto c (elementOf x) p) ≡ Found (elementOf x)
+  from-into (digital d) p h =
+      λ i. Found (Digital (digitalOf (d .placement) (d .bus) (address-back (d .bus) (d .address) h i) (two (d .lsb) i) (two (d .msb) i) (two (d .minvalue) i) (d .mintemp .0) (two (d .maxvalue) i) (d .maxtemp .0)))
+  from-into (analogue a) p h =
+      λ i. Found (Analogue (analogueOf (a .placement) (a .thermal) (pin-back (a .pin) h i) (two (a .at0 .0) i) (two (a .at25 .0) i) (two (a .at50 .0) i) (two (a .at75 .0) i) (two (a .at100 .0) i)))
+  from-into (fan f) p h =
+      let q = and-true (ofChip c (f .pwm)) (standing c (f .tachometer)) h in
+      λ i. Found (Fan (fanOf (f .placement) (pin-back (f .pwm) (q .0) i) (optional-back (f .tachometer) (q .1) i) (f .ppr) (two (f .minrpm .0) i) (two (f .maxrpm .0) i) (f .duty)))
+  from-into (led l) p h =
+      let q = and-true (standing c (l .one .pin)) (standing c (l .two .pin) && standing c (l .three .pin)) h in
+      let r = and-true (standing c (l .two .pin)) (standing c (l .three .pin)) (q .1) in
+      λ i. Found (Led (ledOf (l .placement) (lamp-back (l .one) (q .0) i) (lamp-back (l .two) (r .0) i) (lamp-back (l .three) (r .1) i)))
+  from-into (current x) p h =
+      λ i. Found (Current (currentOf (x .placement) (pin-back (x .pin) h i) (two (x .imin .0) i) (two (x .imax .0) i)))
+  from-into (controller d bs) p h =
+      λ i. Found (Controller (deviceOf (d .placement) (d .bus) (address-back (d .bus) (d .address) h i)))
+  from-into (tachometer d a b) p h =
+      λ i. Found (Tachometer (deviceOf (d .placement) (d .bus) (address-back (d .bus) (d .address) h i)))
+  from-into (zone bytes) p h = refl
+  from-into (string bytes) p h = refl
+  from-into (rgb r) p h =
+      let q = and-true (ofChip c (r .red)) (ofChip c (r .green) && ofChip c (r .blue)) h in
+      let t = and-true (ofChip c (r .green)) (ofChip c (r .blue)) (q .1) in
+      λ i. Found (Rgb (rgbOf (r .placement) (pin-back (r .red) (q .0) i) (pin-back (r .green) (t .0) i) (pin-back (r .blue) (t .1) i)))
+
+  pub description-from-into : (d : Description) → descriptionKind c d ≡ true → descriptionFrom (descriptionInto c d) ≡ d
+  description-from-into d h =
+      let q = and-true (standing c (d .revision0)) (standing c (d .revision1) && standing c (d .revision2)) h in
+      let r = and-true (standing c (d .revision1)) (standing c (d .revision2)) (q .1) in
+      λ i.
+      descriptionOf (d .device) (d .string) (four (d .serial) i) (flag (d .spwr) i) (d .power .0) (optional-back (d .revision0) (q .0) i) (optional-back (d .revision1) (r .0) i) (optional-back (d .revision2) (r .1) i)

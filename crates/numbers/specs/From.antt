@@ -5,7 +5,9 @@ use mathlib.Core.Bool.{Bool, true, false, not}
 use mathlib.Core.List.{List}
 use lib.Dec.{eqb}
 use Rattle.format.specs.Slots.{byte}
-use Rattle.format.specs.Decode.{digitalOf, analogueOf, lampOf, ledOf, currentOf, deviceOf, descriptionOf, wordAt, readPlacement, readFan, readRgb}
+use Rattle.format.specs.Decode.{pinOf, optionalOf, digitalOf, analogueOf, lampOf, ledOf, currentOf, deviceOf, descriptionOf, wordAt, readPlacement, readFan, readRgb}
+use Rattle.format.specs.declared.pins.Chip.{Chip}
+use Rattle.format.specs.declared.pins.Chip.the-variants.{C8051F320, C8051F321}
 use Rattle.format.specs.declared.records.Description.{Description}
 use Rattle.format.specs.declared.records.DigitalSensor.{DigitalSensor}
 use Rattle.format.specs.declared.records.AnalogueSensor.{AnalogueSensor}
@@ -20,40 +22,48 @@ use Rattle.words.specs.Widths.{longAt}
 use Rattle.numbers.specs.declared.MaybeElement.{MaybeElement}
 use Rattle.numbers.specs.declared.MaybeElement.the-variants.{Element as Found, Unknown}
 
+-- byte 31 names the chip of the record's pins: 0 the 320, any other number the 321
+abbrev pub pickChip : Bool → Chip
+pickChip true = C8051F320
+pickChip false = C8051F321
+
+abbrev pub chipFrom : (ℕ → ℕ) → Chip
+chipFrom f = pickChip (eqb (f 31) 0)
+
 -- kind 0: a bus address; any other: a chip select pin
-abbrev pub addressFrom : Bool → ℕ → Address
-addressFrom true a = Bus a
-addressFrom false a = Select (record { 0 = a })
+abbrev pub addressFrom : Chip → Bool → ℕ → Address
+addressFrom c true a = Bus a
+addressFrom c false a = Select (pinOf c a)
 
 -- the numbers of each kind, given byte by byte; 0-4 are its placement. Those of 03h and 0Eh are the bytes after the header, which
 -- `readFan` and `readRgb` of `format` read
-abbrev pub digitalFrom : (ℕ → ℕ) → DigitalSensor
-digitalFrom f =
-    digitalOf (readPlacement f) (f 5) (addressFrom (eqb (f 6) 0) (f 7)) (wordAt f 8) (wordAt f 10) (wordAt f 12) (f 14) (wordAt f 15) (f 17)
+abbrev pub digitalFrom : Chip → (ℕ → ℕ) → DigitalSensor
+digitalFrom c f =
+    digitalOf (readPlacement f) (f 5) (addressFrom c (eqb (f 6) 0) (f 7)) (wordAt f 8) (wordAt f 10) (wordAt f 12) (f 14) (wordAt f 15) (f 17)
 
-abbrev pub analogueFrom : (ℕ → ℕ) → AnalogueSensor
-analogueFrom f =
-    analogueOf (readPlacement f) (f 5) (f 6) (wordAt f 7) (wordAt f 9) (wordAt f 11) (wordAt f 13) (wordAt f 15)
+abbrev pub analogueFrom : Chip → (ℕ → ℕ) → AnalogueSensor
+analogueFrom c f =
+    analogueOf (readPlacement f) (f 5) (pinOf c (f 6)) (wordAt f 7) (wordAt f 9) (wordAt f 11) (wordAt f 13) (wordAt f 15)
 
-abbrev pub lampFrom : (ℕ → ℕ) → ℕ → Lamp
-lampFrom f i = lampOf (f i) (f (i + 1)) (f (i + 2))
+abbrev pub lampFrom : Chip → (ℕ → ℕ) → ℕ → Lamp
+lampFrom c f i = lampOf (optionalOf c (f i)) (f (i + 1)) (f (i + 2))
 
-abbrev pub ledFrom : (ℕ → ℕ) → StatusLed
-ledFrom f = ledOf (readPlacement f) (lampFrom f 5) (lampFrom f 8) (lampFrom f 11)
+abbrev pub ledFrom : Chip → (ℕ → ℕ) → StatusLed
+ledFrom c f = ledOf (readPlacement f) (lampFrom c f 5) (lampFrom c f 8) (lampFrom c f 11)
 
-abbrev pub currentFrom : (ℕ → ℕ) → CurrentSensor
-currentFrom f = currentOf (readPlacement f) (f 5) (wordAt f 6) (wordAt f 8)
+abbrev pub currentFrom : Chip → (ℕ → ℕ) → CurrentSensor
+currentFrom c f = currentOf (readPlacement f) (pinOf c (f 5)) (wordAt f 6) (wordAt f 8)
 
-abbrev pub deviceFrom : (ℕ → ℕ) → BusDevice
-deviceFrom f = deviceOf (readPlacement f) (f 5) (addressFrom (eqb (f 6) 0) (f 7))
+abbrev pub deviceFrom : Chip → (ℕ → ℕ) → BusDevice
+deviceFrom c f = deviceOf (readPlacement f) (f 5) (addressFrom c (eqb (f 6) 0) (f 7))
 
-abbrev pub describedFrom : (ℕ → ℕ) → Description
-describedFrom f =
-    descriptionOf (f 0) (f 1) (longAt f 2) (not (eqb (f 6) 0)) (f 7) (f 8) (f 9) (f 10)
+abbrev pub describedFrom : Chip → (ℕ → ℕ) → Description
+describedFrom c f =
+    descriptionOf (f 0) (f 1) (longAt f 2) (not (eqb (f 6) 0)) (f 7) (optionalOf c (f 8)) (optionalOf c (f 9)) (optionalOf c (f 10))
 
 -- the description in the numbers
 abbrev pub descriptionFrom : List ℕ → Description
-descriptionFrom n = describedFrom (byte n)
+descriptionFrom n = describedFrom (chipFrom (byte n)) (byte n)
 
 abbrev pub pick : Bool → MaybeElement → MaybeElement → MaybeElement
 pick true a b = a
@@ -62,13 +72,13 @@ pick false a b = b
 -- the element of an identifier in the numbers
 abbrev pub elementFrom : ℕ → List ℕ → MaybeElement
 elementFrom id n =
-    pick (eqb id 0x01) (Found (Digital (digitalFrom (byte n))))
-    (pick (eqb id 0x02) (Found (Analogue (analogueFrom (byte n))))
-    (pick (eqb id 0x03) (Found (Fan (readFan (byte n))))
-    (pick (eqb id 0x04) (Found (Led (ledFrom (byte n))))
-    (pick (eqb id 0x08) (Found (Current (currentFrom (byte n))))
-    (pick (eqb id 0x09) (Found (Controller (deviceFrom (byte n))))
-    (pick (eqb id 0x0a) (Found (Tachometer (deviceFrom (byte n))))
+    pick (eqb id 0x01) (Found (Digital (digitalFrom (chipFrom (byte n)) (byte n))))
+    (pick (eqb id 0x02) (Found (Analogue (analogueFrom (chipFrom (byte n)) (byte n))))
+    (pick (eqb id 0x03) (Found (Fan (readFan (chipFrom (byte n)) (byte n))))
+    (pick (eqb id 0x04) (Found (Led (ledFrom (chipFrom (byte n)) (byte n))))
+    (pick (eqb id 0x08) (Found (Current (currentFrom (chipFrom (byte n)) (byte n))))
+    (pick (eqb id 0x09) (Found (Controller (deviceFrom (chipFrom (byte n)) (byte n))))
+    (pick (eqb id 0x0a) (Found (Tachometer (deviceFrom (chipFrom (byte n)) (byte n))))
     (pick (eqb id 0x0b) (Found Zone)
     (pick (eqb id 0x0c) (Found Text)
-    (pick (eqb id 0x0e) (Found (Rgb (readRgb (byte n)))) Unknown)))))))))
+    (pick (eqb id 0x0e) (Found (Rgb (readRgb (chipFrom (byte n)) (byte n)))) Unknown)))))))))

@@ -5,6 +5,9 @@ use mathlib.Core.List.{List, [], _∷_, _++_}
 use lib.ListN.{length}
 use Rattle.format.specs.Slots.{bit}
 use Rattle.format.specs.Records.{zoneNumber, zoneString, stringNumber}
+use Rattle.format.specs.Layout.{optionalByte}
+use Rattle.format.specs.declared.pins.Chip.{Chip}
+use Rattle.format.specs.declared.pins.Chip.the-variants.{C8051F320, C8051F321}
 use Rattle.format.specs.declared.records.Description.{Description}
 use Rattle.format.specs.declared.records.Placement.{Placement}
 use Rattle.format.specs.declared.records.Lamp.{Lamp}
@@ -18,9 +21,14 @@ abbrev pub zeros : ℕ → List ℕ
 zeros zero = []
 zeros (suc n) = 0 ∷ zeros n
 
--- the numbers, and zeros behind them up to 32
-abbrev pub padded : List ℕ → List ℕ
-padded ns = ns ++ zeros (32 - length ns)
+-- the numbers, zeros behind them, and the last of the 32 bytes
+abbrev pub padded : List ℕ → ℕ → List ℕ
+padded ns last = ns ++ zeros (31 - length ns) ++ last ∷ []
+
+-- 31: the chip of the record's pins
+abbrev pub chipNumber : Chip → ℕ
+chipNumber C8051F320 = 0
+chipNumber C8051F321 = 1
 
 -- 0-4: string, x, y, z, zone
 abbrev pub placementNumbers : Placement → List ℕ
@@ -37,7 +45,7 @@ addressOf (Select p) = p .0
 
 -- pin, colour, purpose
 abbrev pub lampNumbers : Lamp → List ℕ
-lampNumbers l = l .pin .0 ∷ l .colour ∷ l .purpose ∷ []
+lampNumbers l = optionalByte (l .pin) ∷ l .colour ∷ l .purpose ∷ []
 
 -- of an element, beside its variable part
 abbrev pub elementNumbers : Element → List ℕ → List ℕ
@@ -68,7 +76,7 @@ elementNumbers (Analogue a) p =
 elementNumbers (Fan f) p =
     placementNumbers (f .placement)
     ++ f .pwm .0
-    ∷ f .tachometer .0
+    ∷ optionalByte (f .tachometer)
     ∷ f .ppr
     ∷ twoBytes (f .minrpm .0)
     ++ twoBytes (f .maxrpm .0)
@@ -100,14 +108,26 @@ descriptionNumbers d =
     ∷ fourBytes (d .serial)
     ++ bit (d .spwr)
     ∷ d .power .0
-    ∷ d .revision0 .0
-    ∷ d .revision1 .0
-    ∷ d .revision2 .0
+    ∷ optionalByte (d .revision0)
+    ∷ optionalByte (d .revision1)
+    ∷ optionalByte (d .revision2)
     ∷ []
 
--- the 32 bytes
-abbrev pub elementInto : Element → List ℕ → List ℕ
-elementInto e p = padded (elementNumbers e p)
+-- the 32 bytes; a zone descriptor and a string have no pins
+abbrev pub lastOf : Chip → Element → ℕ
+lastOf c (Digital d) = chipNumber c
+lastOf c (Analogue a) = chipNumber c
+lastOf c (Fan f) = chipNumber c
+lastOf c (Led l) = chipNumber c
+lastOf c (Current x) = chipNumber c
+lastOf c (Controller d) = chipNumber c
+lastOf c (Tachometer d) = chipNumber c
+lastOf c Zone = 0
+lastOf c Text = 0
+lastOf c (Rgb r) = chipNumber c
 
-abbrev pub descriptionInto : Description → List ℕ
-descriptionInto d = padded (descriptionNumbers d)
+abbrev pub elementInto : Chip → Element → List ℕ → List ℕ
+elementInto c e p = padded (elementNumbers e p) (lastOf c e)
+
+abbrev pub descriptionInto : Chip → Description → List ℕ
+descriptionInto c d = padded (descriptionNumbers d) (chipNumber c)

@@ -1,13 +1,14 @@
-// From the numbers to the record, one function a kind. The bytes that a kind does not use are not looked at. The numbers of 03h and
+// From the numbers to the record, one function a kind. Byte 31 names the chip of its pins; the bytes that a kind does not use are not looked at. The numbers of 03h and
 // 0Eh are laid out as the element's bytes after its header, so that `fields` reads them.
 ghost use mathlib.Core.Path.{_≡_};
 ghost use Prim.Native.Nat.{_<_};
 ghost use lib.Dec.{eqb};
 ghost use Rattle.format.specs.Slots.{byte};
-ghost use Rattle.numbers.specs.From.{addressFrom, digitalFrom, analogueFrom, lampFrom, ledFrom, currentFrom, deviceFrom, descriptionFrom, elementFrom};
+ghost use Rattle.numbers.specs.From.{chipFrom, addressFrom, digitalFrom, analogueFrom, lampFrom, ledFrom, currentFrom, deviceFrom, descriptionFrom, elementFrom};
 use crate::MaybeElement;
+use fields::optional;
 use fields::placement;
-use format::pins::OptionalPin;
+use format::pins::Chip;
 use format::pins::Pin;
 use format::records::Address;
 use format::records::AnalogueSensor;
@@ -28,44 +29,46 @@ use words::word;
 pub fn description(n: &[u8; 32]) -> Description
     ensures { λ r. ⌜ r ≡ descriptionFrom (now (n .entry)) ⌝ }
 {
+    let chip = chip_of(n);
     Description {
         device: n[0],
         string: n[1],
         serial: long(n, 2),
         spwr: n[6] != 0,
         power: FourMilliamps(n[7]),
-        revision0: OptionalPin(n[8]),
-        revision1: OptionalPin(n[9]),
-        revision2: OptionalPin(n[10]),
+        revision0: optional(n[8], chip),
+        revision1: optional(n[9], chip),
+        revision2: optional(n[10], chip),
     }
 }
 
 pub fn element(id: u8, n: &[u8; 32]) -> MaybeElement
     ensures { λ r. ⌜ r ≡ elementFrom id (now (n .entry)) ⌝ }
 {
+    let chip = chip_of(n);
     match id {
-        1 => MaybeElement::Element(Element::Digital(digital(n))),
-        2 => MaybeElement::Element(Element::Analogue(analogue(n))),
-        3 => MaybeElement::Element(Element::Fan(fields::fan(n))),
-        4 => MaybeElement::Element(Element::Led(led(n))),
-        8 => MaybeElement::Element(Element::Current(current(n))),
-        9 => MaybeElement::Element(Element::Controller(device(n))),
-        10 => MaybeElement::Element(Element::Tachometer(device(n))),
+        1 => MaybeElement::Element(Element::Digital(digital(n, chip))),
+        2 => MaybeElement::Element(Element::Analogue(analogue(n, chip))),
+        3 => MaybeElement::Element(Element::Fan(fields::fan(n, chip))),
+        4 => MaybeElement::Element(Element::Led(led(n, chip))),
+        8 => MaybeElement::Element(Element::Current(current(n, chip))),
+        9 => MaybeElement::Element(Element::Controller(device(n, chip))),
+        10 => MaybeElement::Element(Element::Tachometer(device(n, chip))),
         11 => MaybeElement::Element(Element::Zone),
         12 => MaybeElement::Element(Element::Text),
-        14 => MaybeElement::Element(Element::Rgb(fields::rgb(n))),
+        14 => MaybeElement::Element(Element::Rgb(fields::rgb(n, chip))),
         _ => MaybeElement::Unknown,
     }
 }
 
 // 01h
-fn digital(n: &[u8; 32]) -> DigitalSensor
-    ensures { λ r. ⌜ r ≡ digitalFrom (byte (now (n .entry))) ⌝ }
+fn digital(n: &[u8; 32], chip: Chip) -> DigitalSensor
+    ensures { λ r. ⌜ r ≡ digitalFrom chip (byte (now (n .entry))) ⌝ }
 {
     DigitalSensor {
         placement: placement(n),
         bus: n[5],
-        address: address(n[6], n[7]),
+        address: address(n[6], n[7], chip),
         lsb: word(n, 8),
         msb: word(n, 10),
         minvalue: word(n, 12),
@@ -76,13 +79,13 @@ fn digital(n: &[u8; 32]) -> DigitalSensor
 }
 
 // 02h
-fn analogue(n: &[u8; 32]) -> AnalogueSensor
-    ensures { λ r. ⌜ r ≡ analogueFrom (byte (now (n .entry))) ⌝ }
+fn analogue(n: &[u8; 32], chip: Chip) -> AnalogueSensor
+    ensures { λ r. ⌜ r ≡ analogueFrom chip (byte (now (n .entry))) ⌝ }
 {
     AnalogueSensor {
         placement: placement(n),
         thermal: n[5],
-        pin: Pin(n[6]),
+        pin: Pin(n[6], chip),
         at0: Counts(word(n, 7)),
         at25: Counts(word(n, 9)),
         at50: Counts(word(n, 11)),
@@ -92,58 +95,69 @@ fn analogue(n: &[u8; 32]) -> AnalogueSensor
 }
 
 // 04h
-fn led(n: &[u8; 32]) -> StatusLed
-    ensures { λ r. ⌜ r ≡ ledFrom (byte (now (n .entry))) ⌝ }
+fn led(n: &[u8; 32], chip: Chip) -> StatusLed
+    ensures { λ r. ⌜ r ≡ ledFrom chip (byte (now (n .entry))) ⌝ }
 {
     StatusLed {
         placement: placement(n),
-        one: lamp(n, 5),
-        two: lamp(n, 8),
-        three: lamp(n, 11),
+        one: lamp(n, 5, chip),
+        two: lamp(n, 8, chip),
+        three: lamp(n, 11, chip),
     }
 }
 
 // 08h
-fn current(n: &[u8; 32]) -> CurrentSensor
-    ensures { λ r. ⌜ r ≡ currentFrom (byte (now (n .entry))) ⌝ }
+fn current(n: &[u8; 32], chip: Chip) -> CurrentSensor
+    ensures { λ r. ⌜ r ≡ currentFrom chip (byte (now (n .entry))) ⌝ }
 {
     CurrentSensor {
         placement: placement(n),
-        pin: Pin(n[5]),
+        pin: Pin(n[5], chip),
         imin: Deciamps(word(n, 6)),
         imax: Deciamps(word(n, 8)),
     }
 }
 
 // 09h and 0Ah, before their blocks
-fn device(n: &[u8; 32]) -> BusDevice
-    ensures { λ r. ⌜ r ≡ deviceFrom (byte (now (n .entry))) ⌝ }
+fn device(n: &[u8; 32], chip: Chip) -> BusDevice
+    ensures { λ r. ⌜ r ≡ deviceFrom chip (byte (now (n .entry))) ⌝ }
 {
     BusDevice {
         placement: placement(n),
         bus: n[5],
-        address: address(n[6], n[7]),
+        address: address(n[6], n[7], chip),
     }
 }
 
-fn lamp(n: &[u8; 32], i: usize) -> Lamp
+fn lamp(n: &[u8; 32], i: usize, chip: Chip) -> Lamp
     requires { ⌜ i < 30 ⌝ }
-    ensures { λ r. ⌜ r ≡ lampFrom (byte (now (n .entry))) i ⌝ }
+    ensures { λ r. ⌜ r ≡ lampFrom chip (byte (now (n .entry))) i ⌝ }
 {
     Lamp {
-        pin: OptionalPin(n[i]),
+        pin: optional(n[i], chip),
         colour: n[i + 1],
         purpose: n[i + 2],
     }
 }
 
 // 0 is a bus address, any other kind a chip select pin.
-fn address(kind: u8, a: u8) -> Address
-    ensures { λ r. ⌜ r ≡ addressFrom (eqb kind 0) a ⌝ }
+fn address(kind: u8, a: u8, chip: Chip) -> Address
+    ensures { λ r. ⌜ r ≡ addressFrom chip (eqb kind 0) a ⌝ }
 {
     if kind == 0 {
         Address::Bus(a)
     } else {
-        Address::Select(Pin(a))
+        Address::Select(Pin(a, chip))
+    }
+}
+
+// 0 is the 320, any other number the 321.
+fn chip_of(n: &[u8; 32]) -> Chip
+    ensures { λ r. ⌜ r ≡ chipFrom (byte (now (n .entry))) ⌝ }
+{
+    if n[31] == 0 {
+        Chip::C8051F320
+    } else {
+        Chip::C8051F321
     }
 }

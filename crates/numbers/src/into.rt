@@ -1,8 +1,11 @@
-// From the record to its numbers, one function a kind; the bytes that a kind does not use are 0.
+// From the record to its numbers, one function a kind; byte 31 names the chip of its pins, and the bytes that a kind does not use are 0.
 ghost use mathlib.Core.Path.{_≡_};
 ghost use mathlib.Core.List.{[], _∷_};
+ghost use Rattle.format.specs.Layout.{optionalByte};
 ghost use Rattle.format.specs.declared.records.Element.the-variants.{Digital, Analogue, Fan, Led, Current, Controller, Rgb};
-ghost use Rattle.numbers.specs.Into.{padded, placementNumbers, kindOf, addressOf, elementInto, descriptionInto};
+ghost use Rattle.numbers.specs.Into.{padded, chipNumber, placementNumbers, kindOf, addressOf, elementInto, descriptionInto};
+use format::pins::Chip;
+use format::pins::OptionalPin;
 use format::records::Address;
 use format::records::AnalogueSensor;
 use format::records::BusDevice;
@@ -15,8 +18,8 @@ use format::records::PwmFan;
 use format::records::RgbLed;
 use format::records::StatusLed;
 
-pub fn description(d: Description) -> [u8; 32]
-    ensures { λ r. ⌜ r ≡ descriptionInto d ⌝ }
+pub fn description(d: Description, chip: Chip) -> [u8; 32]
+    ensures { λ r. ⌜ r ≡ descriptionInto chip d ⌝ }
 {
     let mut n = [0u8; 32];
     n[0] = d.device;
@@ -27,37 +30,41 @@ pub fn description(d: Description) -> [u8; 32]
     n[5] = (d.serial / 16777216) as u8;
     n[6] = d.spwr as u8;
     n[7] = d.power.0;
-    n[8] = d.revision0.0;
-    n[9] = d.revision1.0;
-    n[10] = d.revision2.0;
+    let p = d.revision0;
+    let q = d.revision1;
+    let r = d.revision2;
+    n[8] = byte_of(p);
+    n[9] = byte_of(q);
+    n[10] = byte_of(r);
+    n[31] = number_of(chip);
     n
 }
 
 // Of a zone descriptor and of a string the numbers stand in the variable part.
-pub fn element(e: Element, part: &[u8]) -> [u8; 32]
-    ensures { λ r. ⌜ r ≡ elementInto e (now (part .entry)) ⌝ }
+pub fn element(e: Element, part: &[u8], chip: Chip) -> [u8; 32]
+    ensures { λ r. ⌜ r ≡ elementInto chip e (now (part .entry)) ⌝ }
 {
     match e {
-        Element::Digital(d) => digital(d),
-        Element::Analogue(a) => analogue(a),
-        Element::Fan(f) => fan(f),
-        Element::Led(l) => led(l),
-        Element::Current(c) => current(c),
-        Element::Controller(d) => device(d),
-        Element::Tachometer(d) => device(d),
+        Element::Digital(d) => digital(d, chip),
+        Element::Analogue(a) => analogue(a, chip),
+        Element::Fan(f) => fan(f, chip),
+        Element::Led(l) => led(l, chip),
+        Element::Current(c) => current(c, chip),
+        Element::Controller(d) => device(d, chip),
+        Element::Tachometer(d) => device(d, chip),
         Element::Zone => two(parts::zone_number(part), parts::zone_string(part)),
         Element::Text => two(parts::string_number(part), 0),
-        Element::Rgb(r) => rgb(r),
+        Element::Rgb(r) => rgb(r, chip),
     }
 }
 
 // 01h
-fn digital(d: DigitalSensor) -> [u8; 32]
-    ensures { λ r. ⌜ r ≡ elementInto (Digital d) [] ⌝ }
+fn digital(d: DigitalSensor, chip: Chip) -> [u8; 32]
+    ensures { λ r. ⌜ r ≡ elementInto chip (Digital d) [] ⌝ }
 {
     let p = d.placement;
     let a = d.address;
-    let mut n = placement(p);
+    let mut n = placement(p, chip);
     n[5] = d.bus;
     n[6] = kind(a);
     n[7] = address(a);
@@ -75,11 +82,11 @@ fn digital(d: DigitalSensor) -> [u8; 32]
 }
 
 // 02h
-fn analogue(a: AnalogueSensor) -> [u8; 32]
-    ensures { λ r. ⌜ r ≡ elementInto (Analogue a) [] ⌝ }
+fn analogue(a: AnalogueSensor, chip: Chip) -> [u8; 32]
+    ensures { λ r. ⌜ r ≡ elementInto chip (Analogue a) [] ⌝ }
 {
     let p = a.placement;
-    let mut n = placement(p);
+    let mut n = placement(p, chip);
     n[5] = a.thermal;
     n[6] = a.pin.0;
     n[7] = (a.at0.0 % 256) as u8;
@@ -96,13 +103,14 @@ fn analogue(a: AnalogueSensor) -> [u8; 32]
 }
 
 // 03h
-fn fan(f: PwmFan) -> [u8; 32]
-    ensures { λ r. ⌜ r ≡ elementInto (Fan f) [] ⌝ }
+fn fan(f: PwmFan, chip: Chip) -> [u8; 32]
+    ensures { λ r. ⌜ r ≡ elementInto chip (Fan f) [] ⌝ }
 {
     let p = f.placement;
-    let mut n = placement(p);
+    let mut n = placement(p, chip);
     n[5] = f.pwm.0;
-    n[6] = f.tachometer.0;
+    let t = f.tachometer;
+    n[6] = byte_of(t);
     n[7] = f.ppr;
     n[8] = (f.minrpm.0 % 256) as u8;
     n[9] = (f.minrpm.0 / 256) as u8;
@@ -113,29 +121,35 @@ fn fan(f: PwmFan) -> [u8; 32]
 }
 
 // 04h
-fn led(l: StatusLed) -> [u8; 32]
-    ensures { λ r. ⌜ r ≡ elementInto (Led l) [] ⌝ }
+fn led(l: StatusLed, chip: Chip) -> [u8; 32]
+    ensures { λ r. ⌜ r ≡ elementInto chip (Led l) [] ⌝ }
 {
     let p = l.placement;
-    let mut n = placement(p);
-    n[5] = l.one.pin.0;
-    n[6] = l.one.colour;
-    n[7] = l.one.purpose;
-    n[8] = l.two.pin.0;
-    n[9] = l.two.colour;
-    n[10] = l.two.purpose;
-    n[11] = l.three.pin.0;
-    n[12] = l.three.colour;
-    n[13] = l.three.purpose;
+    let mut n = placement(p, chip);
+    let a = l.one;
+    let b = l.two;
+    let c = l.three;
+    let x = a.pin;
+    let y = b.pin;
+    let z = c.pin;
+    n[5] = byte_of(x);
+    n[6] = a.colour;
+    n[7] = a.purpose;
+    n[8] = byte_of(y);
+    n[9] = b.colour;
+    n[10] = b.purpose;
+    n[11] = byte_of(z);
+    n[12] = c.colour;
+    n[13] = c.purpose;
     n
 }
 
 // 08h
-fn current(c: CurrentSensor) -> [u8; 32]
-    ensures { λ r. ⌜ r ≡ elementInto (Current c) [] ⌝ }
+fn current(c: CurrentSensor, chip: Chip) -> [u8; 32]
+    ensures { λ r. ⌜ r ≡ elementInto chip (Current c) [] ⌝ }
 {
     let p = c.placement;
-    let mut n = placement(p);
+    let mut n = placement(p, chip);
     n[5] = c.pin.0;
     n[6] = (c.imin.0 % 256) as u8;
     n[7] = (c.imin.0 / 256) as u8;
@@ -145,12 +159,12 @@ fn current(c: CurrentSensor) -> [u8; 32]
 }
 
 // 09h and 0Ah, before their blocks
-fn device(d: BusDevice) -> [u8; 32]
-    ensures { λ r. ⌜ r ≡ elementInto (Controller d) [] ⌝ }
+fn device(d: BusDevice, chip: Chip) -> [u8; 32]
+    ensures { λ r. ⌜ r ≡ elementInto chip (Controller d) [] ⌝ }
 {
     let p = d.placement;
     let a = d.address;
-    let mut n = placement(p);
+    let mut n = placement(p, chip);
     n[5] = d.bus;
     n[6] = kind(a);
     n[7] = address(a);
@@ -158,19 +172,19 @@ fn device(d: BusDevice) -> [u8; 32]
 }
 
 // 0Eh
-fn rgb(c: RgbLed) -> [u8; 32]
-    ensures { λ r. ⌜ r ≡ elementInto (Rgb c) [] ⌝ }
+fn rgb(c: RgbLed, chip: Chip) -> [u8; 32]
+    ensures { λ r. ⌜ r ≡ elementInto chip (Rgb c) [] ⌝ }
 {
     let p = c.placement;
-    let mut n = placement(p);
+    let mut n = placement(p, chip);
     n[5] = c.red.0;
     n[6] = c.green.0;
     n[7] = c.blue.0;
     n
 }
 
-fn placement(p: Placement) -> [u8; 32]
-    ensures { λ r. ⌜ r ≡ padded (placementNumbers p) ⌝ }
+fn placement(p: Placement, chip: Chip) -> [u8; 32]
+    ensures { λ r. ⌜ r ≡ padded (placementNumbers p) (chipNumber chip) ⌝ }
 {
     let mut n = [0u8; 32];
     n[0] = p.string;
@@ -178,11 +192,12 @@ fn placement(p: Placement) -> [u8; 32]
     n[2] = p.y.0;
     n[3] = p.z.0;
     n[4] = p.zone;
+    n[31] = number_of(chip);
     n
 }
 
 fn two(a: u8, b: u8) -> [u8; 32]
-    ensures { λ r. ⌜ r ≡ padded (a ∷ b ∷ []) ⌝ }
+    ensures { λ r. ⌜ r ≡ padded (a ∷ b ∷ []) 0 ⌝ }
 {
     let mut n = [0u8; 32];
     n[0] = a;
@@ -206,5 +221,24 @@ fn address(a: Address) -> u8
     match a {
         Address::Bus(n) => n,
         Address::Select(p) => p.0,
+    }
+}
+
+// FFh of an unused place.
+fn byte_of(p: OptionalPin) -> u8
+    ensures { λ r. ⌜ r ≡ optionalByte p ⌝ }
+{
+    match p {
+        OptionalPin::Unused => 255,
+        OptionalPin::Used(q) => q.0,
+    }
+}
+
+fn number_of(chip: Chip) -> u8
+    ensures { λ r. ⌜ r ≡ chipNumber chip ⌝ }
+{
+    match chip {
+        Chip::C8051F320 => 0,
+        Chip::C8051F321 => 1,
     }
 }

@@ -15,6 +15,7 @@ use Rattle.format.specs.Layout.{placeAfter}
 use Rattle.format.specs.Verdict.{stated, framed, known}
 use Rattle.format.specs.Decode.{content, decode}
 use Rattle.format.specs.Reader.{judge, orStop, step, Outcome, took, stop}
+use Rattle.format.specs.declared.settings.Settings.{Settings}
 use Rattle.format.specs.declared.records.Description.{Description}
 use Rattle.pass.specs.Tracks.{Flags, Tracks, Went, TakeIs, Moves, MoveIs}
 use Rattle.pass.specs.declared.State.{State}
@@ -54,12 +55,12 @@ content-at t at {n} p g =
 byte-first : (t : List ℕ) (at : ℕ) → byte (drop at t) 0 ≡ byte t at
 byte-first t at = getD-drop at t 0 0 ∙ ap (λ (n : ℕ). getD t n 0) (omega arith)
 
-module _ (t : List ℕ) (at : ℕ) (s : State) (f : Flags) (r : Moved) (g : Flags) where
-  pub move-6 : r .stop ≡ 6 → r .state ≡ s → g ≡ f → framed (drop at t) ≡ false → MoveIs t at s f r g
+module _ (σ : Settings) (t : List ℕ) (at : ℕ) (s : State) (f : Flags) (r : Moved) (g : Flags) where
+  pub move-6 : r .stop ≡ 6 → r .state ≡ s → g ≡ f → framed (drop at t) ≡ false → MoveIs σ t at s f r g
   unfolding step
   move-6 p q w e = record { moves = λ d before place k. rw e (p, omega arith, q, w) }
 
-  pub move-11 : r .stop ≡ 11 → r .state ≡ s → g ≡ f → framed (drop at t) ≡ true → 96 ≤ s .count → MoveIs t at s f r g
+  pub move-11 : r .stop ≡ 11 → r .state ≡ s → g ≡ f → framed (drop at t) ≡ true → 96 ≤ s .count → MoveIs σ t at s f r g
   unfolding step
   move-11 p q w e h = record { moves = λ d before place k. rw (e, le-ltb (length before) 96 (omega (arith, k .count))) (p, omega arith, q, w) }
 
@@ -79,14 +80,14 @@ module _ (t : List ℕ) (at : ℕ) (s : State) (f : Flags) (r : Moved) (g : Flag
       (q : Step) {id : ℕ} {c : List ℕ}
       → id ≡ byte t at
       → c ≡ content (drop at t)
-      → TakeIs id c at s f q g
+      → TakeIs σ id c at s f q g
       → r .stop ≡ q .stop
       → r .state ≡ q .state
       → r .len ≡ stated (drop at t)
       → 3 ≤ r .len
       → r .len ≤ length t - at
       → s .count < 96
-      → MoveIs t at s f r g
+      → MoveIs σ t at s f r g
   unfolding step
   move-on q {id} {c} i same w p st l m h n =
       let d : id ≡ byte (drop at t) 0 = i ∙ sym (byte-first t at) in
@@ -94,5 +95,5 @@ module _ (t : List ℕ) (at : ℕ) (s : State) (f : Flags) (r : Moved) (g : Flag
         moves =
             λ e before place k.
             rw (framed-good t at l m h, lt-ltb (length before) 96 (omega (arith, k .count)), ← d, ← same)
-            (moved e before q (orStop (known id) 7 (judge before (decode id c))) (w .takes e before place k) p st l m (omega arith));
+            (moved e before q (orStop (known id) 7 (judge σ before (decode (σ .chip) id c))) (w .takes e before place k) p st l m (omega arith));
       }

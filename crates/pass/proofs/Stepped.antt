@@ -12,6 +12,7 @@ use Rattle.format.specs.Rules.{numbered, firstBroken, ownRules}
 use Rattle.format.specs.ZonesAndStrings.{role, gathered, zones, strings, zoneDeclared, stringDeclared, zoneNamed, stringNamed, rulesAgainst}
 use Rattle.format.specs.Claims.{madeAt, claimsOf, claims}
 use Rattle.format.specs.Table.{elementBreaks}
+use Rattle.format.specs.declared.settings.Settings.{Settings}
 use Rattle.format.specs.declared.records.Description.{Description}
 use Rattle.format.proofs.Kept.{zero-none, some-number, own-numbered, against-numbered, own-breaks, then-against}
 use Rattle.format.proofs.Growing.{gathered-snoc, claims-snoc}
@@ -46,35 +47,35 @@ track d before s f t g x k c z few a b u v w =
       held = subst (HeldIs (t .held)) (sym (claims-snoc d before x)) w;
     }
 
-module _ (x : Record) (at : ℕ) (s : State) (f : Flags) (r : Step) (g : Flags) where
+module _ (σ : Settings) (x : Record) (at : ℕ) (s : State) (f : Flags) (r : Step) (g : Flags) where
   by :
       (d : Description) (before : List Record) {o : Option ℕ}
-      → elementBreaks before x ≡ o
+      → elementBreaks σ before x ≡ o
       → Leaves d before x s f r g o
-      → Leaves d before x s f r g (elementBreaks before x)
+      → Leaves d before x s f r g (elementBreaks σ before x)
   by d before e l = subst (Leaves d before x s f r g) (sym e) l
 
   pub own-fault :
       {k : ℕ}
-      → k ≡ numbered (firstBroken (ownRules x))
+      → k ≡ numbered (firstBroken (ownRules σ x))
       → (k ≡ 0 → ⊥)
       → r .stop ≡ k
       → r .state ≡ s
       → g ≡ f
-      → StepIs x at s f r g
+      → StepIs σ x at s f r g
   own-fault {k} e n p q w =
       record {
         leaves =
             λ d before place t.
-            by d before (own-breaks before x (some-number (firstBroken (ownRules x)) (λ z. n (e ∙ z)))) (p ∙ e, omega (arith, n, e), q, w);
+            by d before (own-breaks σ before x (some-number (firstBroken (ownRules σ x)) (λ z. n (e ∙ z)))) (p ∙ e, omega (arith, n, e), q, w);
       }
 
-  module _ {j : ℕ} (e : j ≡ numbered (firstBroken (ownRules x))) (z : j ≡ 0) where
-    then : (before : List Record) → elementBreaks before x ≡ firstBroken (rulesAgainst before x)
-    then before = then-against before x (zero-none (ownRules x) (own-numbered x) (sym e ∙ z))
+  module _ {j : ℕ} (e : j ≡ numbered (firstBroken (ownRules σ x))) (z : j ≡ 0) where
+    then : (before : List Record) → elementBreaks σ before x ≡ firstBroken (rulesAgainst before x)
+    then before = then-against σ before x (zero-none (ownRules σ x) (own-numbered σ x) (sym e ∙ z))
 
     module _ {k : ℕ} (l : (d : Description) (before : List Record) → Tracks d s f before → k ≡ numbered (firstBroken (rulesAgainst before x))) where
-      pub later-fault : (k ≡ 0 → ⊥) → r .stop ≡ k → r .state ≡ s → g ≡ f → StepIs x at s f r g
+      pub later-fault : (k ≡ 0 → ⊥) → r .stop ≡ k → r .state ≡ s → g ≡ f → StepIs σ x at s f r g
       later-fault n p q w =
           record {
             leaves =
@@ -87,7 +88,7 @@ module _ (x : Record) (at : ℕ) (s : State) (f : Flags) (r : Step) (g : Flags) 
           k ≡ 0
           → r .stop ≡ 0
           → ((d : Description) (before : List Record) → at ≡ placeAfter before → Tracks d s f before → Tracks d (r .state) g (before ++ x ∷ []))
-          → StepIs x at s f r g
+          → StepIs σ x at s f r g
       no-fault n p h =
           record {
             leaves =

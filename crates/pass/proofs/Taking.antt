@@ -21,6 +21,9 @@ use Rattle.format.specs.Table.{elementBreaks}
 use Rattle.format.specs.Verdict.{known}
 use Rattle.format.specs.Decode.{readPlacement, readDevice, guard, bind, pick, decode, cutBlocks, cutTwo}
 use Rattle.format.specs.Reader.{unlessBroken, judge}
+use Rattle.format.specs.declared.settings.Settings.{Settings}
+use Rattle.format.specs.declared.pins.Chip.{Chip}
+use Rattle.format.specs.declared.pins.Chip.the-variants.{C8051F320}
 use Rattle.format.specs.declared.records.Description.{Description}
 use Rattle.format.proofs.Kept.{zero-none, own-numbered, OwnKept, own-kept}
 use Rattle.flags.proofs.Marked.{marks-put, marks-same}
@@ -35,21 +38,24 @@ use Rattle.pass.specs.declared.Step.{Step}
 use Rattle.pass.proofs.Stepped.{track, own-fault, later-fault, no-fault}
 use Rattle.pass.proofs.Against.{zone-against, text-against, placed-against}
 
-unfaulted : (x : Record) {j : ℕ} → j ≡ numbered (firstBroken (ownRules x)) → j ≡ 0 → OwnKept x
-unfaulted x e o = own-kept x (zero-none (ownRules x) (own-numbered x) (sym e ∙ o))
+unfaulted : (σ : Settings) (x : Record) {j : ℕ} → j ≡ numbered (firstBroken (ownRules σ x)) → j ≡ 0 → OwnKept σ x
+unfaulted σ x e o = own-kept σ x (zero-none (ownRules σ x) (own-numbered σ x) (sym e ∙ o))
 
 no-claims : {ms : List Made} (h k : Held) → k ≡ h → HeldIs h ms → HeldIs k (ms ++ [])
 no-claims {ms} h k e i = rw (e, append-nil ms) i
 
--- an element whose own rules are kept has the bytes that they ask for
-pub zone-long : (c : List ℕ) {j : ℕ} → j ≡ numbered (firstBroken (ownRules (zone c))) → j ≡ 0 → 3 + length c ≡ 30
-zone-long c e o = eqb-true (3 + length c) 30 (unfaulted (zone c) e o .shape-8)
+-- an element whose own rules are kept, whatever the settings, has the bytes that they ask for
+abbrev any : Settings
+any = record { chip = C8051F320 }
 
-pub text-long : (c : List ℕ) {j : ℕ} → j ≡ numbered (firstBroken (ownRules (string c))) → j ≡ 0 → 6 ≤ 3 + length c
-text-long c e o = leb-true 6 (3 + length c) (unfaulted (string c) e o .shape-8)
+pub zone-long : (c : List ℕ) {j : ℕ} → ((σ : Settings) → j ≡ numbered (firstBroken (ownRules σ (zone c)))) → j ≡ 0 → 3 + length c ≡ 30
+zone-long c e o = eqb-true (3 + length c) 30 (unfaulted any (zone c) (e any) o .shape-8)
+
+pub text-long : (c : List ℕ) {j : ℕ} → ((σ : Settings) → j ≡ numbered (firstBroken (ownRules σ (string c)))) → j ≡ 0 → 6 ≤ 3 + length c
+text-long c e o = leb-true 6 (3 + length c) (unfaulted any (string c) (e any) o .shape-8)
 
 -- 0Bh
-module _ (c : List ℕ) (small : Bytes c) (at : ℕ) (s : State) (zs ss zu su : List Bool) (r : Step) where
+module _ (σ : Settings) (c : List ℕ) (small : Bytes c) (at : ℕ) (s : State) (zs ss zu su : List Bool) (r : Step) where
   zone-later :
       {z k : ℕ}
       → z ≡ byte c 0
@@ -59,11 +65,11 @@ module _ (c : List ℕ) (small : Bytes c) (at : ℕ) (s : State) (zs ss zu su : 
       → k ≡ numbered (firstBroken (rulesAgainst before (zone c)))
   zone-later w l d before t = rw w at l ∙ zone-against d s (flags zs ss zu su) before t c (small 0)
 
-  module _ {j : ℕ} (e : j ≡ numbered (firstBroken (ownRules (zone c)))) (o : j ≡ 0) {z k : ℕ} (w : z ≡ byte c 0)
+  module _ {j : ℕ} (e : j ≡ numbered (firstBroken (ownRules σ (zone c)))) (o : j ≡ 0) {z k : ℕ} (w : z ≡ byte c 0)
       (l : k ≡ orElse (ltb (s .zones) 12) 11 (orElse (not (getD zs z false)) 12 0)) where
     pub zone-fault :
-        (k ≡ 0 → ⊥) → r .stop ≡ k → r .state ≡ s → StepIs (zone c) at s (flags zs ss zu su) r (flags zs ss zu su)
-    zone-fault n p q = later-fault (zone c) at s (flags zs ss zu su) r (flags zs ss zu su) e o (zone-later w l) n p q refl
+        (k ≡ 0 → ⊥) → r .stop ≡ k → r .state ≡ s → StepIs σ (zone c) at s (flags zs ss zu su) r (flags zs ss zu su)
+    zone-fault n p q = later-fault σ (zone c) at s (flags zs ss zu su) r (flags zs ss zu su) e o (zone-later w l) n p q refl
 
     room : (t : Bool) (m : ℕ) → k ≡ orElse t 11 m → k ≡ 0 → t ≡ true
     room true m q n = refl
@@ -79,9 +85,9 @@ module _ (c : List ℕ) (small : Bytes c) (at : ℕ) (s : State) (zs ss zu su : 
         → r .state .held ≡ s .held
         → zs′ ≡ set zs z true
         → su′ ≡ set su t true
-        → StepIs (zone c) at s (flags zs ss zu su) r (flags zs′ ss zu su′)
+        → StepIs σ (zone c) at s (flags zs ss zu su) r (flags zs′ ss zu su′)
     zone-good {t} {zs′} {su′} n v p a b h q u =
-        no-fault (zone c) at s (flags zs ss zu su) r (flags zs′ ss zu su′) e o (zone-later w l) n p
+        no-fault σ (zone c) at s (flags zs ss zu su) r (flags zs′ ss zu su′) e o (zone-later w l) n p
         (λ d before place tr.
         track d before s (flags zs ss zu su) (r .state) (flags zs′ ss zu su′) (zone c) tr a b
         (omega (arith, b, ltb-true (s .zones) 12 (room (ltb (s .zones) 12) _ l n)))
@@ -92,8 +98,8 @@ module _ (c : List ℕ) (small : Bytes c) (at : ℕ) (s : State) (zs ss zu su : 
         (no-claims (s .held) (r .state .held) h (tr .held)))
 
 -- 0Ch
-module _ (c : List ℕ) (small : Bytes c) (at : ℕ) (s : State) (zs ss zu su : List Bool) (r : Step) where
-  module _ {j : ℕ} (e : j ≡ numbered (firstBroken (ownRules (string c)))) (o : j ≡ 0) {t : ℕ} (w : t ≡ byte c 0) where
+module _ (σ : Settings) (c : List ℕ) (small : Bytes c) (at : ℕ) (s : State) (zs ss zu su : List Bool) (r : Step) where
+  module _ {j : ℕ} (e : j ≡ numbered (firstBroken (ownRules σ (string c)))) (o : j ≡ 0) {t : ℕ} (w : t ≡ byte c 0) where
     text-later :
         {k : ℕ} (seen : Bool)
         → getD ss t false ≡ seen
@@ -105,9 +111,9 @@ module _ (c : List ℕ) (small : Bytes c) (at : ℕ) (s : State) (zs ss zu su : 
         l ∙ rw (← q, w) (text-against d s (flags zs ss zu su) before tr c (small 0))
 
     pub text-fault :
-        getD ss t false ≡ true → r .stop ≡ 12 → r .state ≡ s → StepIs (string c) at s (flags zs ss zu su) r (flags zs ss zu su)
+        getD ss t false ≡ true → r .stop ≡ 12 → r .state ≡ s → StepIs σ (string c) at s (flags zs ss zu su) r (flags zs ss zu su)
     text-fault q p st =
-        later-fault (string c) at s (flags zs ss zu su) r (flags zs ss zu su) e o (text-later true q refl) (λ n. omega (arith, n)) p st refl
+        later-fault σ (string c) at s (flags zs ss zu su) r (flags zs ss zu su) e o (text-later true q refl) (λ n. omega (arith, n)) p st refl
 
     pub text-good :
         {ss′ : List Bool}
@@ -117,9 +123,9 @@ module _ (c : List ℕ) (small : Bytes c) (at : ℕ) (s : State) (zs ss zu su : 
         → r .state .zones ≡ s .zones
         → r .state .held ≡ s .held
         → ss′ ≡ set ss t true
-        → StepIs (string c) at s (flags zs ss zu su) r (flags zs ss′ zu su)
+        → StepIs σ (string c) at s (flags zs ss zu su) r (flags zs ss′ zu su)
     text-good {ss′} f p a b h q =
-        no-fault (string c) at s (flags zs ss zu su) r (flags zs ss′ zu su) e o (text-later false f refl) refl p
+        no-fault σ (string c) at s (flags zs ss zu su) r (flags zs ss′ zu su) e o (text-later false f refl) refl p
         (λ d before place tr.
         track d before s (flags zs ss zu su) (r .state) (flags zs ss′ zu su) (string c) tr a
         (omega (arith, b))
@@ -136,7 +142,7 @@ module _ (f : Found) (c : List ℕ) (small : Bytes c) (at : ℕ) (s : State) (zu
   placed-fault n p q =
       record {
         faulty = λ _. (p, q, refl, refl);
-        steps = λ x v e k zs ss. own-fault x at s (flags zs ss zu su) r (flags zs ss zu su) e n p q refl;
+        steps = λ σ x v e k zs ss. own-fault σ x at s (flags zs ss zu su) r (flags zs ss zu su) e n p q refl;
       }
 
   pub placed-good :
@@ -157,8 +163,8 @@ module _ (f : Found) (c : List ℕ) (small : Bytes c) (at : ℕ) (s : State) (zu
       record {
         faulty = λ n. absurd (n o);
         steps =
-            λ x y e k zs ss.
-            no-fault x at s (flags zs ss zu su) r (flags zs ss zu′ su′) e o
+            λ σ x y e k zs ss.
+            no-fault σ x at s (flags zs ss zu su) r (flags zs ss zu′ su′) e o
             (λ d before tr. placed-against d s (flags zs ss zu su) before tr x y)
             refl
             p
@@ -182,21 +188,21 @@ went-of :
 went-of d before x s f r g none l = l
 went-of d before x s f r g (some k) l = l
 
-module _ (id : ℕ) (c : List ℕ) (at : ℕ) (s : State) (f : Flags) (r : Step) (g : Flags) where
-  take-record : (x : Record) → known id ≡ true → decode id c ≡ some x → StepIs x at s f r g → TakeIs id c at s f r g
+module _ (σ : Settings) (id : ℕ) (c : List ℕ) (at : ℕ) (s : State) (f : Flags) (r : Step) (g : Flags) where
+  take-record : (x : Record) → known id ≡ true → decode (σ .chip) id c ≡ some x → StepIs σ x at s f r g → TakeIs σ id c at s f r g
   take-record x n e l =
-      record { takes = λ d before place t. rw (n, e) (went-of d before x s f r g (elementBreaks before x) (l .leaves d before place t)) }
+      record { takes = λ d before place t. rw (n, e) (went-of d before x s f r g (elementBreaks σ before x) (l .leaves d before place t)) }
 
-  pub take-zone : id ≡ 11 → StepIs (zone c) at s f r g → TakeIs id c at s f r g
+  pub take-zone : id ≡ 11 → StepIs σ (zone c) at s f r g → TakeIs σ id c at s f r g
   unfolding decode
   take-zone e l = take-record (zone c) (rw e refl) (rw e refl) l
 
-  pub take-text : id ≡ 12 → StepIs (string c) at s f r g → TakeIs id c at s f r g
+  pub take-text : id ≡ 12 → StepIs σ (string c) at s f r g → TakeIs σ id c at s f r g
   unfolding decode
   take-text e l = take-record (string c) (rw e refl) (rw e refl) l
 
   -- 7
-  pub take-unknown : known id ≡ false → r .stop ≡ 7 → r .state ≡ s → g ≡ f → TakeIs id c at s f r g
+  pub take-unknown : known id ≡ false → r .stop ≡ 7 → r .state ≡ s → g ≡ f → TakeIs σ id c at s f r g
   take-unknown e p q w = record { takes = λ d before place t. rw e (p, omega arith, q, w) }
 
 -- the others: each is placed in a zone
@@ -220,17 +226,17 @@ bound : {A : Type 0} (c : List ℕ) (o : Option A) (f : A → Record) → ((a : 
 bound c none f v = tt
 bound c (some a) f v = v a
 
-pub decode-placed : (id : ℕ) (c : List ℕ) → (id ≡ 11 → ⊥) → (id ≡ 12 → ⊥) → Placed c (decode id c)
+pub decode-placed : (chip : Chip) (id : ℕ) (c : List ℕ) → (id ≡ 11 → ⊥) → (id ≡ 12 → ⊥) → Placed c (decode chip id c)
 unfolding decode
-decode-placed id c z s =
+decode-placed chip id c z s =
     let P = Placed c in
     pick-cases P id 1 _ _ (λ _. guarded c (eqb (length c) 18) _ refl)
     (pick-cases P id 2 _ _ (λ _. guarded c (eqb (length c) 17) _ refl)
     (pick-cases P id 3 _ _ (λ _. guarded c (eqb (length c) 13) _ refl)
     (pick-cases P id 4 _ _ (λ _. guarded c (eqb (length c) 11) _ refl)
     (pick-cases P id 8 _ _ (λ _. guarded c (eqb (length c) 11) _ refl)
-    (pick-cases P id 9 _ _ (λ _. guarded c (leb 8 (length c)) _ (bound c (cutBlocks (length c) (drop 8 c)) (λ l. controller (readDevice (byte c)) l) (λ l. refl)))
-    (pick-cases P id 10 _ _ (λ _. guarded c (leb 9 (length c)) _ (bound c (cutTwo (drop 9 c)) (λ t. tachometer (readDevice (byte c)) (t .0) (t .1)) (λ t. refl)))
+    (pick-cases P id 9 _ _ (λ _. guarded c (leb 8 (length c)) _ (bound c (cutBlocks (length c) (drop 8 c)) (λ l. controller (readDevice chip (byte c)) l) (λ l. refl)))
+    (pick-cases P id 10 _ _ (λ _. guarded c (leb 9 (length c)) _ (bound c (cutTwo (drop 9 c)) (λ t. tachometer (readDevice chip (byte c)) (t .0) (t .1)) (λ t. refl)))
     (pick-cases P id 11 _ _ (λ e. absurd (z e))
     (pick-cases P id 12 _ _ (λ e. absurd (s e))
     (pick-cases P id 14 _ _ (λ _. guarded c (eqb (length c) 8) _ refl) tt)))))))))
@@ -242,14 +248,14 @@ placedId id = among id (1 ∷ 2 ∷ 3 ∷ 4 ∷ 8 ∷ 9 ∷ 10 ∷ 14 ∷ [])
 known-placed : (k : ℕ) → (k ≡ 11 → ⊥) → (k ≡ 12 → ⊥) → placedId k ≡ true → known k ≡ true
 known-placed k z s p = simp (ne-eqb k 11 z, ne-eqb k 12 s) p
 
-module _ (id k : ℕ) (c : List ℕ) (at : ℕ) (s : State) (zs ss zu su : List Bool) (f : Found) (r : Step) (zu′ su′ : List Bool) where
+module _ (σ : Settings) (id k : ℕ) (c : List ℕ) (at : ℕ) (s : State) (zs ss zu su : List Bool) (f : Found) (r : Step) (zu′ su′ : List Bool) where
   pub take-placed :
       id ≡ k
       → placedId k ≡ true
-      → Judged k c f
+      → Judged σ k c f
       → PlacedStep f c at s zu su r zu′ su′
-      → TakeIs id c at s (flags zs ss zu su) r (flags zs ss zu′ su′)
-  take-placed e i j p = subst (λ (n : ℕ). TakeIs n c at s (flags zs ss zu su) r (flags zs ss zu′ su′)) (sym e) (by (decode k c) refl)
+      → TakeIs σ id c at s (flags zs ss zu su) r (flags zs ss zu′ su′)
+  take-placed e i j p = subst (λ (n : ℕ). TakeIs σ n c at s (flags zs ss zu su) r (flags zs ss zu′ su′)) (sym e) (by (decode (σ .chip) k c) refl)
     where
       zone-not : k ≡ 11 → ⊥
       zone-not q = false≢true (subst (λ (n : ℕ). placedId n ≡ true) q i)
@@ -257,9 +263,9 @@ module _ (id k : ℕ) (c : List ℕ) (at : ℕ) (s : State) (zs ss zu su : List 
       text-not : k ≡ 12 → ⊥
       text-not q = false≢true (subst (λ (n : ℕ). placedId n ≡ true) q i)
 
-      by : (o : Option Record) → decode k c ≡ o → TakeIs k c at s (flags zs ss zu su) r (flags zs ss zu′ su′)
+      by : (o : Option Record) → decode (σ .chip) k c ≡ o → TakeIs σ k c at s (flags zs ss zu su) r (flags zs ss zu′ su′)
       by none d =
-          let q : f .fault ≡ 8 = j .right ∙ ap ownFault d in
+          let q : f .fault ≡ 8 = j .right ∙ ap (ownFault σ) d in
           let w = p .faulty (λ n. omega (arith, q, n)) in
           record {
             takes =
@@ -268,8 +274,8 @@ module _ (id k : ℕ) (c : List ℕ) (at : ℕ) (s : State) (zs ss zu su : List 
                 (w .0 ∙ q, omega arith, w .1, cc);
           }
       by (some x) d =
-          take-record k c at s (flags zs ss zu su) r (flags zs ss zu′ su′) x (known-placed k zone-not text-not i) d
-          (p .steps x (subst (Placed c) d (decode-placed k c zone-not text-not)) (j .right ∙ ap ownFault d) (λ n. j .claimed n x d) zs ss)
+          take-record σ k c at s (flags zs ss zu su) r (flags zs ss zu′ su′) x (known-placed k zone-not text-not i) d
+          (p .steps σ x (subst (Placed c) d (decode-placed (σ .chip) k c zone-not text-not)) (j .right ∙ ap (ownFault σ) d) (λ n. j .claimed n x d) zs ss)
 
 pub not-known :
     (id : ℕ)

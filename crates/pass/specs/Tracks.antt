@@ -16,6 +16,7 @@ use Rattle.format.specs.Table.{elementBreaks}
 use Rattle.format.specs.Verdict.{stated, known}
 use Rattle.format.specs.Decode.{readPlacement, decode}
 use Rattle.format.specs.Reader.{Outcome, took, stop, orStop, judge, step, Result, halted, through}
+use Rattle.format.specs.declared.settings.Settings.{Settings}
 use Rattle.format.specs.declared.records.Description.{Description}
 use Rattle.flags.specs.Marks.{Marks}
 use Rattle.claims.specs.Taken.{ClaimsAre, HeldIs}
@@ -52,36 +53,36 @@ abbrev pub Leaves : Description → List Record → Record → State → Flags �
 Leaves d before x s f r after none = (r .stop ≡ 0) × Tracks d (r .state) after (before ++ x ∷ [])
 Leaves d before x s f r after (some k) = (r .stop ≡ k) × (0 < k) × (r .state ≡ s) × (after ≡ f)
 
--- the step of one element at a place
-pub record StepIs (x : Record) (at : ℕ) (s : State) (f : Flags) (r : Step) (after : Flags) : Type 0 where
+-- the step of one element at a place, under settings σ
+pub record StepIs (σ : Settings) (x : Record) (at : ℕ) (s : State) (f : Flags) (r : Step) (after : Flags) : Type 0 where
   pub leaves :
       (d : Description) (before : List Record)
       → at ≡ placeAfter before
       → Tracks d s f before
-      → Leaves d before x s f r after (elementBreaks before x)
+      → Leaves d before x s f r after (elementBreaks σ before x)
 
 -- the step of an element that stands in a zone, from what was found of its bytes: of no element, the fault alone
 pub record PlacedStep (f : Found) (c : List ℕ) (at : ℕ) (s : State) (zu su : List Bool) (r : Step) (zu′ su′ : List Bool) : Type 0 where
   pub faulty : (f .fault ≡ 0 → ⊥) → (r .stop ≡ f .fault) × (r .state ≡ s) × (zu′ ≡ zu) × (su′ ≡ su)
   pub steps :
-      (x : Record)
+      (σ : Settings) (x : Record)
       → role x ≡ placed (readPlacement (byte c))
-      → f .fault ≡ numbered (firstBroken (ownRules x))
+      → f .fault ≡ numbered (firstBroken (ownRules σ x))
       → (f .fault ≡ 0 → ClaimsAre (f .claims) (claimsOf x))
       → (zs ss : List Bool)
-      → StepIs x at s (flags zs ss zu su) r (flags zs ss zu′ su′)
+      → StepIs σ x at s (flags zs ss zu su) r (flags zs ss zu′ su′)
 
 -- what a step leaves, by the outcome that it is to have
 abbrev pub Went : Description → List Record → State → Flags → Step → Flags → Outcome → Type 0
 Went d before s f r after (took x) = (r .stop ≡ 0) × Tracks d (r .state) after (before ++ x ∷ [])
 Went d before s f r after (stop k) = (r .stop ≡ k) × (0 < k) × (r .state ≡ s) × (after ≡ f)
 
-pub record TakeIs (id : ℕ) (c : List ℕ) (at : ℕ) (s : State) (f : Flags) (r : Step) (after : Flags) : Type 0 where
+pub record TakeIs (σ : Settings) (id : ℕ) (c : List ℕ) (at : ℕ) (s : State) (f : Flags) (r : Step) (after : Flags) : Type 0 where
   pub takes :
       (d : Description) (before : List Record)
       → at ≡ placeAfter before
       → Tracks d s f before
-      → Went d before s f r after (orStop (known id) 7 (judge before (decode id c)))
+      → Went d before s f r after (orStop (known id) 7 (judge σ before (decode (σ .chip) id c)))
 
 abbrev pub Moves : List ℕ → ℕ → Description → List Record → State → Flags → Moved → Flags → Outcome → Type 0
 Moves t at d before s f r after (took x) =
@@ -92,12 +93,12 @@ Moves t at d before s f r after (took x) =
     × Tracks d (r .state) after (before ++ x ∷ [])
 Moves t at d before s f r after (stop k) = (r .stop ≡ k) × (0 < k) × (r .state ≡ s) × (after ≡ f)
 
-pub record MoveIs (t : List ℕ) (at : ℕ) (s : State) (f : Flags) (r : Moved) (after : Flags) : Type 0 where
+pub record MoveIs (σ : Settings) (t : List ℕ) (at : ℕ) (s : State) (f : Flags) (r : Moved) (after : Flags) : Type 0 where
   pub moves :
       (d : Description) (before : List Record)
       → at ≡ placeAfter before
       → Tracks d s f before
-      → Moves t at d before s f r after (step before (drop at t))
+      → Moves t at d before s f r after (step σ before (drop at t))
 
 -- what the whole pass says: where it stopped, state and flags are those of the elements before
 abbrev pub OverIs : Description → Over → Flags → Result → Type 0

@@ -10,9 +10,11 @@ ghost use Rattle.format.specs.Slots.{byte, Bytes};
 ghost use Rattle.format.specs.Decode.{readDescription};
 ghost use Rattle.format.specs.Reader.{elementsOf};
 ghost use Rattle.format.specs.Records.{zone, string};
+ghost use Rattle.format.specs.declared.settings.Settings.{Settings};
 ghost use Rattle.rules.specs.Broken.{orElse};
 ghost use Rattle.pass.specs.Tracks.{flags, Tracks, StepIs, PlacedStep, TakeIs, MoveIs, WalkIs};
 use claims::Held;
+use format::settings::Settings;
 use found::Found;
 use words::wide;
 
@@ -62,7 +64,7 @@ fn zone_against(zones: usize, seen: bool) -> u8
 // 0Bh
 fn zone_step(b: &[u8], s: State, zs: &mut [bool; 256], su: &mut [bool; 256]) -> Step
     requires { ⌜ (s .count < 96) × (s .zones ≤ 12) ⌝ }
-    ensures { λ r. ⌜ ((at : ℕ) (ss zu : List Bool) → StepIs (zone (now (b .entry))) at s (flags (now (zs .entry)) ss zu (now (su .entry))) r (flags (now (zs .exit)) ss zu (now (su .exit)))) ⌝ }
+    ensures { λ r. ⌜ ((σ : Settings) (at : ℕ) (ss zu : List Bool) → StepIs σ (zone (now (b .entry))) at s (flags (now (zs .entry)) ss zu (now (su .entry))) r (flags (now (zs .exit)) ss zu (now (su .exit)))) ⌝ }
 {
     let own = rules::zone_breaks(b);
     if own != 0 {
@@ -90,7 +92,7 @@ fn zone_step(b: &[u8], s: State, zs: &mut [bool; 256], su: &mut [bool; 256]) -> 
 // 0Ch, with 12 against those before
 fn text_step(b: &[u8], s: State, ss: &mut [bool; 256]) -> Step
     requires { ⌜ s .count < 96 ⌝ }
-    ensures { λ r. ⌜ ((at : ℕ) (zs zu su : List Bool) → StepIs (string (now (b .entry))) at s (flags zs (now (ss .entry)) zu su) r (flags zs (now (ss .exit)) zu su)) ⌝ }
+    ensures { λ r. ⌜ ((σ : Settings) (at : ℕ) (zs zu su : List Bool) → StepIs σ (string (now (b .entry))) at s (flags zs (now (ss .entry)) zu su) r (flags zs (now (ss .exit)) zu su)) ⌝ }
 {
     let own = rules::text_breaks(b);
     if own != 0 {
@@ -154,21 +156,22 @@ fn take(
     ss: &mut [bool; 256],
     zu: &mut [bool; 256],
     su: &mut [bool; 256],
+    settings: Settings,
 ) -> Step
     requires { ⌜ (s .count < 96) × (s .zones ≤ 12) × (at < 65536) ⌝ }
-    ensures { λ r. ⌜ TakeIs id (now (b .entry)) at s (flags (now (zs .entry)) (now (ss .entry)) (now (zu .entry)) (now (su .entry))) r (flags (now (zs .exit)) (now (ss .exit)) (now (zu .exit)) (now (su .exit))) ⌝ }
+    ensures { λ r. ⌜ TakeIs settings id (now (b .entry)) at s (flags (now (zs .entry)) (now (ss .entry)) (now (zu .entry)) (now (su .entry))) r (flags (now (zs .exit)) (now (ss .exit)) (now (zu .exit)) (now (su .exit))) ⌝ }
 {
     match id {
-        1 => placed_step(found::digital_found(b), b, at, s, zu, su),
-        2 => placed_step(found::analogue_found(b), b, at, s, zu, su),
-        3 => placed_step(found::fan_found(b), b, at, s, zu, su),
-        4 => placed_step(found::led_found(b), b, at, s, zu, su),
-        8 => placed_step(found::current_found(b), b, at, s, zu, su),
-        9 => placed_step(found::controller_found(b), b, at, s, zu, su),
-        10 => placed_step(found::tachometer_found(b), b, at, s, zu, su),
+        1 => placed_step(found::digital_found(b, settings), b, at, s, zu, su),
+        2 => placed_step(found::analogue_found(b, settings), b, at, s, zu, su),
+        3 => placed_step(found::fan_found(b, settings), b, at, s, zu, su),
+        4 => placed_step(found::led_found(b, settings), b, at, s, zu, su),
+        8 => placed_step(found::current_found(b, settings), b, at, s, zu, su),
+        9 => placed_step(found::controller_found(b, settings), b, at, s, zu, su),
+        10 => placed_step(found::tachometer_found(b, settings), b, at, s, zu, su),
         11 => zone_step(b, s, zs, su),
         12 => text_step(b, s, ss),
-        14 => placed_step(found::rgb_found(b), b, at, s, zu, su),
+        14 => placed_step(found::rgb_found(b, settings), b, at, s, zu, su),
         _ => stopped(7, s),
     }
 }
@@ -192,9 +195,10 @@ fn one_step(
     ss: &mut [bool; 256],
     zu: &mut [bool; 256],
     su: &mut [bool; 256],
+    settings: Settings,
 ) -> Moved
     requires { ⌜ (at + 2 < length (now t)) × (length (now t) ≤ 4096) × (s .count ≤ 96) × (s .zones ≤ 12) ⌝ }
-    ensures { λ r. ⌜ MoveIs (now (t .entry)) at s (flags (now (zs .entry)) (now (ss .entry)) (now (zu .entry)) (now (su .entry))) r (flags (now (zs .exit)) (now (ss .exit)) (now (zu .exit)) (now (su .exit))) ⌝ }
+    ensures { λ r. ⌜ MoveIs settings (now (t .entry)) at s (flags (now (zs .entry)) (now (ss .entry)) (now (zu .entry)) (now (su .entry))) r (flags (now (zs .exit)) (now (ss .exit)) (now (zu .exit)) (now (su .exit))) ⌝ }
 {
     let left = t.len() - at;
     let len = wide(t[at + 1]) + 256 * wide(t[at + 2]);
@@ -209,7 +213,7 @@ fn one_step(
     }
     let from = at + 3;
     let next = at + len;
-    let r = take(t[at], &t[from..next], at, s, zs, ss, zu, su);
+    let r = take(t[at], &t[from..next], at, s, zs, ss, zu, su, settings);
     let state = r.state;
     Moved {
         stop: r.stop,
@@ -226,14 +230,15 @@ pub fn walk(
     ss: &mut [bool; 256],
     zu: &mut [bool; 256],
     su: &mut [bool; 256],
+    settings: Settings,
 ) -> Over
-    requires { ⌜ (16 ≤ length (now t)) × (length (now t) ≤ 4096) × Bytes (now t) × Tracks (readDescription (byte (now t))) start (flags (now zs) (now ss) (now zu) (now su)) [] ⌝ }
-    ensures { λ r. ⌜ WalkIs (readDescription (byte (now (t .entry)))) r (flags (now (zs .exit)) (now (ss .exit)) (now (zu .exit)) (now (su .exit))) (elementsOf (now (t .entry))) ⌝ }
+    requires { ⌜ (16 ≤ length (now t)) × (length (now t) ≤ 4096) × Bytes (now t) × Tracks (readDescription (settings .chip) (byte (now t))) start (flags (now zs) (now ss) (now zu) (now su)) [] ⌝ }
+    ensures { λ r. ⌜ WalkIs (readDescription (settings .chip) (byte (now (t .entry)))) r (flags (now (zs .exit)) (now (ss .exit)) (now (zu .exit)) (now (su .exit))) (elementsOf settings (now (t .entry))) ⌝ }
 {
     let mut s = start;
     let mut at: usize = 16;
     while at + 2 < t.len() {
-        let r = one_step(t, at, s, zs, ss, zu, su);
+        let r = one_step(t, at, s, zs, ss, zu, su, settings);
         let next = r.state;
         if r.stop != 0 {
             return Over {

@@ -1,46 +1,48 @@
--- The rows of the code are the lists of pins that each use permits: one test over all bytes, computed for each use.
+-- The rows of the code are the lists of pins that each use permits: one test over all bytes, computed for each chip and use.
 -- Assumes nothing.
 use Prim.Native.Nat.{ℕ, _*_, _^_, _%_, _<_}
 use mathlib.Core.Path.{_≡_, refl}
-use mathlib.Core.Bool.{Bool, true, _&&_, _||_, not}
+use mathlib.Core.Bool.{Bool, true, not}
 use lib.Dec.{eqb, ltb}
-use lib.Bits.{bitAnd, bitOr}
+use lib.Bits.{bitAnd}
 use borrow.Author.Tests.{eqb-true, ltb-true}
-use Rattle.format.specs.Pins.{among, permitted}
+use Rattle.format.specs.Pins.{among, permitted, sameChip}
+use Rattle.format.specs.declared.pins.Chip.{Chip}
+use Rattle.format.specs.declared.pins.Chip.the-variants.{C8051F320, C8051F321}
 use Rattle.format.specs.declared.pins.Use.{Use}
 use Rattle.format.specs.declared.pins.Use.the-variants.{FanPin, AnaloguePin, ChipSelect, StatusLed, HardwareRevision}
-use Rattle.pinsets.specs.Sets.{pinIndex, pinBit, rowOf}
-use Rattle.pinsets.proofs.Table.{same, same→eq, and-left, and-right, allTo, at-below}
+use Rattle.pinsets.specs.Sets.{pinIndex, pinBit, numberOf, rowOf}
+use Rattle.pinsets.proofs.Table.{same, same→eq, allTo, at-below}
 
--- a row has a pin's bit where its use permits the pin, and with the bit of an unused place
+-- a row has a pin's bit where the chip has the pin and its use permits it
 abbrev pub inRow : ℕ → ℕ → Bool
 inRow row p = not (eqb (bitAnd row (pinBit p)) 0)
 
-abbrev pub orUnused : ℕ → ℕ
-orUnused row = bitOr row 0x40000000
+abbrev permits : Chip → Use → ℕ → Bool
+permits c u p = same (inRow (rowOf c u) p) (among p (permitted c u))
 
-abbrev permits : Use → ℕ → Bool
-permits u p = same (inRow (rowOf u) p) (among p (permitted u))
-
-abbrev orNot : Use → ℕ → Bool
-orNot u p = same (inRow (orUnused (rowOf u)) p) (eqb p 0xff || among p (permitted u))
-
-abbrev right : Use → ℕ → Bool
-right u p = permits u p && orNot u p
-
-all-right : (u : Use) → allTo 256 (right u) ≡ true
+all-right : (c : Chip) (u : Use) → allTo 256 (permits c u) ≡ true
 unfolding pinBit pinIndex rowOf
-all-right FanPin = refl
-all-right AnaloguePin = refl
-all-right ChipSelect = refl
-all-right StatusLed = refl
-all-right HardwareRevision = refl
+all-right C8051F320 FanPin = refl
+all-right C8051F320 AnaloguePin = refl
+all-right C8051F320 ChipSelect = refl
+all-right C8051F320 StatusLed = refl
+all-right C8051F320 HardwareRevision = refl
+all-right C8051F321 FanPin = refl
+all-right C8051F321 AnaloguePin = refl
+all-right C8051F321 ChipSelect = refl
+all-right C8051F321 StatusLed = refl
+all-right C8051F321 HardwareRevision = refl
 
-pub row-permits : (u : Use) (p : ℕ) → p < 256 → inRow (rowOf u) p ≡ among p (permitted u)
-row-permits u p h = same→eq _ _ (and-left (permits u p) (orNot u p) (at-below 256 (right u) (all-right u) p h))
+pub row-permits : (c : Chip) (u : Use) (p : ℕ) → p < 256 → inRow (rowOf c u) p ≡ among p (permitted c u)
+row-permits c u p h = same→eq _ _ (at-below 256 (permits c u) (all-right c u) p h)
 
-pub row-or-unused : (u : Use) (p : ℕ) → p < 256 → inRow (orUnused (rowOf u)) p ≡ eqb p 0xff || among p (permitted u)
-row-or-unused u p h = same→eq _ _ (and-right (permits u p) (orNot u p) (at-below 256 (right u) (all-right u) p h))
+-- two chips are the same where their numbers are
+pub same-number : (c d : Chip) → eqb (numberOf c) (numberOf d) ≡ sameChip c d
+same-number C8051F320 C8051F320 = refl
+same-number C8051F320 C8051F321 = refl
+same-number C8051F321 C8051F320 = refl
+same-number C8051F321 C8051F321 = refl
 
 -- a pin's place is one of a word's, and so its bit is a shift
 pub index-small : (p : ℕ) → p < 256 → pinIndex p < 32

@@ -3,6 +3,8 @@
 use Prim.Native.Nat.{ℕ, _+_, _*_, _/_, _%_, _^_}
 use mathlib.Core.Bool.{Bool, true, false, _&&_}
 use lib.Dec.{eqb, ltb}
+use Rattle.format.specs.declared.pins.Chip.{Chip}
+use Rattle.format.specs.declared.pins.Chip.the-variants.{C8051F320, C8051F321}
 use Rattle.format.specs.declared.pins.Use.{Use}
 use Rattle.format.specs.declared.pins.Use.the-variants.{FanPin, AnaloguePin, ChipSelect, StatusLed, HardwareRevision}
 
@@ -10,23 +12,32 @@ abbrev pub pick : Bool → ℕ → ℕ → ℕ
 pick true a b = a
 pick false a b = b
 
--- a pin byte's place among the 25 pins, 0 to 24; 30 where it says unused, 31 where there is no such pin
+-- a pin byte's place among the 25 pins, 0 to 24; 31 where there is no such pin
 unfoldable pub pinIndex : ℕ → ℕ
 pinIndex b =
-    let c = pick (ltb (b % 16) 8 && ltb b 49) b (pick (eqb b 255) 54 55) in
+    let c = pick (ltb (b % 16) 8 && ltb b 49) b 55 in
     c / 16 * 8 + c % 8
 
 -- its bit
 unfoldable pub pinBit : ℕ → ℕ
 pinBit b = 2 ^ pinIndex b
 
--- the row of a use: pin i of the 25 in bit i
-unfoldable pub rowOf : Use → ℕ
-rowOf FanPin = 0xe60
-rowOf AnaloguePin = 0x1fff000
-rowOf ChipSelect = 0x1fffe60
-rowOf StatusLed = 0x1fff01f
-rowOf HardwareRevision = 0x1ffffff
+-- the row of a chip and a use: pin i of the 25 in bit i
+abbrev pub byChip : Chip → ℕ → ℕ → ℕ
+byChip C8051F320 large small = large
+byChip C8051F321 large small = small
+
+unfoldable pub rowOf : Chip → Use → ℕ
+rowOf c FanPin = byChip c 0xe60 0xe60
+rowOf c AnaloguePin = byChip c 0x1fff000 0x10ff000
+rowOf c ChipSelect = byChip c 0x1fffe60 0x10ffe60
+rowOf c StatusLed = byChip c 0x1fff01f 0x10ff01f
+rowOf c HardwareRevision = byChip c 0x1ffffff 0x10fffff
+
+-- a number for each chip
+abbrev pub numberOf : Chip → ℕ
+numberOf C8051F320 = 0
+numberOf C8051F321 = 1
 
 -- a word has a bit
 unfoldable pub hasBit : ℕ → ℕ → Bool

@@ -9,6 +9,7 @@ use Rattle.format.specs.Slots.{byte, Bytes}
 use Rattle.format.specs.Records.{Record, zoneString}
 use Rattle.format.specs.ZonesAndStrings.{Role, placed, zoning, naming}
 use Rattle.format.specs.Reader.{elementsOf, through}
+use Rattle.format.specs.declared.settings.Settings.{Settings}
 
 -- the bytes of an element at a place that tell what it is to the others
 abbrev pub RoleBytes : List ℕ → ℕ → Role → Type 0
@@ -21,13 +22,13 @@ RoleBytes t at (placed p) =
 RoleBytes t at (zoning bytes) = (byte t at ≡ 11) × (at + 5 ≤ length t) × (byte t (at + 4) ≡ zoneString bytes)
 RoleBytes t at (naming bytes) = (byte t at ≡ 12) × (at + 3 ≤ length t)
 
--- a table whose elements the pass came through
-pub record Walkable (t : List ℕ) : Type 0 where
+-- a table whose elements the pass came through, under settings σ
+pub record Walkable (σ : Settings) (t : List ℕ) : Type 0 where
   pub bytes : Bytes t
   pub long : 16 ≤ length t
   pub top : length t ≤ 4096
   pub rs : List Record
-  pub whole : elementsOf t ≡ through rs
+  pub whole : elementsOf σ t ≡ through rs
 
 abbrev pub orZero : Option ℕ → ℕ
 orZero none = 0

@@ -3,9 +3,8 @@
 ghost use mathlib.Core.Path.{_≡_};
 ghost use mathlib.Core.List.{List, _∷_};
 ghost use Prim.Native.Nat.{ℕ};
-ghost use Rattle.format.specs.Records.{Record};
 ghost use Rattle.format.specs.ZonesAndStrings.{Role, zoneNamed, stringNamed, allAmong, zones, strings, firstNaming};
-ghost use Rattle.format.specs.Reader.{elementsOf, through};
+ghost use Rattle.format.specs.declared.settings.Settings.{Settings};
 ghost use Rattle.flags.specs.Marks.{Marks};
 ghost use Rattle.places.specs.Walks.{RoleBytes, Walkable, orZero};
 use walking::length_at;
@@ -46,8 +45,8 @@ fn string_marked(t: &[u8], at: usize, marks: &[bool; 256]) -> bool
 
 // 13: the place of the first element whose zone is not marked; 0 where there is none.
 pub fn zoneless(t: &[u8], marks: &[bool; 256]) -> usize
-    requires { ⌜ ((w : Walkable (now t)) × Marks (now marks) (zones (w .rs))) ⌝ }
-    ensures { λ r. ⌜ ((rs : List Record) → elementsOf (now (t .entry)) ≡ through rs → r ≡ orZero (firstNaming zoneNamed (zones rs) 16 rs)) ⌝ }
+    requires { ⌜ ((σ : Settings) × (w : Walkable σ (now t)) × Marks (now marks) (zones (w .rs))) ⌝ }
+    ensures { λ r. ⌜ ((σ : Settings) (w : Walkable σ (now (t .entry))) → Marks (now (marks .entry)) (zones (w .rs)) → r ≡ orZero (firstNaming zoneNamed (zones (w .rs)) 16 (w .rs))) ⌝ }
 {
     let mut at: usize = 16;
     while at < t.len() {
@@ -61,8 +60,8 @@ pub fn zoneless(t: &[u8], marks: &[bool; 256]) -> usize
 
 // 14: the place of the first element whose string is not marked; 0 where there is none.
 pub fn nameless(t: &[u8], marks: &[bool; 256]) -> usize
-    requires { ⌜ ((w : Walkable (now t)) × Marks (now marks) (0 ∷ strings (w .rs))) ⌝ }
-    ensures { λ r. ⌜ ((rs : List Record) → elementsOf (now (t .entry)) ≡ through rs → r ≡ orZero (firstNaming stringNamed (0 ∷ strings rs) 16 rs)) ⌝ }
+    requires { ⌜ ((σ : Settings) × (w : Walkable σ (now t)) × Marks (now marks) (0 ∷ strings (w .rs))) ⌝ }
+    ensures { λ r. ⌜ ((σ : Settings) (w : Walkable σ (now (t .entry))) → Marks (now (marks .entry)) (0 ∷ strings (w .rs)) → r ≡ orZero (firstNaming stringNamed (0 ∷ strings (w .rs)) 16 (w .rs))) ⌝ }
 {
     let mut at: usize = 16;
     while at < t.len() {

@@ -24,27 +24,28 @@ use Rattle.format.proofs.Theorem.{meets}
 use Rattle.walking.specs.Walk.{Located}
 use Rattle.walking.proofs.Left.{reads}
 use Rattle.reader.specs.Answered.{GivesElement, GivesPart}
+use Rattle.format.specs.declared.settings.Settings.{Settings}
 
 -- the reader's function gives the verdict
-pub verdict : (b : List ℕ) (a : Answer) → Bytes b → a ≡ verdictOf b → Verdict b a
-verdict b a small e = rw e (meets b small)
+pub verdict : (σ : Settings) (b : List ℕ) (a : Answer) → Bytes b → a ≡ verdictOf σ b → Verdict σ b a
+verdict σ b a small e = rw e (meets σ b small)
 
 -- a refusal of the table, as its number and its place are handed on
 pub handed :
-    (b : List ℕ) (a : Answer) {k p n q : ℕ} → Verdict b a → a ≡ Refused k p → (n ≡ numberOf a) × (q ≡ valueOf a) → Verdict b (Refused n q)
-handed b a {n = n} {q = q} v e h =
+    (σ : Settings) (b : List ℕ) (a : Answer) {k p n q : ℕ} → Verdict σ b a → a ≡ Refused k p → (n ≡ numberOf a) × (q ≡ valueOf a) → Verdict σ b (Refused n q)
+handed σ b a {n = n} {q = q} v e h =
     let i = h .0 ∙ ap numberOf e in
     let j = h .1 ∙ ap valueOf e in
     let same : a ≡ Refused n q = cc in
-    subst (λ (x : Answer). Verdict b x) same v
+    subst (λ (x : Answer). Verdict σ b x) same v
 
 -- the description
-pub long : (b : List ℕ) {n : ℕ} → Verdict b (Accepted n) → 16 ≤ length b
-long b (accepted d rs a) = reads b d rs a .0
+pub long : (σ : Settings) (b : List ℕ) {n : ℕ} → Verdict σ b (Accepted n) → 16 ≤ length b
+long σ b (accepted d rs a) = reads σ b d rs a .0
 
-pub describes : (b : List ℕ) {n : ℕ} (d : Fields) → Verdict b (Accepted n) → d ≡ readDescription (byte b) → Describes b (Description d)
-describes b d (accepted d′ rs a) e =
-    subst (λ (x : Fields). Describes b (Description x)) (reads b d′ rs a .1 ∙ sym e) (described d′ rs a)
+pub describes : (σ : Settings) (b : List ℕ) {n : ℕ} (d : Fields) → Verdict σ b (Accepted n) → d ≡ readDescription (σ .chip) (byte b) → Describes σ b (Description d)
+describes σ b d (accepted d′ rs a) e =
+    subst (λ (x : Fields). Describes σ b (Description x)) (reads σ b d′ rs a .1 ∙ sym e) (described d′ rs a)
 
 -- an element past the last
 nth-past : (rs : List Record) (k : ℕ) → length rs ≤ k → nth rs k ≡ none
@@ -52,16 +53,16 @@ nth-past [] k h = refl
 nth-past (r ∷ rs) zero h = absurd (omega arith)
 nth-past (r ∷ rs) (suc k) h = nth-past rs k (omega arith)
 
-pub gives-past : (b : List ℕ) (k : ℕ) {n : ℕ} → Verdict b (Accepted n) → n ≤ k → Gives b k (NotGiven 17 0) []
-gives-past b k (accepted d rs a) h = past d rs a (nth-past rs k h)
+pub gives-past : (σ : Settings) (b : List ℕ) (k : ℕ) {n : ℕ} → Verdict σ b (Accepted n) → n ≤ k → Gives σ b k (NotGiven 17 0) []
+gives-past σ b k (accepted d rs a) h = past d rs a (nth-past rs k h)
 
 -- element k
-module _ (b : List ℕ) (k at : ℕ) (l : Located b k at) where
-  gives-there : Gives b k (Element (elementOf (l .r))) (written (part (l .r)))
+module _ (σ : Settings) (b : List ℕ) (k at : ℕ) (l : Located σ b k at) where
+  gives-there : Gives σ b k (Element (elementOf (l .r))) (written (part (l .r)))
   gives-there = given (l .d) (l .rs) (l .accepts) (l .is-nth)
 
-  pub element-there : {e : Case} → e ≡ elementOf (l .r) → GivesElement b k (Element e)
+  pub element-there : {e : Case} → e ≡ elementOf (l .r) → GivesElement σ b k (Element e)
   element-there e = record { beside = written (part (l .r)); gives = rw e gives-there }
 
-  pub part-there : {p : List ℕ} → p ≡ written (part (l .r)) → GivesPart b k p
+  pub part-there : {p : List ℕ} → p ≡ written (part (l .r)) → GivesPart σ b k p
   part-there e = record { beside = Element (elementOf (l .r)); gives = rw e gives-there }

@@ -28,6 +28,7 @@ use Rattle.format.proofs.Lengths.{at-most-96}
 use Rattle.format.proofs.Slots.{starts-length}
 use Rattle.format.proofs.Opening.{opened-only, opened-facts, table-length}
 use Rattle.format.proofs.Theorem.{accepts-passed}
+use Rattle.format.specs.declared.settings.Settings.{Settings}
 
 -- a place that is found first is one that was there
 unless-below : (t : Bool) (k m : ℕ) (o : Option ℕ) {p : ℕ} → k ≤ m → ((q : ℕ) → o ≡ some q → q ≤ m) → unlessKept t k o ≡ some p → p ≤ m
@@ -69,26 +70,26 @@ claims-below : (d : Description) (rs : List Record) → below (placeAfter rs) (c
 claims-below d rs =
     made-below (placeAfter rs) 0 (firstClaims d) (claimsFrom 16 rs) (omega arith) (from-below (placeAfter rs) 16 rs (omega arith))
 
-passed-top : (b : List ℕ) (d : Description) (rs : List Record) → Passed b d rs → placeAfter rs ≤ 4096
-passed-top b d rs p = omega (arith, p .limit, table-length b d rs (p .fits))
+passed-top : (σ : Settings) (b : List ℕ) (d : Description) (rs : List Record) → Passed σ b d rs → placeAfter rs ≤ 4096
+passed-top σ b d rs p = omega (arith, p .limit, table-length b d rs (p .fits))
 
-pub value-bound : (b : List ℕ) (a : Answer) → Verdict b a → valueOf a ≤ 4096
-value-bound b a (accepted d rs c) = omega (arith, at-most-96 [] rs (omega arith) (c .keeps .passed))
-value-bound b a (short h) = omega arith
-value-bound b a (unrevised h n) = omega arith
-value-bound b a (missized h e n) = omega arith
-value-bound b a (misdescribed d rest o e) = omega arith
-value-bound b a (stopped d rest rs here o clean s kept br) =
-    omega (arith, starts-length rest (layouts rs) here s, ap length (opened-only b d rest o .1), length-drop 16 b, o .limit, opened-facts b d rest o .0)
-value-bound b a (unzoned d rs p z) = omega (arith, naming-below _ _ 16 rs _ z, passed-top b d rs p)
-value-bound b a (unnamed d rs p z n) =
+pub value-bound : (σ : Settings) (b : List ℕ) (a : Answer) → Verdict σ b a → valueOf a ≤ 4096
+value-bound σ b a (accepted d rs c) = omega (arith, at-most-96 σ [] rs (omega arith) (c .keeps .passed))
+value-bound σ b a (short h) = omega arith
+value-bound σ b a (unrevised h n) = omega arith
+value-bound σ b a (missized h e n) = omega arith
+value-bound σ b a (misdescribed d rest o e) = omega arith
+value-bound σ b a (stopped d rest rs here o clean s kept br) =
+    omega (arith, starts-length rest (layouts rs) here s, ap length (opened-only (σ .chip) b d rest o .1), length-drop 16 b, o .limit, opened-facts (σ .chip) b d rest o .0)
+value-bound σ b a (unzoned d rs p z) = omega (arith, naming-below _ _ 16 rs _ z, passed-top σ b d rs p)
+value-bound σ b a (unnamed d rs p z n) =
     unless-below (among (d .string) (0 ∷ strings rs)) 0 4096 (firstNaming stringNamed (0 ∷ strings rs) 16 rs) (omega arith)
-    (λ q w. omega (arith, naming-below stringNamed (0 ∷ strings rs) 16 rs q w, passed-top b d rs p))
+    (λ q w. omega (arith, naming-below stringNamed (0 ∷ strings rs) 16 rs q w, passed-top σ b d rs p))
     n
-value-bound b a (clashing d rs p z n c) =
-    omega (arith, clash-below (placeAfter rs) (claims d rs) [] _ (claims-below d rs) c, passed-top b d rs p)
+value-bound σ b a (clashing d rs p z n c) =
+    omega (arith, clash-below (placeAfter rs) (claims d rs) [] _ (claims-below d rs) c, passed-top σ b d rs p)
 
-pub place-bound : (b : List ℕ) (k : ℕ) (a : Asked) (p : List ℕ) → Gives b k a p → placeOfAsked a ≤ 4096
-place-bound b k a p (given d rs c n) = omega arith
-place-bound b k a p (past d rs c n) = omega arith
-place-bound b k a p (ungiven {j = j} {p = q} v) = value-bound b (Refused j q) v
+pub place-bound : (σ : Settings) (b : List ℕ) (k : ℕ) (a : Asked) (p : List ℕ) → Gives σ b k a p → placeOfAsked a ≤ 4096
+place-bound σ b k a p (given d rs c n) = omega arith
+place-bound σ b k a p (past d rs c n) = omega arith
+place-bound σ b k a p (ungiven {j = j} {p = q} v) = value-bound σ b (Refused j q) v

@@ -14,18 +14,19 @@ use Rattle.format.specs.Pins.{among}
 use Rattle.format.specs.ZonesAndStrings.{gathered, zones, strings, zoneNamed, stringNamed, firstNaming, zoneless, nameless}
 use Rattle.format.specs.Claims.{Made, firstClash, claims}
 use Rattle.format.specs.Decode.{readDescription}
-use Rattle.format.specs.Reader.{elementsOf, through, overAll, conclude}
+use Rattle.format.specs.Reader.{elementsOf, overAll, conclude}
 use Rattle.format.specs.declared.records.Description.{Description}
 use Rattle.format.specs.declared.answers.Answer.{Answer}
 use Rattle.format.specs.declared.answers.Answer.the-variants.{Accepted, Refused}
-use Rattle.flags.specs.Marks.{Lacks}
+use Rattle.flags.specs.Marks.{Marks, Lacks}
 use Rattle.claims.specs.Taken.{isNone, placeOr, HeldIs}
 use Rattle.claims.specs.declared.Held.{Held}
 use Rattle.claims.proofs.Firsts.{place-none}
-use Rattle.places.specs.Walks.{orZero}
+use Rattle.places.specs.Walks.{Walkable, orZero}
 use Rattle.pass.specs.declared.State.{State}
 use Rattle.reader.specs.Whole.{Gathered}
 use Rattle.reader.proofs.Owed.{none-named, one-named, all-declared, one-undeclared}
+use Rattle.format.specs.declared.settings.Settings.{Settings}
 
 -- the first clash, as the state holds it
 none-is : (o : Option ℕ) → isNone o ≡ true → o ≡ none
@@ -49,14 +50,14 @@ a-clash h cs k n =
     ∙ ap some (sym (k .first-clash))
 
 -- a table with elements
-module _ (t : List ℕ) (s : State) (zs ss zu su : List Bool) (g : Gathered t s zs ss zu su) where
+module _ (σ : Settings) (t : List ℕ) (s : State) (zs ss zu su : List Bool) (g : Gathered σ t s zs ss zu su) where
   abbrev d : Description
-  d = readDescription (byte t)
+  d = readDescription (σ .chip) (byte t)
 
   abbrev rs : List Record
   rs = g .table .rs
 
-  to-all : {a : Answer} → a ≡ overAll d rs → a ≡ conclude d (elementsOf t)
+  to-all : {a : Answer} → a ≡ overAll d rs → a ≡ conclude d (elementsOf σ t)
   to-all e = e ∙ sym (ap (conclude d) (g .table .whole))
 
   module _ (a : Bool) (l : Lacks zu zs a) where
@@ -68,17 +69,17 @@ module _ (t : List ℕ) (s : State) (zs ss zu su : List Bool) (g : Gathered t s 
     pub refused-13 :
         a ≡ true
         → (p : ℕ)
-        → ((rs : List Record) → elementsOf t ≡ through rs → p ≡ orZero (firstNaming zoneNamed (zones rs) 16 rs))
-        → Refused 13 p ≡ conclude d (elementsOf t)
+        → ((σ : Settings) (w : Walkable σ t) → Marks zs (zones (w .rs)) → p ≡ orZero (firstNaming zoneNamed (zones (w .rs)) 16 (w .rs)))
+        → Refused 13 p ≡ conclude d (elementsOf σ t)
     refused-13 e p f =
         let w = one-undeclared zu zs (gathered zoneNamed rs) (zones rs) (g .zone-use) (g .zone) a l e in
         let q = one-named zoneNamed (zones rs) rs 16 (w .0) (w .1) (w .2) in
-        let r : p ≡ q .0 = f rs (g .table .whole) ∙ ap orZero (q .1) in
+        let r : p ≡ q .0 = f σ (g .table) (g .zone) ∙ ap orZero (q .1) in
         to-all (rw (q .1, r) refl)
 
     module _ (b : Bool) (m : Lacks su ss b) (z : a ≡ false) where
       pub refused-14-description :
-          b ≡ true → (n : ℕ) → n ≡ byte t 4 → n < 256 → getD ss n false ≡ false → Refused 14 0 ≡ conclude d (elementsOf t)
+          b ≡ true → (n : ℕ) → n ≡ byte t 4 → n < 256 → getD ss n false ≡ false → Refused 14 0 ≡ conclude d (elementsOf σ t)
       refused-14-description e n q k h =
           let u : among (byte t 4) (0 ∷ strings rs) ≡ false = rw q at (sym (g .string .flag n k) ∙ h) in
           to-all (rw (zoned z, u) refl)
@@ -90,14 +91,14 @@ module _ (t : List ℕ) (s : State) (zs ss zu su : List Bool) (g : Gathered t s 
           → n < 256
           → getD ss n false ≡ true
           → (p : ℕ)
-          → ((rs : List Record) → elementsOf t ≡ through rs → p ≡ orZero (firstNaming stringNamed (0 ∷ strings rs) 16 rs))
-          → Refused 14 p ≡ conclude d (elementsOf t)
+          → ((σ : Settings) (w : Walkable σ t) → Marks ss (0 ∷ strings (w .rs)) → p ≡ orZero (firstNaming stringNamed (0 ∷ strings (w .rs)) 16 (w .rs)))
+          → Refused 14 p ≡ conclude d (elementsOf σ t)
       refused-14 e n q k h p f =
           let u : among (byte t 4) (0 ∷ strings rs) ≡ true = rw q at (sym (g .string .flag n k) ∙ h) in
           let w = one-undeclared su ss (byte t 4 ∷ gathered stringNamed rs) (0 ∷ strings rs) (g .string-use) (g .string) b m e in
           let i = w .0 in
           let v = one-named stringNamed (0 ∷ strings rs) rs 16 i (other i (w .1) (w .2) u (eqb i (byte t 4)) refl) (w .2) in
-          let r : p ≡ v .0 = f rs (g .table .whole) ∙ ap orZero (v .1) in
+          let r : p ≡ v .0 = f σ (g .table) (g .string) ∙ ap orZero (v .1) in
           to-all (rw (zoned z, u, v .1, r) refl)
         where
           other :
@@ -125,8 +126,8 @@ module _ (t : List ℕ) (s : State) (zs ss zu su : List Bool) (g : Gathered t s 
             later i true h = refl
             later i false h = h
 
-        pub refused-15 : (s .held .clash ≡ 65536 → ⊥) → Refused 15 (s .held .clash) ≡ conclude d (elementsOf t)
+        pub refused-15 : (s .held .clash ≡ 65536 → ⊥) → Refused 15 (s .held .clash) ≡ conclude d (elementsOf σ t)
         refused-15 n = to-all (rw (zoned z, named, a-clash (s .held) (claims d rs) (g .held) n) refl)
 
-        pub accepted-0 : s .held .clash ≡ 65536 → Accepted (s .count) ≡ conclude d (elementsOf t)
+        pub accepted-0 : s .held .clash ≡ 65536 → Accepted (s .count) ≡ conclude d (elementsOf σ t)
         accepted-0 n = to-all (rw (zoned z, named, no-clash (s .held) (claims d rs) (g .held) n) (ap Accepted (g .count)))

@@ -12,15 +12,16 @@ use Rattle.format.specs.declared.answers.Asked.{Asked}
 use Rattle.format.proofs.Demand3.{unique}
 use Rattle.format.proofs.Asking.{describes-unique, gives-unique}
 use Rattle.reader.specs.Answered.{GivesElement, GivesPart}
+use Rattle.format.specs.declared.settings.Settings.{Settings}
 
-pub only-check : (b : List ℕ) (r r′ : Answer) → Bytes b → Verdict b r → Verdict b r′ → r ≡ r′
+pub only-check : (σ : Settings) (b : List ℕ) (r r′ : Answer) → Bytes b → Verdict σ b r → Verdict σ b r′ → r ≡ r′
 only-check = unique
 
-pub only-description : (b : List ℕ) (r r′ : Described) → Bytes b → Describes b r → Describes b r′ → r ≡ r′
+pub only-description : (σ : Settings) (b : List ℕ) (r r′ : Described) → Bytes b → Describes σ b r → Describes σ b r′ → r ≡ r′
 only-description = describes-unique
 
-pub only-element : (b : List ℕ) (k : ℕ) (r r′ : Asked) → Bytes b → GivesElement b k r → GivesElement b k r′ → r ≡ r′
-only-element b k r r′ small g g′ = gives-unique b k r r′ (g .beside) (g′ .beside) small (g .gives) (g′ .gives) .0
+pub only-element : (σ : Settings) (b : List ℕ) (k : ℕ) (r r′ : Asked) → Bytes b → GivesElement σ b k r → GivesElement σ b k r′ → r ≡ r′
+only-element σ b k r r′ small g g′ = gives-unique σ b k r r′ (g .beside) (g′ .beside) small (g .gives) (g′ .gives) .0
 
-pub only-part : (b : List ℕ) (k : ℕ) (p p′ : List ℕ) → Bytes b → GivesPart b k p → GivesPart b k p′ → p ≡ p′
-only-part b k p p′ small g g′ = gives-unique b k (g .beside) (g′ .beside) p p′ small (g .gives) (g′ .gives) .1
+pub only-part : (σ : Settings) (b : List ℕ) (k : ℕ) (p p′ : List ℕ) → Bytes b → GivesPart σ b k p → GivesPart σ b k p′ → p ≡ p′
+only-part σ b k p p′ small g g′ = gives-unique σ b k (g .beside) (g′ .beside) p p′ small (g .gives) (g′ .gives) .1

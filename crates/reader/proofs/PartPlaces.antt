@@ -23,13 +23,14 @@ use Rattle.reader.specs.declared.Placed.{Placed}
 use Rattle.reader.specs.declared.Placed.the-variants.{At, Refused}
 use Rattle.reader.specs.Answered.{GivesElement}
 use Rattle.reader.specs.PartPlace.{placedAt, PartPlaced, GivesPlace}
+use Rattle.format.specs.declared.settings.Settings.{Settings}
 
 pub placed-there :
-    (b : List ℕ) (k at : ℕ) (l : Located b k at) {from len : ℕ}
+    (σ : Settings) (b : List ℕ) (k at : ℕ) (l : Located σ b k at) {from len : ℕ}
     → from ≡ at + 3 + length (fixed (elementOf (l .r)))
     → len ≡ stated (drop at b)
-    → GivesPlace b k (At from (at + len - from))
-placed-there b k at l {from} {len} e n =
+    → GivesPlace σ b k (At from (at + len - from))
+placed-there σ b k at l {from} {len} e n =
     let r = l .r in
     let starts : from ≡ placeAfter (take k (l .rs)) + (3 + length (fixed (elementOf r))) = omega (arith, e, l .place) in
     let size : at + len - from ≡ length (part r) =
@@ -52,43 +53,43 @@ nth-room (x ∷ rs) zero {r} h =
 nth-room (x ∷ rs) (suc k) {r} h =
     omega (arith, nth-room rs k h, length-append (layout x) (layouts (take k rs)), length-append (layout x) (layouts rs))
 
-pub placed-bound : (b : List ℕ) (k p n : ℕ) → GivesPlace b k (At p n) → p + n ≤ 4096
-placed-bound b k p n g =
+pub placed-bound : (σ : Settings) (b : List ℕ) (k p n : ℕ) → GivesPlace σ b k (At p n) → p + n ≤ 4096
+placed-bound σ b k p n g =
     let r = g .element in
-    let a = accepts-passed b (g .description) (g .records) (g .accepts) in
+    let a = accepts-passed σ b (g .description) (g .records) (g .accepts) in
     let x : p ≡ placeAfter (take k (g .records)) + (3 + length (fixed (elementOf r))) = cc in
     let y : n ≡ length (part r) = cc in
     omega (arith, x, y, nth-room (g .records) k (g .is-nth), length-append (fixed (elementOf r)) (part r), a .limit, table-length b (g .description) (g .records) (a .fits))
 
-pub part-bound : (b : List ℕ) (k : ℕ) (a : Asked) (p : List ℕ) → Gives b k a p → length p ≤ 4096
-part-bound b k a p (given {r = r} d rs c n) =
-    let s = accepts-passed b d rs c in
+pub part-bound : (σ : Settings) (b : List ℕ) (k : ℕ) (a : Asked) (p : List ℕ) → Gives σ b k a p → length p ≤ 4096
+part-bound σ b k a p (given {r = r} d rs c n) =
+    let s = accepts-passed σ b d rs c in
     omega (arith, length-written (part r), nth-room rs k n, length-append (fixed (elementOf r)) (part r), s .limit, table-length b d rs (s .fits))
-part-bound b k a p (past d rs c n) = omega arith
-part-bound b k a p (ungiven v) = omega arith
+part-bound σ b k a p (past d rs c n) = omega arith
+part-bound σ b k a p (ungiven v) = omega arith
 
 -- no second place
-gave : (b : List ℕ) (k p n : ℕ) → GivesPlace b k (At p n) → (e : Case) × (q : List ℕ) × Gives b k (Element e) q
-gave b k p n g = (elementOf (g .element), written (part (g .element)), given (g .description) (g .records) (g .accepts) (g .is-nth))
+gave : (σ : Settings) (b : List ℕ) (k p n : ℕ) → GivesPlace σ b k (At p n) → (e : Case) × (q : List ℕ) × Gives σ b k (Element e) q
+gave σ b k p n g = (elementOf (g .element), written (part (g .element)), given (g .description) (g .records) (g .accepts) (g .is-nth))
 
-never : (b : List ℕ) (k p n j q : ℕ) → Bytes b → GivesPlace b k (At p n) → GivesPlace b k (Refused j q) → ⊥
-never b k p n j q small g h =
-    let x = gave b k p n g in
-    let e = gives-unique b k _ _ _ _ small (x .2) (h .gives) .0 in
+never : (σ : Settings) (b : List ℕ) (k p n j q : ℕ) → Bytes b → GivesPlace σ b k (At p n) → GivesPlace σ b k (Refused j q) → ⊥
+never σ b k p n j q small g h =
+    let x = gave σ b k p n g in
+    let e = gives-unique σ b k _ _ _ _ small (x .2) (h .gives) .0 in
     let z : _≡_ {A = ℕ} 0 1 = cc in
     omega arith
 
-pub only-place : (b : List ℕ) (k : ℕ) (r r′ : Placed) → Bytes b → GivesPlace b k r → GivesPlace b k r′ → r ≡ r′
-only-place b k (At p n) (At p′ n′) small g h =
-    let l = one-list b (g .description) (h .description) (g .records) (h .records) small (accepts-passed b (g .description) (g .records) (g .accepts)) (accepts-passed b (h .description) (h .records) (h .accepts)) .1 in
+pub only-place : (σ : Settings) (b : List ℕ) (k : ℕ) (r r′ : Placed) → Bytes b → GivesPlace σ b k r → GivesPlace σ b k r′ → r ≡ r′
+only-place σ b k (At p n) (At p′ n′) small g h =
+    let l = one-list σ b (g .description) (h .description) (g .records) (h .records) small (accepts-passed σ b (g .description) (g .records) (g .accepts)) (accepts-passed σ b (h .description) (h .records) (h .accepts)) .1 in
     let m : nth (g .records) k ≡ nth (h .records) k = ap (λ (rs : List Record). nth rs k) l in
     let e : g .element ≡ h .element = cc in
     g .there
     ∙ ap (λ (rs : List Record). placedAt (placeAfter (take k rs)) (g .element)) l
     ∙ ap (λ (x : Record). placedAt (placeAfter (take k (h .records))) x) e
     ∙ sym (h .there)
-only-place b k (At p n) (Refused j q) small g h = absurd (never b k p n j q small g h)
-only-place b k (Refused j q) (At p n) small g h = absurd (never b k p n j q small h g)
-only-place b k (Refused j q) (Refused j′ q′) small g h =
-    let e = gives-unique b k _ _ _ _ small (g .gives) (h .gives) .0 in
+only-place σ b k (At p n) (Refused j q) small g h = absurd (never σ b k p n j q small g h)
+only-place σ b k (Refused j q) (At p n) small g h = absurd (never σ b k p n j q small h g)
+only-place σ b k (Refused j q) (Refused j′ q′) small g h =
+    let e = gives-unique σ b k _ _ _ _ small (g .gives) (h .gives) .0 in
     cc

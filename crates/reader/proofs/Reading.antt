@@ -27,6 +27,8 @@ use Rattle.pass.specs.Tracks.{flags, Tracks, WalkIs}
 use Rattle.pass.specs.declared.State.{State}
 use Rattle.pass.specs.declared.Over.{Over}
 use Rattle.reader.specs.Whole.{Gathered}
+use Rattle.format.specs.declared.pins.Chip.{Chip}
+use Rattle.format.specs.declared.settings.Settings.{Settings}
 
 -- before the first element, with all flags clear but the description's string index
 pub at-start :
@@ -61,16 +63,16 @@ stopped-there d r zs ss zu su (through rs) h n = absurd (n (h .over .0))
 
 -- where it came through
 pub came-through :
-    (t : List ℕ) (r : Over) (zs ss zu su : List Bool) (o : Result)
-    → elementsOf t ≡ o
-    → WalkIs (readDescription (byte t)) r (flags zs ss zu su) o
+    (σ : Settings) (t : List ℕ) (r : Over) (zs ss zu su : List Bool) (o : Result)
+    → elementsOf σ t ≡ o
+    → WalkIs (readDescription (σ .chip) (byte t)) r (flags zs ss zu su) o
     → r .stop ≡ 0
     → Bytes t
     → 16 ≤ length t
     → length t ≤ 4096
-    → Gathered t (r .state) zs (set ss 0 true) zu su
-came-through t r zs ss zu su (halted k p) e h n b l m = absurd (omega (arith, h .over .0, h .over .1, n))
-came-through t r zs ss zu su (through rs) e h n b l m =
+    → Gathered σ t (r .state) zs (set ss 0 true) zu su
+came-through σ t r zs ss zu su (halted k p) e h n b l m = absurd (omega (arith, h .over .0, h .over .1, n))
+came-through σ t r zs ss zu su (through rs) e h n b l m =
     let k = h .over .1 in
     record {
       table = record { bytes = b; long = l; top = m; rs = rs; whole = e };
@@ -83,42 +85,42 @@ came-through t r zs ss zu su (through rs) e h n b l m =
     }
 
 -- the description
-good-none : (d : Description) → numbered (descriptionBreaks d) ≡ 0 → descriptionBreaks d ≡ none
-good-none d h = zero-none (descriptionRules d) (description-numbered d) h
+good-none : (c : Chip) (d : Description) → numbered (descriptionBreaks c d) ≡ 0 → descriptionBreaks c d ≡ none
+good-none c d h = zero-none (descriptionRules c d) (description-numbered c d) h
 
 pub misdescribed-there :
-    (d : Description) (bs : List ℕ) (k : ℕ) → k ≡ numbered (descriptionBreaks d) → (k ≡ 0 → ⊥) → Refused k 0 ≡ afterDescription d bs
-misdescribed-there d bs k e n =
-    rw e (sym (ap (λ (o : Option ℕ). unlessMisdescribed o (conclude d (pass (length bs) [] 16 bs))) (some-number (descriptionBreaks d) (λ z. n (e ∙ z)))))
+    (σ : Settings) (d : Description) (bs : List ℕ) (k : ℕ) → k ≡ numbered (descriptionBreaks (σ .chip) d) → (k ≡ 0 → ⊥) → Refused k 0 ≡ afterDescription σ d bs
+misdescribed-there σ d bs k e n =
+    rw e (sym (ap (λ (o : Option ℕ). unlessMisdescribed o (conclude d (pass σ (length bs) [] 16 bs))) (some-number (descriptionBreaks (σ .chip) d) (λ z. n (e ∙ z)))))
 
 well-described :
-    (d : Description) (bs : List ℕ) (k : ℕ) (a : Answer)
-    → k ≡ numbered (descriptionBreaks d)
+    (σ : Settings) (d : Description) (bs : List ℕ) (k : ℕ) (a : Answer)
+    → k ≡ numbered (descriptionBreaks (σ .chip) d)
     → k ≡ 0
-    → a ≡ conclude d (pass (length bs) [] 16 bs)
-    → a ≡ afterDescription d bs
-well-described d bs k a e z p =
-    p ∙ sym (ap (λ (o : Option ℕ). unlessMisdescribed o (conclude d (pass (length bs) [] 16 bs))) (good-none d (sym e ∙ z)))
+    → a ≡ conclude d (pass σ (length bs) [] 16 bs)
+    → a ≡ afterDescription σ d bs
+well-described σ d bs k a e z p =
+    p ∙ sym (ap (λ (o : Option ℕ). unlessMisdescribed o (conclude d (pass σ (length bs) [] 16 bs))) (good-none (σ .chip) d (sym e ∙ z)))
 
 -- after a good description
-module _ (t : List ℕ) (d : Description) (k : ℕ) (e : d ≡ readDescription (byte t)) (f : k ≡ numbered (descriptionBreaks d)) (z : k ≡ 0) where
-  pub good-strapped : strapped d ≡ true
-  good-strapped = description-kept d (good-none d (sym f ∙ z)) .pins-10
+module _ (σ : Settings) (t : List ℕ) (d : Description) (k : ℕ) (e : d ≡ readDescription (σ .chip) (byte t)) (f : k ≡ numbered (descriptionBreaks (σ .chip) d)) (z : k ≡ 0) where
+  pub good-strapped : strapped (σ .chip) d ≡ true
+  good-strapped = description-kept (σ .chip) d (good-none (σ .chip) d (sym f ∙ z)) .pins-10
 
   pub after-elements :
       (a : Answer)
-      → a ≡ conclude (readDescription (byte t)) (elementsOf t)
-      → a ≡ afterDescription (readDescription (byte t)) (drop 16 t)
-  after-elements a p = well-described (readDescription (byte t)) (drop 16 t) k a (rw e at f) z p
+      → a ≡ conclude (readDescription (σ .chip) (byte t)) (elementsOf σ t)
+      → a ≡ afterDescription σ (readDescription (σ .chip) (byte t)) (drop 16 t)
+  after-elements a p = well-described σ (readDescription (σ .chip) (byte t)) (drop 16 t) k a (rw e at f) z p
 
 -- after the first three rules
-module _ (t : List ℕ) where
+module _ (σ : Settings) (t : List ℕ) where
   pub answer-on :
       16 ≤ length t
       → byte t 0 ≡ 1
       → stated t ≡ length t
       → length t ≤ 4096
-      → afterDescription (readDescription (byte t)) (drop 16 t) ≡ verdictOf t
+      → afterDescription σ (readDescription (σ .chip) (byte t)) (drop 16 t) ≡ verdictOf σ t
   unfolding verdictOf
   answer-on h e p n =
       sym (simp (le-leb 16 (length t) h, eq-eqb (byte t 0) 1 e, eq-eqb (stated t) (length t) p, le-leb (stated t) 4096 (omega (arith, p))))

@@ -11,6 +11,7 @@ use Rattle.format.specs.Pins.{unused}
 use Rattle.format.specs.Verdict.{stated}
 use Rattle.format.specs.Decode.{readDescription}
 use Rattle.format.specs.declared.records.Description.{Description}
+use Rattle.format.specs.declared.pins.Chip.{Chip}
 
 -- a description that keeps 4 and 5, without string index and hardware revision pins
 abbrev pub plain : Description → Bool
@@ -18,5 +19,5 @@ plain d =
     eqb (d .string) 0 && typed d && powered d && unused (d .revision0) && unused (d .revision1) && unused (d .revision2)
 
 -- 16 bytes that give this length, of revision 01h, with such a description
-abbrev pub bareTable : List ℕ → Bool
-bareTable t = eqb (length t) 16 && (eqb (byte t 0) 1 && eqb (stated t) 16 && plain (readDescription (byte t)))
+abbrev pub bareTable : Chip → List ℕ → Bool
+bareTable c t = eqb (length t) 16 && (eqb (byte t 0) 1 && eqb (stated t) 16 && plain (readDescription c (byte t)))

@@ -14,21 +14,22 @@ use Rattle.format.specs.declared.answers.Asked.the-variants.{Refused as NotGive
 use Rattle.reader.specs.declared.Placed.{Placed}
 use Rattle.reader.specs.declared.Placed.the-variants.{At, Refused}
 use Rattle.reader.specs.Answered.{GivesElement}
+use Rattle.format.specs.declared.settings.Settings.{Settings}
 
 -- of an element that starts at a place: behind its header and its fixed fields, also where the part is empty
 abbrev pub placedAt : ℕ → Record → Placed
 placedAt at r = At (at + (3 + length (fixed (elementOf r)))) (length (part r))
 
 -- of element k of the one list of records of an accepted table
-pub record PartPlaced (b : List ℕ) (k : ℕ) (answer : Placed) : Type 0 where
+pub record PartPlaced (σ : Settings) (b : List ℕ) (k : ℕ) (answer : Placed) : Type 0 where
   pub description : Description
   pub records : List Record
-  pub accepts : Accepts b description records
+  pub accepts : Accepts σ b description records
   pub element : Record
   pub is-nth : nth records k ≡ some element
   pub there : answer ≡ placedAt (placeAfter (take k records)) element
 
 -- or the refusal with which element k is refused
-abbrev pub GivesPlace : List ℕ → ℕ → Placed → Type 0
-GivesPlace b k (At p n) = PartPlaced b k (At p n)
-GivesPlace b k (Refused j p) = GivesElement b k (NotGiven j p)
+abbrev pub GivesPlace : Settings → List ℕ → ℕ → Placed → Type 0
+GivesPlace σ b k (At p n) = PartPlaced σ b k (At p n)
+GivesPlace σ b k (Refused j p) = GivesElement σ b k (NotGiven j p)

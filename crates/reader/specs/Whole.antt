@@ -13,12 +13,13 @@ use Rattle.flags.specs.Marks.{Marks}
 use Rattle.claims.specs.Taken.{HeldIs}
 use Rattle.places.specs.Walks.{Walkable}
 use Rattle.pass.specs.declared.State.{State}
+use Rattle.format.specs.declared.settings.Settings.{Settings}
 
-pub record Gathered (t : List ℕ) (s : State) (zs ss zu su : List Bool) : Type 0 where
-  pub table : Walkable t
+pub record Gathered (σ : Settings) (t : List ℕ) (s : State) (zs ss zu su : List Bool) : Type 0 where
+  pub table : Walkable σ t
   pub count : s .count ≡ length (table .rs)
   pub zone : Marks zs (zones (table .rs))
   pub string : Marks ss (0 ∷ strings (table .rs))
   pub zone-use : Marks zu (gathered zoneNamed (table .rs))
-  pub string-use : Marks su (readDescription (byte t) .string ∷ gathered stringNamed (table .rs))
-  pub held : HeldIs (s .held) (claims (readDescription (byte t)) (table .rs))
+  pub string-use : Marks su (readDescription (σ .chip) (byte t) .string ∷ gathered stringNamed (table .rs))
+  pub held : HeldIs (s .held) (claims (readDescription (σ .chip) (byte t)) (table .rs))

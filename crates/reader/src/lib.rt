@@ -1,4 +1,5 @@
-// Reading a table: is it one, its description, element k and its variable part. Every call checks the whole table first.
+// Reading a table under the settings that the caller names: is it one, its description, element k and its variable part. Every call
+// checks the whole table first.
 ghost use mathlib.Core.Path.{_≡_};
 ghost use Prim.Native.Nat.{_≤_};
 ghost use lib.ListN.{length, drop};
@@ -19,7 +20,9 @@ use flags::lacks;
 use format::answers::Answer;
 use format::answers::Asked;
 use format::answers::Described;
+use format::pins::Chip;
 use format::records::Description;
+use format::settings::Settings;
 use pass::State;
 use pass::walk;
 use walking::element_at;
@@ -31,32 +34,34 @@ use words::wide;
 // Accepted with the number of elements, or the number and the place of the first rule that is broken.
 // A bare table is answered before the flags are laid out, which takes longer than all its tests (docs/BENCH.md). The other
 // calls go to `read`: so `check` stays small enough to be laid into its callers.
-pub fn check(table: &[u8]) -> Answer
-    ensures { λ r. ⌜ Verdict (now (table .entry)) r ⌝ }
+pub fn check(table: &[u8], settings: Settings) -> Answer
+    ensures { λ r. ⌜ Verdict settings (now (table .entry)) r ⌝ }
 {
-    if bare(table) {
+    let chip = settings.chip;
+    if bare(table, chip) {
         return Answer::Accepted(0);
     }
-    read(table)
+    read(table, settings)
 }
 
 // The description of an accepted table, or the table's refusal.
-pub fn description(table: &[u8]) -> Described
-    ensures { λ r. ⌜ Describes (now (table .entry)) r ⌝ }
+pub fn description(table: &[u8], settings: Settings) -> Described
+    ensures { λ r. ⌜ Describes settings (now (table .entry)) r ⌝ }
 {
-    let answer = read(table);
+    let answer = read(table, settings);
     let Answer::Accepted(_) = answer else {
         let r = handed_on(answer);
         return Described::Refused(r.number, r.place);
     };
-    Described::Description(fields::description(table))
+    let chip = settings.chip;
+    Described::Description(fields::description(table, chip))
 }
 
 // Element k of an accepted table; the table's refusal, or 17.
-pub fn element(table: &[u8], k: usize) -> Asked
-    ensures { λ r. ⌜ GivesElement (now (table .entry)) k r ⌝ }
+pub fn element(table: &[u8], k: usize, settings: Settings) -> Asked
+    ensures { λ r. ⌜ GivesElement settings (now (table .entry)) k r ⌝ }
 {
-    let answer = read(table);
+    let answer = read(table, settings);
     let Answer::Accepted(n) = answer else {
         let r = handed_on(answer);
         return Asked::Refused(r.number, r.place);
@@ -64,14 +69,15 @@ pub fn element(table: &[u8], k: usize) -> Asked
     if n <= k {
         return Asked::Refused(17, 0);
     }
-    Asked::Element(element_at(table, place_of(table, k)))
+    let chip = settings.chip;
+    Asked::Element(element_at(table, place_of(table, k), chip))
 }
 
 // Its variable part, as that part of the lent table; an empty part with a refusal.
-pub fn part(table: &[u8], k: usize) -> &[u8]
-    ensures { λ r. ⌜ GivesPart (now (table .entry)) k (now r) ⌝ }
+pub fn part(table: &[u8], k: usize, settings: Settings) -> &[u8]
+    ensures { λ r. ⌜ GivesPart settings (now (table .entry)) k (now r) ⌝ }
 {
-    let answer = read(table);
+    let answer = read(table, settings);
     let Answer::Accepted(n) = answer else {
         return &table[0..0];
     };
@@ -89,10 +95,10 @@ pub enum Placed {
 
 // The place of the variable part of element k, behind the element's fixed fields also where the part is empty, and its length; or
 // what `element` refuses with.
-pub fn part_place(table: &[u8], k: usize) -> Placed
-    ensures { λ r. ⌜ GivesPlace (now (table .entry)) k r ⌝ }
+pub fn part_place(table: &[u8], k: usize, settings: Settings) -> Placed
+    ensures { λ r. ⌜ GivesPlace settings (now (table .entry)) k r ⌝ }
 {
-    let answer = read(table);
+    let answer = read(table, settings);
     let Answer::Accepted(n) = answer else {
         let r = handed_on(answer);
         return Placed::Refused(r.number, r.place);
@@ -128,8 +134,8 @@ pub fn handed_on(answer: Answer) -> Refusal
 }
 
 // All rules in their order.
-fn read(t: &[u8]) -> Answer
-    ensures { λ r. ⌜ Verdict (now (t .entry)) r ⌝ }
+fn read(t: &[u8], settings: Settings) -> Answer
+    ensures { λ r. ⌜ Verdict settings (now (t .entry)) r ⌝ }
 {
     if t.len() < 16 {
         return Answer::Refused(1, 0);
@@ -143,7 +149,7 @@ fn read(t: &[u8]) -> Answer
     if 4096 < t.len() {
         return Answer::Refused(3, 0);
     }
-    described(t)
+    described(t, settings)
 }
 
 // The length that bytes 1-2 give.
@@ -155,22 +161,23 @@ fn stated(t: &[u8]) -> usize
 }
 
 // What follows the first three rules.
-fn described(t: &[u8]) -> Answer
+fn described(t: &[u8], settings: Settings) -> Answer
     requires { ⌜ (16 ≤ length (now t)) × (length (now t) ≤ 4096) × Bytes (now t) ⌝ }
-    ensures { λ r. ⌜ r ≡ afterDescription (readDescription (byte (now (t .entry)))) (drop 16 (now (t .entry))) ⌝ }
+    ensures { λ r. ⌜ r ≡ afterDescription settings (readDescription (settings .chip) (byte (now (t .entry)))) (drop 16 (now (t .entry))) ⌝ }
 {
-    let d = fields::description(t);
-    let fault = rules::description_breaks(d);
+    let chip = settings.chip;
+    let d = fields::description(t, chip);
+    let fault = rules::description_breaks(d, chip);
     if fault != 0 {
         return Answer::Refused(fault, 0);
     }
-    elements(t, claims::first_claims(d))
+    elements(t, claims::first_claims(d), settings)
 }
 
 // The elements, after a good description. All flags are clear at the start.
-fn elements(t: &[u8], held: Held) -> Answer
-    requires { ⌜ (16 ≤ length (now t)) × (length (now t) ≤ 4096) × Bytes (now t) × HeldIs held (madeAt 0 (firstClaims (readDescription (byte (now t))))) ⌝ }
-    ensures { λ r. ⌜ r ≡ conclude (readDescription (byte (now (t .entry)))) (elementsOf (now (t .entry))) ⌝ }
+fn elements(t: &[u8], held: Held, settings: Settings) -> Answer
+    requires { ⌜ (16 ≤ length (now t)) × (length (now t) ≤ 4096) × Bytes (now t) × HeldIs held (madeAt 0 (firstClaims (readDescription (settings .chip) (byte (now t))))) ⌝ }
+    ensures { λ r. ⌜ r ≡ conclude (readDescription (settings .chip) (byte (now (t .entry)))) (elementsOf settings (now (t .entry))) ⌝ }
 {
     let mut zs = [false; 256];
     let mut ss = [false; 256];
@@ -183,13 +190,13 @@ fn elements(t: &[u8], held: Held) -> Answer
         zones: 0,
         held,
     };
-    let r = walk(t, start, &mut zs, &mut ss, &mut zu, &mut su);
+    let r = walk(t, start, &mut zs, &mut ss, &mut zu, &mut su, settings);
     if r.stop != 0 {
         return Answer::Refused(r.stop, r.place);
     }
     ss[0] = true;
     let s = r.state;
-    concluded(t, s, &zs, &ss, &zu, &su)
+    concluded(t, s, &zs, &ss, &zu, &su, settings)
 }
 
 // The rules over the whole table: 13, 14, 15.
@@ -200,9 +207,10 @@ fn concluded(
     ss: &[bool; 256],
     zu: &[bool; 256],
     su: &[bool; 256],
+    settings: Settings,
 ) -> Answer
-    requires { ⌜ Gathered (now t) s (now zs) (now ss) (now zu) (now su) ⌝ }
-    ensures { λ r. ⌜ r ≡ conclude (readDescription (byte (now (t .entry)))) (elementsOf (now (t .entry))) ⌝ }
+    requires { ⌜ Gathered settings (now t) s (now zs) (now ss) (now zu) (now su) ⌝ }
+    ensures { λ r. ⌜ r ≡ conclude (readDescription (settings .chip) (byte (now (t .entry)))) (elementsOf settings (now (t .entry))) ⌝ }
 {
     if lacks(zu, zs) {
         return Answer::Refused(13, places::zoneless(t, zs));
@@ -222,13 +230,13 @@ fn concluded(
 }
 
 // 16 bytes with a plain description break no rule.
-fn bare(t: &[u8]) -> bool
-    ensures { λ r. ⌜ r ≡ bareTable (now (t .entry)) ⌝ }
+fn bare(t: &[u8], chip: Chip) -> bool
+    ensures { λ r. ⌜ r ≡ bareTable chip (now (t .entry)) ⌝ }
 {
     if t.len() != 16 {
         return false;
     }
-    (t[0] == 1) & (stated(t) == 16) & plain(fields::description(t))
+    (t[0] == 1) & (stated(t) == 16) & plain(fields::description(t, chip))
 }
 
 // A description that breaks neither 4 nor 5, without string index and hardware revision pins.

@@ -1,8 +1,10 @@
 // Reads a table on standard input. Accepted: its records, read one by one and written again, go to standard output as raw bytes,
-// with reserved places at zero. Refused: the line R, number, place, with tabs.
+// with reserved places at zero. Refused: the line R, number, place, with tabs. The option --chip names the chip.
 use format::answers::Written;
+use format::settings::Settings;
 use libc::STDIN_FILENO;
 use libc::STDOUT_FILENO;
+use options::Options;
 use sending::send;
 
 // R, number, place.
@@ -23,10 +25,17 @@ fn answer(written: Written, out: &[u8]) {
 }
 
 // 4,097 bytes of input are enough: a longer table is refused by the first of them (2) or by its length (3).
-fn main() {
+fn rewrite(settings: Settings) {
     let mut input = [0u8; 4097];
     let n = io::read_full(STDIN_FILENO, &mut input);
     let mut out = io::buffer();
-    let written = rewriting::rewrite(&input[..n], &mut out);
+    let written = rewriting::rewrite(&input[..n], &mut out, settings);
     answer(written, &out);
+}
+
+fn main() {
+    match options::read_alone() {
+        Options::Chosen(settings, _) => rewrite(settings),
+        Options::Misused(m) => options::complain(m),
+    }
 }

@@ -12,14 +12,15 @@ use Rattle.format.specs.declared.records.Description.{Description}
 use Rattle.format.specs.declared.answers.Answer.the-variants.{Refused as RefusedTable}
 use Rattle.format.specs.declared.answers.Written.{Written}
 use Rattle.format.specs.declared.answers.Written.the-variants.{Length, Refused}
+use Rattle.format.specs.declared.settings.Settings.{Settings}
 
--- of the table's bytes and the buffer's: the answer, and the buffer's bytes afterwards
-pub data Rewritten (b c : List ℕ) : Written → List ℕ → Type 0 where
+-- under settings σ, of the table's bytes and the buffer's: the answer, and the buffer's bytes afterwards
+pub data Rewritten (σ : Settings) (b c : List ℕ) : Written → List ℕ → Type 0 where
   done :
       (d : Description) (rs : List Record)
-      → Accepts b d rs
+      → Accepts σ b d rs
       → length b ≤ length c
-      → Rewritten b c (Length (length b)) (cleared b (table d rs) ++ drop (length b) c)
+      → Rewritten σ b c (Length (length b)) (cleared b (table d rs) ++ drop (length b) c)
   -- 16: 'no room'
-  no-room : (d : Description) (rs : List Record) → Accepts b d rs → length c < length b → Rewritten b c (Refused 16 0) c
-  refused : {k p : ℕ} → Verdict b (RefusedTable k p) → Rewritten b c (Refused k p) c
+  no-room : (d : Description) (rs : List Record) → Accepts σ b d rs → length c < length b → Rewritten σ b c (Refused 16 0) c
+  refused : {k p : ℕ} → Verdict σ b (RefusedTable k p) → Rewritten σ b c (Refused k p) c

@@ -10,6 +10,7 @@ use lib.Dec.{eqb}
 use borrow.Author.Tests.{eq-eqb, ne-eqb, eqb-true, eqb-false, le-leb, lt-leb}
 use Rattle.format.specs.Records.{string}
 use Rattle.format.specs.Rules.{numbered, firstBroken, ownRules, shaped}
+use Rattle.format.specs.declared.settings.Settings.{Settings}
 use Rattle.format.proofs.Kept.{misshapen}
 
 -- 'Table 30: 30 bytes', three of them the header
@@ -22,8 +23,8 @@ zone-size n = go (eqb n 27) refl
 
 -- 'Table 29: 6 or more'
 module _ (p : List ℕ) where
-  pub text-short : length p < 3 → 8 ≡ numbered (firstBroken (ownRules (string p)))
-  text-short h = sym (ap numbered (misshapen (string p) (lt-leb 6 (3 + length p) (omega arith))))
+  pub text-short : length p < 3 → (s : Settings) → 8 ≡ numbered (firstBroken (ownRules s (string p)))
+  text-short h s = sym (ap numbered (misshapen s (string p) (lt-leb 6 (3 + length p) (omega arith))))
 
   pub text-long : 3 ≤ length p → true ≡ shaped (string p)
   text-long h = sym (le-leb 6 (3 + length p) (omega arith))

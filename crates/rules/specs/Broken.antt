@@ -6,6 +6,7 @@ use mathlib.Core.Bool.{Bool, true, false}
 use mathlib.Core.List.{List}
 use Rattle.format.specs.Records.{Block, controller, tachometer}
 use Rattle.format.specs.Rules.{numbered, firstBroken, ownRules, shaped, filled}
+use Rattle.format.specs.declared.settings.Settings.{Settings}
 use Rattle.format.specs.declared.records.BusDevice.{BusDevice}
 use Rattle.format.specs.declared.records.RegisterPair.{RegisterPair}
 
@@ -16,11 +17,11 @@ orElse false k later = k
 
 -- a device on a bus: what a controller breaks whose blocks are so many as they may be, filled or not, and what a tachometer
 -- breaks
-pub record DeviceBreaks (d : BusDevice) (full : Bool) (r : ℕ) : Type 0 where
+pub record DeviceBreaks (s : Settings) (d : BusDevice) (full : Bool) (r : ℕ) : Type 0 where
   pub of-controller :
       (bs : List Block)
       → shaped (controller d bs) ≡ true
       → filled bs ≡ full
-      → r ≡ numbered (firstBroken (ownRules (controller d bs)))
+      → r ≡ numbered (firstBroken (ownRules s (controller d bs)))
   pub of-tachometer :
-      (a b : List RegisterPair) → full ≡ true → r ≡ numbered (firstBroken (ownRules (tachometer d a b)))
+      (a b : List RegisterPair) → full ≡ true → r ≡ numbered (firstBroken (ownRules s (tachometer d a b)))

@@ -4,8 +4,10 @@ ghost use mathlib.Core.Path.{_≡_};
 ghost use Rattle.format.specs.Records.{Record, digital, analogue, fan, led, current, zone, string, rgb};
 ghost use Rattle.format.specs.Rules.{numbered, firstBroken, ownRules, typed, powered, strapped, addressed, selected, scaled, shaped, coded, pinned, rises, coloured};
 ghost use Rattle.format.specs.Pins.{unused};
+ghost use Rattle.format.specs.declared.settings.Settings.{Settings};
 ghost use Rattle.format.specs.Table.{descriptionBreaks};
 ghost use Rattle.rules.specs.Broken.{orElse, DeviceBreaks};
+use format::pins::Chip;
 use format::pins::OptionalPin;
 use format::pins::Pin;
 use format::pins::Use;
@@ -19,6 +21,7 @@ use format::records::Lamp;
 use format::records::PwmFan;
 use format::records::RgbLed;
 use format::records::StatusLed;
+use format::settings::Settings;
 use format::units::Counts;
 use pinsets::allowed;
 use pinsets::allowed_or_unused;
@@ -45,30 +48,30 @@ pub fn powered(d: Description) -> bool
 }
 
 // 10
-fn strapped(d: Description) -> bool
-    ensures { λ r. ⌜ r ≡ strapped d ⌝ }
+fn strapped(d: Description, chip: Chip) -> bool
+    ensures { λ r. ⌜ r ≡ strapped chip d ⌝ }
 {
     let a = d.revision0;
     let b = d.revision1;
     let c = d.revision2;
-    allowed_or_unused(Use::HardwareRevision, a)
-        & (allowed_or_unused(Use::HardwareRevision, b)
-            & allowed_or_unused(Use::HardwareRevision, c))
+    allowed_or_unused(chip, Use::HardwareRevision, a)
+        & (allowed_or_unused(chip, Use::HardwareRevision, b)
+            & allowed_or_unused(chip, Use::HardwareRevision, c))
 }
 
-pub fn description_breaks(d: Description) -> u8
-    ensures { λ r. ⌜ r ≡ numbered (descriptionBreaks d) ⌝ }
+pub fn description_breaks(d: Description, chip: Chip) -> u8
+    ensures { λ r. ⌜ r ≡ numbered (descriptionBreaks chip d) ⌝ }
 {
     or_else(
         typed(d),
         4,
-        or_else(powered(d), 5, or_else(strapped(d), 10, 0)),
+        or_else(powered(d), 5, or_else(strapped(d, chip), 10, 0)),
     )
 }
 
 // 8, 9 and 10 of a record of any kind, in their order.
 fn own_breaks(shape: bool, codes: bool, pins: bool) -> u8
-    ensures { λ r. ⌜ ((x : Record) → shape ≡ shaped x → codes ≡ coded x → pins ≡ pinned x → r ≡ numbered (firstBroken (ownRules x))) ⌝ }
+    ensures { λ r. ⌜ ((s : Settings) (x : Record) → shape ≡ shaped x → codes ≡ coded x → pins ≡ pinned (s .chip) x → r ≡ numbered (firstBroken (ownRules s x))) ⌝ }
 {
     or_else(shape, 8, or_else(codes, 9, or_else(pins, 10, 0)))
 }
@@ -84,21 +87,22 @@ fn addressed(bus: u8, a: Address) -> bool
 }
 
 // 10: a chip select's pin.
-fn selected(a: Address) -> bool
-    ensures { λ r. ⌜ r ≡ selected a ⌝ }
+fn selected(a: Address, chip: Chip) -> bool
+    ensures { λ r. ⌜ r ≡ selected chip a ⌝ }
 {
     match a {
         Address::Bus(_) => true,
-        Address::Select(p) => allowed(Use::ChipSelect, p),
+        Address::Select(p) => allowed(chip, Use::ChipSelect, p),
     }
 }
 
 // 01h
-pub fn digital_breaks(d: DigitalSensor) -> u8
-    ensures { λ r. ⌜ r ≡ numbered (firstBroken (ownRules (digital d))) ⌝ }
+pub fn digital_breaks(d: DigitalSensor, s: Settings) -> u8
+    ensures { λ r. ⌜ r ≡ numbered (firstBroken (ownRules s (digital d))) ⌝ }
 {
+    let chip = s.chip;
     let a = d.address;
-    own_breaks(true, addressed(d.bus, a), selected(a))
+    own_breaks(true, addressed(d.bus, a), selected(a, chip))
 }
 
 fn scaled(c: Counts) -> bool
@@ -115,33 +119,42 @@ fn calibrated(a: AnalogueSensor) -> bool
 }
 
 // 02h
-pub fn analogue_breaks(a: AnalogueSensor) -> u8
-    ensures { λ r. ⌜ r ≡ numbered (firstBroken (ownRules (analogue a))) ⌝ }
+pub fn analogue_breaks(a: AnalogueSensor, s: Settings) -> u8
+    ensures { λ r. ⌜ r ≡ numbered (firstBroken (ownRules s (analogue a))) ⌝ }
 {
+    let chip = s.chip;
     let p = a.pin;
-    own_breaks(true, calibrated(a), allowed(Use::AnaloguePin, p))
+    own_breaks(true, calibrated(a), allowed(chip, Use::AnaloguePin, p))
 }
 
 pub fn unused(p: OptionalPin) -> bool
     ensures { λ r. ⌜ r ≡ unused p ⌝ }
 {
-    p.0 == 255
+    match p {
+        OptionalPin::Unused => true,
+        OptionalPin::Used(_) => false,
+    }
 }
 
 fn rises(p: Pin, q: OptionalPin) -> bool
     ensures { λ r. ⌜ r ≡ rises p q ⌝ }
 {
-    unused(q) | (p.0 < q.0)
+    match q {
+        OptionalPin::Unused => true,
+        OptionalPin::Used(r) => p.0 < r.0,
+    }
 }
 
 // 03h
-pub fn fan_breaks(f: PwmFan) -> u8
-    ensures { λ r. ⌜ r ≡ numbered (firstBroken (ownRules (fan f))) ⌝ }
+pub fn fan_breaks(f: PwmFan, s: Settings) -> u8
+    ensures { λ r. ⌜ r ≡ numbered (firstBroken (ownRules s (fan f))) ⌝ }
 {
+    let chip = s.chip;
     let p = f.pwm;
     let q = f.tachometer;
     let coded = !unused(q) | (f.ppr == 0);
-    let pinned = allowed(Use::FanPin, p) & (allowed_or_unused(Use::FanPin, q) & rises(p, q));
+    let pinned = allowed(chip, Use::FanPin, p)
+        & (allowed_or_unused(chip, Use::FanPin, q) & rises(p, q));
     own_breaks(true, coded, pinned)
 }
 
@@ -153,9 +166,10 @@ fn coloured(l: Lamp) -> bool
 }
 
 // 04h
-pub fn led_breaks(l: StatusLed) -> u8
-    ensures { λ r. ⌜ r ≡ numbered (firstBroken (ownRules (led l))) ⌝ }
+pub fn led_breaks(l: StatusLed, s: Settings) -> u8
+    ensures { λ r. ⌜ r ≡ numbered (firstBroken (ownRules s (led l))) ⌝ }
 {
+    let chip = s.chip;
     let a = l.one;
     let b = l.two;
     let c = l.three;
@@ -163,37 +177,39 @@ pub fn led_breaks(l: StatusLed) -> u8
     let q = b.pin;
     let r = c.pin;
     let coded = coloured(a) & (coloured(b) & coloured(c));
-    let pinned = allowed_or_unused(Use::StatusLed, p)
-        & (allowed_or_unused(Use::StatusLed, q) & allowed_or_unused(Use::StatusLed, r));
+    let pinned = allowed_or_unused(chip, Use::StatusLed, p)
+        & (allowed_or_unused(chip, Use::StatusLed, q) & allowed_or_unused(chip, Use::StatusLed, r));
     own_breaks(true, coded, pinned)
 }
 
 // 08h
-pub fn current_breaks(c: CurrentSensor) -> u8
-    ensures { λ r. ⌜ r ≡ numbered (firstBroken (ownRules (current c))) ⌝ }
+pub fn current_breaks(c: CurrentSensor, s: Settings) -> u8
+    ensures { λ r. ⌜ r ≡ numbered (firstBroken (ownRules s (current c))) ⌝ }
 {
+    let chip = s.chip;
     let p = c.pin;
-    own_breaks(true, true, allowed(Use::AnaloguePin, p))
+    own_breaks(true, true, allowed(chip, Use::AnaloguePin, p))
 }
 
 // 09h, where `filled` says that each speed block has a pair; 0Ah, with true
-pub fn device_breaks(d: BusDevice, filled: bool) -> u8
-    ensures { λ r. ⌜ DeviceBreaks d filled r ⌝ }
+pub fn device_breaks(d: BusDevice, filled: bool, s: Settings) -> u8
+    ensures { λ r. ⌜ DeviceBreaks s d filled r ⌝ }
 {
+    let chip = s.chip;
     let a = d.address;
-    own_breaks(true, addressed(d.bus, a) & filled, selected(a))
+    own_breaks(true, addressed(d.bus, a) & filled, selected(a, chip))
 }
 
 // 0Bh, of all bytes after the header: 30 bytes with it.
 pub fn zone_breaks(part: &[u8]) -> u8
-    ensures { λ r. ⌜ r ≡ numbered (firstBroken (ownRules (zone (now (part .entry))))) ⌝ }
+    ensures { λ r. ⌜ ((s : Settings) → r ≡ numbered (firstBroken (ownRules s (zone (now (part .entry)))))) ⌝ }
 {
     own_breaks(part.len() == 27, true, true)
 }
 
 // 0Ch, of all bytes after the header: its number and two bytes more, and the number not 0.
 pub fn text_breaks(part: &[u8]) -> u8
-    ensures { λ r. ⌜ r ≡ numbered (firstBroken (ownRules (string (now (part .entry))))) ⌝ }
+    ensures { λ r. ⌜ ((s : Settings) → r ≡ numbered (firstBroken (ownRules s (string (now (part .entry)))))) ⌝ }
 {
     if part.len() < 3 {
         return 8;
@@ -202,13 +218,15 @@ pub fn text_breaks(part: &[u8]) -> u8
 }
 
 // 0Eh
-pub fn rgb_breaks(c: RgbLed) -> u8
-    ensures { λ r. ⌜ r ≡ numbered (firstBroken (ownRules (rgb c))) ⌝ }
+pub fn rgb_breaks(c: RgbLed, s: Settings) -> u8
+    ensures { λ r. ⌜ r ≡ numbered (firstBroken (ownRules s (rgb c))) ⌝ }
 {
+    let chip = s.chip;
     let r = c.red;
     let g = c.green;
     let b = c.blue;
-    let pinned = allowed(Use::FanPin, r)
-        & (allowed(Use::FanPin, g) & (allowed(Use::FanPin, b) & ((r.0 < g.0) & (g.0 < b.0))));
+    let pinned = allowed(chip, Use::FanPin, r)
+        & (allowed(chip, Use::FanPin, g)
+            & (allowed(chip, Use::FanPin, b) & ((r.0 < g.0) & (g.0 < b.0))));
     own_breaks(true, true, pinned)
 }

@@ -1,10 +1,13 @@
-// Reads each file that an argument names and prints a line for it, with tabs: the argument's index from 1, then 'ok' and the
-// number of elements; or R, number, place, the number of bytes and the bytes in hex; or X where the file cannot be read.
+// Reads each file that is named behind the options and prints a line for it, with tabs: the file's index from 1, then 'ok' and the
+// number of elements; or R, number, place, the number of bytes and the bytes in hex; or X where the file cannot be read. The option
+// --chip names the chip.
 ghost use Prim.Native.Nat.{_<_, _≤_};
 ghost use lib.ListN.{length};
 ghost use Rattle.io.specs.Counts.{Counts};
 use format::answers::Answer;
+use format::settings::Settings;
 use libc::STDOUT_FILENO;
+use options::Options;
 
 fn tab() {
     io::write_all(STDOUT_FILENO, &[b'\t']);
@@ -75,8 +78,8 @@ fn refused(k: u8, place: usize, table: &[u8]) {
     bytes(table);
 }
 
-fn verdict(table: &[u8]) {
-    let answer = reader::check(table);
+fn verdict(table: &[u8], settings: Settings) {
+    let answer = reader::check(table, settings);
     match answer {
         Answer::Accepted(n) => accepted(n),
         Answer::Refused(k, p) => refused(k, p, table),
@@ -89,7 +92,7 @@ fn unreadable() {
 
 // 4,097 bytes are enough: a longer table is refused by the first of them (2) or by its length (3). One more read tells an end
 // of the file from a read that failed, as of a folder.
-fn read(fd: i32) {
+fn read(fd: i32, settings: Settings) {
     let mut table = [0u8; 4097];
     let n = io::read_full(fd, &mut table);
     let mut more = [0u8; 1];
@@ -99,11 +102,12 @@ fn read(fd: i32) {
     } else if (got > 0) & (n < 4097) {
         unreadable();
     } else {
-        verdict(&table[..n]);
+        verdict(&table[..n], settings);
     }
 }
 
-fn file(i: usize) {
+// The file that word i names.
+fn file(i: usize, settings: Settings) {
     let mut path = io::buffer();
     let length = os::arg(i, &mut path);
     let fd = os::open_read(&path[..length]);
@@ -111,18 +115,26 @@ fn file(i: usize) {
         unreadable();
         return;
     }
-    read(fd);
+    read(fd, settings);
     libc::close(fd);
 }
 
-fn main() {
+// The files from word `first` on.
+fn files(settings: Settings, first: usize) {
     let n = os::arg_count();
-    let mut i: usize = 1;
+    let mut i = first;
     while i < n {
-        number(i as u64);
+        number((i - first + 1) as u64);
         tab();
-        file(i);
+        file(i, settings);
         end();
         i += 1;
+    }
+}
+
+fn main() {
+    match options::read() {
+        Options::Chosen(settings, first) => files(settings, first),
+        Options::Misused(m) => options::complain(m),
     }
 }

@@ -14,6 +14,7 @@ use Rattle.format.specs.Records.{Record, digital, analogue, fan, led, current, 
 use Rattle.format.specs.Layout.{fixed, part, idOf, body, layout}
 use Rattle.format.specs.Verdict.{stated}
 use Rattle.format.specs.Decode.{content, decode}
+use Rattle.format.specs.declared.pins.Chip.{Chip}
 use Rattle.format.proofs.Slots.{starts-over, starts-split, starts-rest}
 use Rattle.format.proofs.Decoding.{stands-decoded}
 use Rattle.format.proofs.Whole.{part-written}
@@ -36,11 +37,11 @@ starts-at (rgb r) = refl
 first-byte : (t : List ℕ) (at : ℕ) → byte t at ≡ byte (drop at t) 0
 first-byte t at = ap (λ (n : ℕ). byte t n) (sym (add-zero at)) ∙ sym (getD-drop at t 0 0)
 
-module _ (t : List ℕ) (at : ℕ) (x : Record) (h : Here t at x) {len : ℕ} (l : len ≡ stated (drop at t)) where
-  pub decoded-here : decode (byte t at) (take (at + len - (at + 3)) (drop (at + 3) t)) ≡ some x
+module _ (chip : Chip) (t : List ℕ) (at : ℕ) (x : Record) (h : Here chip t at x) {len : ℕ} (l : len ≡ stated (drop at t)) where
+  pub decoded-here : decode chip (byte t at) (take (at + len - (at + 3)) (drop (at + 3) t)) ≡ some x
   decoded-here =
       let n : at + len - (at + 3) ≡ stated (drop at t) - 3 = omega (arith, l) in
-      rw (n, ← drop-drop 3 at t, first-byte t at) (stands-decoded (drop at t) x (h .stands))
+      rw (n, ← drop-drop 3 at t, first-byte t at) (stands-decoded chip (drop at t) x (h .stands))
 
   pub start-here : {n : ℕ} → n ≡ partStart (byte t at) len → n ≡ 3 + length (fixed (elementOf x))
   start-here p =

@@ -11,6 +11,7 @@ use Rattle.format.specs.Records.{Record}
 use Rattle.format.specs.Layout.{placeAfter}
 use Rattle.format.specs.Verdict.{stated, Verdict}
 use Rattle.format.specs.Asked.{nth}
+use Rattle.format.specs.declared.settings.Settings.{Settings}
 use Rattle.format.specs.declared.answers.Answer.the-variants.{Accepted}
 use Rattle.walking.specs.Walk.{Walk, Located}
 use Rattle.walking.proofs.Left.{Next, begin, next, onward, unfinished}
@@ -26,32 +27,32 @@ abbrev Counted : ℕ → ℕ → List Record → List Record → Type 0
 Counted k i done left = (length done ≡ i) × (k < i + length left)
 
 -- the loop's invariant
-pub record Count (t : List ℕ) (k at i : ℕ) : Type 0 where
-  pub walk : Walk t at (Counted k i)
+pub record Count (σ : Settings) (t : List ℕ) (k at i : ℕ) : Type 0 where
+  pub walk : Walk σ t at (Counted k i)
   pub not-past : i ≤ k
 
-pub begun : (t : List ℕ) (k : ℕ) {n : ℕ} → Verdict t (Accepted n) → k < n → Count t k 16 0
-begun t k v h = record { walk = begin t (Counted k 0) v (λ rs e. (refl, omega (arith, e))); not-past = omega arith }
+pub begun : (σ : Settings) (t : List ℕ) (k n : ℕ) → Verdict σ t (Accepted n) → k < n → Count σ t k 16 0
+begun σ t k n v h = record { walk = begin σ t (Counted k 0) v (λ rs e. (refl, omega (arith, e))); not-past = omega arith }
 
-module _ (t : List ℕ) (k at i : ℕ) (c : Count t k at i) where
+module _ (σ : Settings) (t : List ℕ) (k at i : ℕ) (c : Count σ t k at i) where
   before-end : at < length t
-  before-end = unfinished t at (Counted k i) (c .walk) (omega (arith, c .walk .state .1, c .not-past))
+  before-end = unfinished σ t at (Counted k i) (c .walk) (omega (arith, c .walk .state .1, c .not-past))
 
-  pub here : Next t at (c .walk .done) (c .walk .left)
-  here = next t at (Counted k i) (c .walk) before-end
+  pub here : Next σ t at (c .walk .done) (c .walk .left)
+  here = next σ t at (Counted k i) (c .walk) before-end
 
-  pub turned : {n : ℕ} → n ≡ stated (drop at t) → i < k → Count t k (at + n) (i + 1)
+  pub turned : {n : ℕ} → n ≡ stated (drop at t) → i < k → Count σ t k (at + n) (i + 1)
   turned e h =
       record {
         walk =
-            onward t at (Counted k i) (c .walk) (Counted k (i + 1)) before-end e (λ g. (
+            onward σ t at (Counted k i) (c .walk) (Counted k (i + 1)) before-end e (λ g. (
               length-append (c .walk .done) (g .r ∷ []) ∙ ap (λ (n : ℕ). n + 1) (c .walk .state .0),
               omega (arith, c .walk .state .1, ap length (g .same)),
             ));
         not-past = omega arith;
       }
 
-  pub there : k ≤ i → Located t k at
+  pub there : k ≤ i → Located σ t k at
   there h =
       let w = c .walk in
       let e : length (w .done) ≡ k = omega (arith, w .state .0, c .not-past) in

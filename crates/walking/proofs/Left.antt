@@ -14,22 +14,23 @@ use Rattle.format.specs.Layout.{layout, layouts, opening, table, placeAfter}
 use Rattle.format.specs.Table.{PassKept, elementBreaks}
 use Rattle.format.specs.Verdict.{stated, Accepts, Verdict, accepted}
 use Rattle.format.specs.Decode.{readDescription}
+use Rattle.format.specs.declared.settings.Settings.{Settings}
 use Rattle.format.specs.declared.records.Description.{Description}
 use Rattle.format.specs.declared.answers.Answer.the-variants.{Accepted}
 use Rattle.format.proofs.Slots.{starts-split, starts-rest, starts-length, take-fits}
 use Rattle.format.proofs.Opening.{opened-only, opened-facts, table-length, table-split}
 use Rattle.format.proofs.Lengths.{layouts-append, snoc-length}
 use Rattle.format.proofs.Decoding.{starts-stated}
-use Rattle.format.proofs.Kept.{unbroken-kind}
+use Rattle.format.proofs.Kept.{unbroken-kind, described-kind}
 use Rattle.format.proofs.Theorem.{accepts-passed}
 use Rattle.walking.specs.Walk.{Here, Walk}
 
 -- the description of an accepted table is the one that is read
-pub reads : (t : List ℕ) (d : Description) (rs : List Record) → Accepts t d rs → (16 ≤ length t) × (d ≡ readDescription (byte t))
-reads t d rs a =
-    let p = accepts-passed t d rs a in
-    let s = table-split t d rs (p .limit) (p .fits) in
-    (opened-facts t d (s .rest) (s .opened) .0, opened-only t d (s .rest) (s .opened) .0)
+pub reads : (σ : Settings) (t : List ℕ) (d : Description) (rs : List Record) → Accepts σ t d rs → (16 ≤ length t) × (d ≡ readDescription (σ .chip) (byte t))
+reads σ t d rs a =
+    let p = accepts-passed σ t d rs a in
+    let s = table-split (σ .chip) t d rs (p .limit) (p .fits) (described-kind (σ .chip) d (p .described)) in
+    (opened-facts (σ .chip) t d (s .rest) (s .opened) .0, opened-only (σ .chip) t d (s .rest) (s .opened) .0)
 
 -- what is left at a place: its layout is the rest of the bytes, and it keeps the rules after what lies behind
 fits-from : (t : List ℕ) (d : Description) (done left : List Record) → Fits t (table d (done ++ left)) → Fits (drop (placeAfter done) t) (layouts left)
@@ -44,28 +45,28 @@ fits-from t d done left f =
     ∙ drop-drop (length (layouts done)) 16 t in
     subst (λ (l : List ℕ). Fits l (layouts left)) e (b .2)
 
-kept-from : (before done left : List Record) → PassKept before (done ++ left) → PassKept (before ++ done) left
-kept-from before [] left h = subst (λ (l : List Record). PassKept l left) (sym (append-nil before)) h
-kept-from before (r ∷ done) left h =
-    subst (λ (l : List Record). PassKept l left) (append-assoc before (r ∷ []) done) (kept-from (before ++ r ∷ []) done left (h .2))
+kept-from : (σ : Settings) (before done left : List Record) → PassKept σ before (done ++ left) → PassKept σ (before ++ done) left
+kept-from σ before [] left h = subst (λ (l : List Record). PassKept σ l left) (sym (append-nil before)) h
+kept-from σ before (r ∷ done) left h =
+    subst (λ (l : List Record). PassKept σ l left) (append-assoc before (r ∷ []) done) (kept-from σ (before ++ r ∷ []) done left (h .2))
 
 -- the element at a place, its bytes, and what is left after it
-pub record Next (t : List ℕ) (at : ℕ) (done left : List Record) : Type 0 where
+pub record Next (σ : Settings) (t : List ℕ) (at : ℕ) (done left : List Record) : Type 0 where
   pub r : Record
   pub others : List Record
   pub same : left ≡ r ∷ others
-  pub here : Here t at r
+  pub here : Here (σ .chip) t at r
   pub bytes : Fits (take (stated (drop at t)) (drop at t)) (layout r)
-  pub keeps : elementBreaks done r ≡ none
+  pub keeps : elementBreaks σ done r ≡ none
 
 first-left :
-    (t : List ℕ) (at : ℕ) (done left : List Record)
+    (σ : Settings) (t : List ℕ) (at : ℕ) (done left : List Record)
     → Fits (drop at t) (layouts left)
-    → PassKept done left
+    → PassKept σ done left
     → at < length t
-    → Next t at done left
-first-left t at done [] f k h = absurd (omega (arith, length-drop at t, ap length f))
-first-left t at done (r ∷ rs) f k h =
+    → Next σ t at done left
+first-left σ t at done [] f k h = absurd (omega (arith, length-drop at t, ap length f))
+first-left σ t at done (r ∷ rs) f k h =
     let bs = drop at t in
     let c = starts-split bs (layout r) (layouts rs) [] f in
     let n = starts-stated bs r (c .0) (c .1) in
@@ -75,7 +76,7 @@ first-left t at done (r ∷ rs) f k h =
       same = refl;
       here =
           record {
-            stands = record { rest = c .0; starts = c .1; kind = unbroken-kind done r (k .1) };
+            stands = record { rest = c .0; starts = c .1; kind = unbroken-kind σ done r (k .1) };
             size = n;
             within = omega (arith, n, starts-length bs (layout r) (c .0) (c .1), length-drop at t);
           };
@@ -84,39 +85,39 @@ first-left t at done (r ∷ rs) f k h =
     }
 
 -- all records of the table lie behind
-pub record Whole (t : List ℕ) (S : List Record → List Record → Type 0) : Type 0 where
+pub record Whole (σ : Settings) (t : List ℕ) (S : List Record → List Record → Type 0) : Type 0 where
   pub d : Description
   pub rs : List Record
-  pub accepts : Accepts t d rs
+  pub accepts : Accepts σ t d rs
   pub state : S rs []
 
 pub begin :
-    (t : List ℕ) (S : List Record → List Record → Type 0) {n : ℕ}
-    → Verdict t (Accepted n)
+    (σ : Settings) (t : List ℕ) (S : List Record → List Record → Type 0) {n : ℕ}
+    → Verdict σ t (Accepted n)
     → ((rs : List Record) → length rs ≡ n → S [] rs)
-    → Walk t 16 S
-begin t S (accepted d rs a) s = record { d = d; done = []; left = rs; accepts = a; place = refl; state = s rs refl }
+    → Walk σ t 16 S
+begin σ t S (accepted d rs a) s = record { d = d; done = []; left = rs; accepts = a; place = refl; state = s rs refl }
 
-module _ (t : List ℕ) (at : ℕ) (S : List Record → List Record → Type 0) (w : Walk t at S) where
+module _ (σ : Settings) (t : List ℕ) (at : ℕ) (S : List Record → List Record → Type 0) (w : Walk σ t at S) where
   pub top : length t ≤ 4096
-  top = accepts-passed t (w .d) (w .done ++ w .left) (w .accepts) .limit
+  top = accepts-passed σ t (w .d) (w .done ++ w .left) (w .accepts) .limit
 
-  pub next : at < length t → Next t at (w .done) (w .left)
+  pub next : at < length t → Next σ t at (w .done) (w .left)
   next h =
-      first-left t at (w .done) (w .left)
+      first-left σ t at (w .done) (w .left)
       (subst (λ (n : ℕ). Fits (drop n t) (layouts (w .left))) (sym (w .place)) (fits-from t (w .d) (w .done) (w .left) (w .accepts .fits)))
-      (kept-from [] (w .done) (w .left) (w .accepts .keeps .passed))
+      (kept-from σ [] (w .done) (w .left) (w .accepts .keeps .passed))
       h
 
-  pub here : at < length t → (x : Record) × Here t at x
+  pub here : at < length t → (x : Record) × Here (σ .chip) t at x
   here h = (next h .r, next h .here)
 
   pub onward :
       (S′ : List Record → List Record → Type 0) {n : ℕ}
       → at < length t
       → n ≡ stated (drop at t)
-      → ((g : Next t at (w .done) (w .left)) → S′ (w .done ++ g .r ∷ []) (g .others))
-      → Walk t (at + n) S′
+      → ((g : Next σ t at (w .done) (w .left)) → S′ (w .done ++ g .r ∷ []) (g .others))
+      → Walk σ t (at + n) S′
   onward S′ {n} h e step =
       let g = next h in
       let all : w .done ++ w .left ≡ (w .done ++ g .r ∷ []) ++ g .others =
@@ -125,7 +126,7 @@ module _ (t : List ℕ) (at : ℕ) (S : List Record → List Record → Type 0) 
         d = w .d;
         done = w .done ++ g .r ∷ [];
         left = g .others;
-        accepts = subst (λ (l : List Record). Accepts t (w .d) l) all (w .accepts);
+        accepts = subst (λ (l : List Record). Accepts σ t (w .d) l) all (w .accepts);
         place = omega (arith, w .place, e, g .here .size, snoc-length (w .done) (g .r));
         state = step g;
       }
@@ -148,9 +149,9 @@ module _ (t : List ℕ) (at : ℕ) (S : List Record → List Record → Type 0) 
       go [] e h = absurd (omega arith)
       go (r ∷ left) e h = omega arith
 
-  pub ended : length t ≤ at → Whole t S
+  pub ended : length t ≤ at → Whole σ t S
   ended h = go (w .left) rest-length (w .accepts) (w .state)
     where
-      go : (left : List Record) → length t ≡ at + length (layouts left) → Accepts t (w .d) (w .done ++ left) → S (w .done) left → Whole t S
-      go [] e a s = record { d = w .d; rs = w .done; accepts = subst (λ (l : List Record). Accepts t (w .d) l) (append-nil (w .done)) a; state = s }
+      go : (left : List Record) → length t ≡ at + length (layouts left) → Accepts σ t (w .d) (w .done ++ left) → S (w .done) left → Whole σ t S
+      go [] e a s = record { d = w .d; rs = w .done; accepts = subst (λ (l : List Record). Accepts σ t (w .d) l) (append-nil (w .done)) a; state = s }
       go (r ∷ left) e a s = absurd (omega arith)

@@ -15,7 +15,7 @@ use Rattle.format.specs.Layout.{opening, fixed}
 use Rattle.format.specs.Rules.{numbered, ownRules, descriptionRules, descriptionRoomy, elementRoomy}
 use Rattle.format.specs.Table.{descriptionBreaks}
 use Rattle.format.specs.Verdict.{stated}
-use Rattle.format.specs.Writing.{assemble, assembledBreaks, partBreaks, elementSlots, orRefused, unlessBrokenAt, hasRoom, lengthStands, newLength, startAnswer, startLeaves, appendAnswer, appendLeaves, overwritten}
+use Rattle.format.specs.Writing.{writing, assemble, assembledBreaks, partBreaks, elementSlots, orRefused, unlessBrokenAt, hasRoom, lengthStands, newLength, startAnswer, startLeaves, appendAnswer, appendLeaves, overwritten}
 use Rattle.format.specs.declared.records.Description.{Description}
 use Rattle.format.specs.declared.records.Element.{Element}
 use Rattle.format.specs.declared.records.Element.the-variants.{Digital, Analogue, Fan, Led, Current, Controller, Tachometer, Zone, Text, Rgb}
@@ -23,26 +23,28 @@ use Rattle.format.specs.declared.answers.Written.{Written}
 use Rattle.format.specs.declared.answers.Written.the-variants.{Length, Refused}
 use Rattle.format.proofs.Kept.{and-true, zero-none, some-number, own-numbered, description-numbered}
 use Rattle.writer.specs.Calls.{Started, Appended, roomAnswer}
+use Rattle.format.specs.declared.pins.Chip.{Chip}
+use Rattle.format.specs.declared.settings.Settings.{Settings}
 
 -- 0 is no rule's number
-description-none : (d : Description) → numbered (descriptionBreaks d) ≡ 0 → descriptionBreaks d ≡ none
-description-none d h = zero-none (descriptionRules d) (description-numbered d) h
+description-none : (c : Chip) (d : Description) → numbered (descriptionBreaks c d) ≡ 0 → descriptionBreaks c d ≡ none
+description-none c d h = zero-none (descriptionRules c d) (description-numbered c d) h
 
-part-none : (e : Element) (p : List ℕ) → numbered (partBreaks e p) ≡ 0 → partBreaks e p ≡ none
+part-none : (s : Settings) (e : Element) (p : List ℕ) → numbered (partBreaks s e p) ≡ 0 → partBreaks s e p ≡ none
 unfolding partBreaks
-part-none e p h = go (assemble e p) h
+part-none s e p h = go (assemble e p) h
   where
-    go : (o : Option Record) → numbered (assembledBreaks o) ≡ 0 → assembledBreaks o ≡ none
+    go : (o : Option Record) → numbered (assembledBreaks s o) ≡ 0 → assembledBreaks s o ≡ none
     go none k = absurd (omega (arith, k))
-    go (some r) k = zero-none (ownRules r) (own-numbered r) k
+    go (some r) k = zero-none (ownRules s r) (own-numbered s r) k
 
 -- start
-module _ (b : List ℕ) (d : Description) where
-  pub start-1 : length b < 16 → Refused 1 0 ≡ startAnswer b d
+module _ (c : Chip) (b : List ℕ) (d : Description) where
+  pub start-1 : length b < 16 → Refused 1 0 ≡ startAnswer c b d
   unfolding startAnswer
   start-1 h = sym (simp (lt-leb 16 (length b) h))
 
-  pub start-25 : 16 ≤ length b → descriptionRoomy d ≡ false → Refused 25 0 ≡ startAnswer b d
+  pub start-25 : 16 ≤ length b → descriptionRoomy d ≡ false → Refused 25 0 ≡ startAnswer c b d
   unfolding startAnswer
   start-25 h k = sym (rw (le-leb 16 (length b) h, k) refl)
 
@@ -50,18 +52,18 @@ module _ (b : List ℕ) (d : Description) where
       16 ≤ length b
       → descriptionRoomy d ≡ true
       → (f : ℕ)
-      → f ≡ numbered (descriptionBreaks d)
+      → f ≡ numbered (descriptionBreaks c d)
       → (f ≡ 0 → ⊥)
-      → Refused f 0 ≡ startAnswer b d
+      → Refused f 0 ≡ startAnswer c b d
   unfolding startAnswer
   start-fault h k f e n =
-      let q : descriptionBreaks d ≡ some f = some-number (descriptionBreaks d) (λ z. n (e ∙ z)) ∙ ap some (sym e) in
+      let q : descriptionBreaks c d ≡ some f = some-number (descriptionBreaks c d) (λ z. n (e ∙ z)) ∙ ap some (sym e) in
       sym (rw (le-leb 16 (length b) h, k, q) refl)
 
   pub start-16 :
-      16 ≤ length b → descriptionRoomy d ≡ true → (f : ℕ) → f ≡ numbered (descriptionBreaks d) → f ≡ 0 → Length 16 ≡ startAnswer b d
+      16 ≤ length b → descriptionRoomy d ≡ true → (f : ℕ) → f ≡ numbered (descriptionBreaks c d) → f ≡ 0 → Length 16 ≡ startAnswer c b d
   unfolding startAnswer
-  start-16 h k f e z = sym (rw (le-leb 16 (length b) h, k, description-none d (sym e ∙ z)) refl)
+  start-16 h k f e z = sym (rw (le-leb 16 (length b) h, k, description-none c d (sym e ∙ z)) refl)
 
 -- the length of the fixed fields
 pub fixed-short : (e : Element) → length (fixed e) ≤ 18
@@ -96,31 +98,31 @@ module _ (b : List ℕ) (n : ℕ) (e : Element) (p : List ℕ) where
       (sym (rw (le-leb (n + length (elementSlots e p)) (length b) (omega arith), le-leb (n + length (elementSlots e p)) 4096 (omega arith)) refl))
 
 -- append
-module _ (b : List ℕ) (e : Element) (p : List ℕ) where
-  pub append-1 : length b < 16 → Refused 1 0 ≡ appendAnswer b e p
+module _ (c : Chip) (b : List ℕ) (e : Element) (p : List ℕ) where
+  pub append-1 : length b < 16 → Refused 1 0 ≡ appendAnswer c b e p
   unfolding appendAnswer
   append-1 h = sym (simp (lt-leb 16 (length b) h))
 
   module _ (long : 16 ≤ length b) where
-    pub append-3 : lengthStands b ≡ false → Refused 3 0 ≡ appendAnswer b e p
+    pub append-3 : lengthStands b ≡ false → Refused 3 0 ≡ appendAnswer c b e p
     unfolding appendAnswer
     append-3 k = sym (rw (le-leb 16 (length b) long, k) refl)
 
     module _ (stands : lengthStands b ≡ true) where
-      pub append-25 : elementRoomy e ≡ false → Refused 25 0 ≡ appendAnswer b e p
+      pub append-25 : elementRoomy e ≡ false → Refused 25 0 ≡ appendAnswer c b e p
       unfolding appendAnswer
       append-25 k = sym (rw (le-leb 16 (length b) long, stands, k) refl)
 
-      module _ (h : elementRoomy e ≡ true) (f : ℕ) (q : f ≡ numbered (partBreaks e p)) where
-        pub append-fault : (f ≡ 0 → ⊥) → Refused f (stated b) ≡ appendAnswer b e p
+      module _ (h : elementRoomy e ≡ true) (f : ℕ) (q : f ≡ numbered (partBreaks (writing c) e p)) where
+        pub append-fault : (f ≡ 0 → ⊥) → Refused f (stated b) ≡ appendAnswer c b e p
         unfolding appendAnswer
         append-fault n =
-            let w : partBreaks e p ≡ some f = some-number (partBreaks e p) (λ z. n (q ∙ z)) ∙ ap some (sym q) in
+            let w : partBreaks (writing c) e p ≡ some f = some-number (partBreaks (writing c) e p) (λ z. n (q ∙ z)) ∙ ap some (sym q) in
             sym (rw (le-leb 16 (length b) long, stands, h, w) refl)
 
-        pub append-room : f ≡ 0 → roomAnswer b (stated b) e p ≡ appendAnswer b e p
+        pub append-room : f ≡ 0 → roomAnswer b (stated b) e p ≡ appendAnswer c b e p
         unfolding appendAnswer
-        append-room z = sym (rw (le-leb 16 (length b) long, stands, h, part-none e p (sym q ∙ z)) refl)
+        append-room z = sym (rw (le-leb 16 (length b) long, stands, h, part-none (writing c) e p (sym q ∙ z)) refl)
 
 -- append, where the length so far is a number that was read
 abbrev standsAt : List ℕ → ℕ → Bool
@@ -129,23 +131,23 @@ standsAt b n = leb 16 n && (leb n 4096 && leb n (length b))
 pub at-most : (b : List ℕ) (n : ℕ) → standsAt b n ≡ true → n ≤ 4096
 at-most b n h = leb-true n 4096 (and-true (leb n 4096) (leb n (length b)) (and-true (leb 16 n) _ h .1) .0)
 
-module _ (b : List ℕ) (e : Element) (p : List ℕ) (long : 16 ≤ length b) (n : ℕ) (is : n ≡ stated b) where
+module _ (c : Chip) (b : List ℕ) (e : Element) (p : List ℕ) (long : 16 ≤ length b) (n : ℕ) (is : n ≡ stated b) where
   stands : (t : Bool) → standsAt b n ≡ t → lengthStands b ≡ t
   stands t h = subst (λ (k : ℕ). standsAt b k ≡ t) is h
 
-  pub read-3 : standsAt b n ≡ false → Refused 3 0 ≡ appendAnswer b e p
-  read-3 h = append-3 b e p long (stands false h)
+  pub read-3 : standsAt b n ≡ false → Refused 3 0 ≡ appendAnswer c b e p
+  read-3 h = append-3 c b e p long (stands false h)
 
   module _ (h : standsAt b n ≡ true) where
-    pub read-25 : elementRoomy e ≡ false → Refused 25 0 ≡ appendAnswer b e p
-    read-25 k = append-25 b e p long (stands true h) k
+    pub read-25 : elementRoomy e ≡ false → Refused 25 0 ≡ appendAnswer c b e p
+    read-25 k = append-25 c b e p long (stands true h) k
 
-    module _ (k : elementRoomy e ≡ true) (f : ℕ) (q : f ≡ numbered (partBreaks e p)) where
-      pub read-fault : (f ≡ 0 → ⊥) → Refused f n ≡ appendAnswer b e p
-      read-fault z = ap (λ (m : ℕ). Refused f m) is ∙ append-fault b e p long (stands true h) k f q z
+    module _ (k : elementRoomy e ≡ true) (f : ℕ) (q : f ≡ numbered (partBreaks (writing c) e p)) where
+      pub read-fault : (f ≡ 0 → ⊥) → Refused f n ≡ appendAnswer c b e p
+      read-fault z = ap (λ (m : ℕ). Refused f m) is ∙ append-fault c b e p long (stands true h) k f q z
 
-      pub read-room : f ≡ 0 → (r : Written) → r ≡ roomAnswer b n e p → r ≡ appendAnswer b e p
-      read-room z r w = w ∙ ap (λ (m : ℕ). roomAnswer b m e p) is ∙ append-room b e p long (stands true h) k f q z
+      pub read-room : f ≡ 0 → (r : Written) → r ≡ roomAnswer b n e p → r ≡ appendAnswer c b e p
+      read-room z r w = w ∙ ap (λ (m : ℕ). roomAnswer b m e p) is ∙ append-room c b e p long (stands true h) k f q z
 
 pub record Good (b : List ℕ) (e : Element) (p : List ℕ) (m : ℕ) : Type 0 where
   pub long : 16 ≤ length b
@@ -163,9 +165,9 @@ broken-length : (o : Option ℕ) (p : ℕ) (w : Written) (m : ℕ) → unlessBro
 broken-length none p w m h = h
 broken-length (some k) p w m h = let z : _≡_ {A = ℕ} 0 1 = cc in absurd (omega arith)
 
-pub start-good : (b : List ℕ) (d : Description) (m : ℕ) → startAnswer b d ≡ Length m → (16 ≤ length b) × (descriptionRoomy d ≡ true)
+pub start-good : (c : Chip) (b : List ℕ) (d : Description) (m : ℕ) → startAnswer c b d ≡ Length m → (16 ≤ length b) × (descriptionRoomy d ≡ true)
 unfolding startAnswer
-start-good b d m h =
+start-good c b d m h =
     let x = or-length (leb 16 (length b)) 1 0 _ m h in
     let y = or-length (descriptionRoomy d) 25 0 _ m (x .1) in
     (leb-true 16 (length b) (x .0), y .0)
@@ -174,21 +176,21 @@ broken-none : (o : Option ℕ) (p : ℕ) (w : Written) (m : ℕ) → unlessBroke
 broken-none none p w m h = refl
 broken-none (some k) p w m h = let z : _≡_ {A = ℕ} 0 1 = cc in absurd (omega arith)
 
-pub unbroken : (b : List ℕ) (e : Element) (p : List ℕ) (m : ℕ) → appendAnswer b e p ≡ Length m → partBreaks e p ≡ none
+pub unbroken : (c : Chip) (b : List ℕ) (e : Element) (p : List ℕ) (m : ℕ) → appendAnswer c b e p ≡ Length m → partBreaks (writing c) e p ≡ none
 unfolding appendAnswer
-unbroken b e p m h =
+unbroken c b e p m h =
     let x = or-length (leb 16 (length b)) 1 0 _ m h in
     let y = or-length (lengthStands b) 3 0 _ m (x .1) in
     let z = or-length (elementRoomy e) 25 0 _ m (y .1) in
-    broken-none (partBreaks e p) (stated b) _ m (z .1)
+    broken-none (partBreaks (writing c) e p) (stated b) _ m (z .1)
 
-pub good : (b : List ℕ) (e : Element) (p : List ℕ) (m : ℕ) → appendAnswer b e p ≡ Length m → Good b e p m
+pub good : (c : Chip) (b : List ℕ) (e : Element) (p : List ℕ) (m : ℕ) → appendAnswer c b e p ≡ Length m → Good b e p m
 unfolding appendAnswer
-good b e p m h =
+good c b e p m h =
     let x = or-length (leb 16 (length b)) 1 0 _ m h in
     let y = or-length (lengthStands b) 3 0 _ m (x .1) in
     let z = or-length (elementRoomy e) 25 0 _ m (y .1) in
-    let w = broken-length (partBreaks e p) (stated b) _ m (z .1) in
+    let w = broken-length (partBreaks (writing c) e p) (stated b) _ m (z .1) in
     let v = or-length (hasRoom b (newLength b e p)) 16 0 _ m w in
     let r = and-true (leb (newLength b e p) (length b)) (leb (newLength b e p) 4096) (v .0) in
     let s = and-true (leb 16 (stated b)) _ (y .0) in
@@ -204,21 +206,21 @@ good b e p m h =
 
 -- an answer with a length, and the bytes that are left
 pub started :
-    (b : List ℕ) (d : Description) (r : Written) (after : List ℕ) (m : ℕ)
-    → r ≡ startAnswer b d
+    (c : Chip) (b : List ℕ) (d : Description) (r : Written) (after : List ℕ) (m : ℕ)
+    → r ≡ startAnswer c b d
     → r ≡ Length m
     → after ≡ overwritten 0 (written (opening d 16)) b
-    → Started b d r after
-started b d r after m h q e = record { answer = h; leaves = e ∙ sym (ap (λ (v : Written). startLeaves v b d) q) }
+    → Started c b d r after
+started c b d r after m h q e = record { answer = h; leaves = e ∙ sym (ap (λ (v : Written). startLeaves v b d) q) }
 
 pub appended :
-    (b : List ℕ) (e : Element) (p : List ℕ) (m n : ℕ) (between after : List ℕ)
-    → appendAnswer b e p ≡ Length m
+    (c : Chip) (b : List ℕ) (e : Element) (p : List ℕ) (m n : ℕ) (between after : List ℕ)
+    → appendAnswer c b e p ≡ Length m
     → n ≡ stated b
     → between ≡ overwritten n (written (elementSlots e p)) b
     → after ≡ overwritten 1 (written (word m)) between
-    → Appended b e p (Length m) after
-appended b e p m n between after h is laid l =
+    → Appended c b e p (Length m) after
+appended c b e p m n between after h is laid l =
     record {
       answer = sym h;
       leaves =
@@ -228,9 +230,9 @@ appended b e p m n between after h is laid l =
     }
 
 -- a refusal, and no byte altered
-pub not-started : (b : List ℕ) (d : Description) (r : Written) (k m : ℕ) → r ≡ startAnswer b d → r ≡ Refused k m → Started b d r b
-not-started b d r k m h q = record { answer = h; leaves = sym (ap (λ (v : Written). startLeaves v b d) q) }
+pub not-started : (c : Chip) (b : List ℕ) (d : Description) (r : Written) (k m : ℕ) → r ≡ startAnswer c b d → r ≡ Refused k m → Started c b d r b
+not-started c b d r k m h q = record { answer = h; leaves = sym (ap (λ (v : Written). startLeaves v b d) q) }
 
 pub not-appended :
-    (b : List ℕ) (e : Element) (p : List ℕ) (r : Written) (k m : ℕ) → r ≡ appendAnswer b e p → r ≡ Refused k m → Appended b e p r b
-not-appended b e p r k m h q = record { answer = h; leaves = sym (ap (λ (v : Written). appendLeaves v b e p) q) }
+    (c : Chip) (b : List ℕ) (e : Element) (p : List ℕ) (r : Written) (k m : ℕ) → r ≡ appendAnswer c b e p → r ≡ Refused k m → Appended c b e p r b
+not-appended c b e p r k m h q = record { answer = h; leaves = sym (ap (λ (v : Written). appendLeaves v b e p) q) }

@@ -1,4 +1,5 @@
--- The words of the writer's calls: the answer and every byte that is left, for refusals as for success.
+-- The words of the writer's calls: the answer and every byte that is left, for refusals as for success. The caller names
+-- the chip.
 -- Assumes nothing.
 use Prim.Native.Nat.{ℕ, _+_}
 use mathlib.Core.Path.{_≡_}
@@ -9,13 +10,14 @@ use Rattle.format.specs.declared.records.Description.{Description}
 use Rattle.format.specs.declared.records.Element.{Element}
 use Rattle.format.specs.declared.answers.Written.{Written}
 use Rattle.format.specs.declared.answers.Written.the-variants.{Length}
+use Rattle.format.specs.declared.pins.Chip.{Chip}
 
-pub record Started (b : List ℕ) (d : Description) (r : Written) (after : List ℕ) : Type 0 where
-  pub answer : r ≡ startAnswer b d
+pub record Started (c : Chip) (b : List ℕ) (d : Description) (r : Written) (after : List ℕ) : Type 0 where
+  pub answer : r ≡ startAnswer c b d
   pub leaves : after ≡ startLeaves r b d
 
-pub record Appended (b : List ℕ) (e : Element) (p : List ℕ) (r : Written) (after : List ℕ) : Type 0 where
-  pub answer : r ≡ appendAnswer b e p
+pub record Appended (c : Chip) (b : List ℕ) (e : Element) (p : List ℕ) (r : Written) (after : List ℕ) : Type 0 where
+  pub answer : r ≡ appendAnswer c b e p
   pub leaves : after ≡ appendLeaves r b e p
 
 -- 16, or the new length

@@ -1,5 +1,5 @@
 // Writing a table into a lent buffer: start it, append an element. A refusal leaves every byte as it was: everything is decided
-// before a byte is written.
+// before a byte is written. The caller names the chip, and a pin of the other one is 10.
 ghost use mathlib.Core.Path.{_≡_};
 ghost use Prim.Native.Nat.{_<_, _≤_};
 ghost use lib.ListN.{length};
@@ -7,13 +7,15 @@ ghost use Rattle.format.specs.Verdict.{stated};
 ghost use Rattle.format.specs.Writing.{startAnswer, appendAnswer};
 ghost use Rattle.writer.specs.Calls.{Started, Appended, roomAnswer};
 use format::answers::Written;
+use format::pins::Chip;
 use format::records::Description;
 use format::records::Element;
+use format::settings::Settings;
 use words::wide;
 
 // What starting a table answers.
-fn start_verdict(buffer: &[u8], d: Description) -> Written
-    ensures { λ r. ⌜ r ≡ startAnswer (now (buffer .entry)) d ⌝ }
+fn start_verdict(buffer: &[u8], d: Description, chip: Chip) -> Written
+    ensures { λ r. ⌜ r ≡ startAnswer chip (now (buffer .entry)) d ⌝ }
 {
     if buffer.len() < 16 {
         return Written::Refused(1, 0);
@@ -21,7 +23,7 @@ fn start_verdict(buffer: &[u8], d: Description) -> Written
     if !checks::description_roomy(d) {
         return Written::Refused(25, 0);
     }
-    let fault = rules::description_breaks(d);
+    let fault = rules::description_breaks(d, chip);
     if fault != 0 {
         return Written::Refused(fault, 0);
     }
@@ -29,10 +31,10 @@ fn start_verdict(buffer: &[u8], d: Description) -> Written
 }
 
 // Starts a table: its description, with length 16. Answers 0 with the length, or 1, 25, 4, 5, 10 at 0.
-pub fn start(buffer: &mut [u8], d: Description) -> Written
-    ensures { λ r. ⌜ Started (now (buffer .entry)) d r (now (buffer .exit)) ⌝ }
+pub fn start(buffer: &mut [u8], d: Description, chip: Chip) -> Written
+    ensures { λ r. ⌜ Started chip (now (buffer .entry)) d r (now (buffer .exit)) ⌝ }
 {
-    let answer = start_verdict(buffer, d);
+    let answer = start_verdict(buffer, d, chip);
     let Written::Length(_) = answer else {
         return answer;
     };
@@ -67,8 +69,8 @@ fn room(buffer: &[u8], n: usize, e: Element, part: &[u8]) -> Written
 }
 
 // What appending an element answers.
-fn append_verdict(buffer: &[u8], e: Element, part: &[u8]) -> Written
-    ensures { λ r. ⌜ r ≡ appendAnswer (now (buffer .entry)) e (now (part .entry)) ⌝ }
+fn append_verdict(buffer: &[u8], e: Element, part: &[u8], chip: Chip) -> Written
+    ensures { λ r. ⌜ r ≡ appendAnswer chip (now (buffer .entry)) e (now (part .entry)) ⌝ }
 {
     if buffer.len() < 16 {
         return Written::Refused(1, 0);
@@ -80,7 +82,7 @@ fn append_verdict(buffer: &[u8], e: Element, part: &[u8]) -> Written
     if !checks::element_roomy(e) {
         return Written::Refused(25, 0);
     }
-    let fault = checks::part_breaks(e, part);
+    let fault = checks::part_breaks(e, part, Settings { chip });
     if fault != 0 {
         return Written::Refused(fault, n);
     }
@@ -89,10 +91,10 @@ fn append_verdict(buffer: &[u8], e: Element, part: &[u8]) -> Written
 
 // Appends one element, with its variable part, to a table whose length so far stands in bytes 1-2. Answers 0 with the new
 // length, or 1, 3, 25, 8, 9, 10, 16.
-pub fn append(buffer: &mut [u8], e: Element, part: &[u8]) -> Written
-    ensures { λ r. ⌜ Appended (now (buffer .entry)) e (now (part .entry)) r (now (buffer .exit)) ⌝ }
+pub fn append(buffer: &mut [u8], e: Element, part: &[u8], chip: Chip) -> Written
+    ensures { λ r. ⌜ Appended chip (now (buffer .entry)) e (now (part .entry)) r (now (buffer .exit)) ⌝ }
 {
-    let answer = append_verdict(buffer, e, part);
+    let answer = append_verdict(buffer, e, part, chip);
     let Written::Length(m) = answer else {
         return answer;
     };

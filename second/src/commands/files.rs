@@ -4,10 +4,11 @@ use super::options::Options;
 use super::End;
 use second::generator;
 use second::random::Random;
+use second::{Chip, Settings};
 use std::path::Path;
 
 /// One line for each file: number, place or count, file.
-pub fn check(files: &[String]) -> End {
+pub fn check(settings: Settings, files: &[String]) -> End {
     if files.is_empty() {
         return End::Misused("name one file or more".into());
     }
@@ -15,7 +16,7 @@ pub fn check(files: &[String]) -> End {
     for file in files {
         match std::fs::read(file) {
             Ok(table) => {
-                let verdict = second::check(&table);
+                let verdict = second::check(&table, settings);
                 println!("{}\t{}\t{file}", verdict.number(), verdict.beside());
             }
             Err(why) => {
@@ -27,7 +28,7 @@ pub fn check(files: &[String]) -> End {
     end
 }
 
-type Make = fn(&mut Random) -> Vec<u8>;
+type Make = fn(&mut Random, Chip) -> Vec<u8>;
 
 fn maker(kind: &str) -> Result<Make, String> {
     match kind {
@@ -40,9 +41,9 @@ fn maker(kind: &str) -> Result<Make, String> {
     }
 }
 
-/// Writes generated tables as files `KIND-000000.bin` and so on.
-pub fn make(arguments: &[String]) -> End {
-    match try_make(arguments) {
+/// Writes tables generated for the chip as files `KIND-000000.bin` and so on.
+pub fn make(settings: Settings, arguments: &[String]) -> End {
+    match try_make(settings.chip, arguments) {
         Ok(Ok(())) => End::Good,
         Ok(Err(why)) => {
             eprintln!("second: cannot write: {why}");
@@ -52,7 +53,7 @@ pub fn make(arguments: &[String]) -> End {
     }
 }
 
-fn try_make(arguments: &[String]) -> Result<std::io::Result<()>, String> {
+fn try_make(chip: Chip, arguments: &[String]) -> Result<std::io::Result<()>, String> {
     let options = Options::read(arguments, &["seed", "count"])?;
     let [kind, directory] = options.others.as_slice() else {
         return Err("name a kind and a directory".into());
@@ -61,7 +62,7 @@ fn try_make(arguments: &[String]) -> Result<std::io::Result<()>, String> {
     let mut random = Random::new(options.number("seed")?);
     let count = options.number("count")?;
     Ok(write_all(kind, Path::new(directory), count, || {
-        make(&mut random)
+        make(&mut random, chip)
     }))
 }
 

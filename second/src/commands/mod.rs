@@ -7,10 +7,11 @@ mod own;
 mod rows;
 mod stream;
 
+use second::Settings;
 use std::process::ExitCode;
 
 const USAGE: &str = "\
-use: second COMMAND
+use: second COMMAND [--chip 320|321] ...
   list                                       list the table on standard input
   rewrite                                    write the table on standard input again
   check FILE...                              number, place or count, and file, one line each
@@ -19,6 +20,7 @@ use: second COMMAND
                                              damaged or any
   self --seed S --count N                    hold the program's own parts against each other
   bench                                      time the reader
+The chip is the 320 if none is named. Tables are made, read and written for it.
 ";
 
 /// A command's end: good, a failure already told, or a misuse to be told with the usage.
@@ -32,7 +34,10 @@ pub enum End {
 pub fn run(arguments: &[String]) -> ExitCode {
     let end = match arguments.split_first() {
         None => End::Misused("a command is missing".into()),
-        Some((command, rest)) => dispatch(command, rest),
+        Some((command, rest)) => match options::settings(rest) {
+            Ok((settings, rest)) => dispatch(command, settings, rest),
+            Err(why) => End::Misused(why),
+        },
     };
     match end {
         End::Good => ExitCode::SUCCESS,
@@ -44,15 +49,15 @@ pub fn run(arguments: &[String]) -> ExitCode {
     }
 }
 
-fn dispatch(command: &str, rest: &[String]) -> End {
+fn dispatch(command: &str, settings: Settings, rest: &[String]) -> End {
     match command {
-        "list" => stream::list(rest),
-        "rewrite" => stream::rewrite(rest),
-        "check" => files::check(rest),
-        "rows" => rows::rows(rest),
-        "make" => files::make(rest),
-        "self" => own::own(rest),
-        "bench" => bench::bench(rest),
+        "list" => stream::list(settings, rest),
+        "rewrite" => stream::rewrite(settings, rest),
+        "check" => files::check(settings, rest),
+        "rows" => rows::rows(settings, rest),
+        "make" => files::make(settings, rest),
+        "self" => own::own(settings, rest),
+        "bench" => bench::bench(settings, rest),
         _ => End::Misused(format!("there is no command '{command}'")),
     }
 }

@@ -1,4 +1,25 @@
-//! Options of the form `--name number`, and the other arguments.
+//! The chip, options of the form `--name number`, and the other arguments.
+
+use second::{Chip, Settings};
+
+/// Takes `--chip 320` or `--chip 321` off the front; the 320 if none is named. Elsewhere it may not stand.
+pub fn settings(arguments: &[String]) -> Result<(Settings, &[String]), String> {
+    let (settings, rest) = match arguments {
+        [option, rest @ ..] if option == "--chip" => {
+            let (word, rest) = rest
+                .split_first()
+                .ok_or("'--chip' wants 320 or 321 after it")?;
+            let named = Chip::BOTH.into_iter().find(|chip| word == chip.digits());
+            let chip = named.ok_or(format!("there is no chip '{word}', only 320 and 321"))?;
+            (Settings::from(chip), rest)
+        }
+        _ => (Settings::default(), arguments),
+    };
+    match rest.iter().any(|argument| argument == "--chip") {
+        true => Err("'--chip' stands once, right behind the command".into()),
+        false => Ok((settings, rest)),
+    }
+}
 
 /// The arguments of a command, taken apart.
 pub struct Options {

@@ -5,9 +5,9 @@ use super::End;
 use second::generator;
 use second::histogram::Histogram;
 use second::random::Random;
-use second::{plain, Verdict};
+use second::{plain, Settings, Verdict};
 
-pub fn own(arguments: &[String]) -> End {
+pub fn own(settings: Settings, arguments: &[String]) -> End {
     let (seed, count) = match read(arguments) {
         Ok(read) => read,
         Err(why) => return End::Misused(why),
@@ -16,10 +16,10 @@ pub fn own(arguments: &[String]) -> End {
     let mut histogram = Histogram::new();
     let mut differences = 0;
     for _ in 0..count {
-        let table = generator::any(&mut random);
-        let verdict = second::check(&table);
+        let table = generator::any(&mut random, settings.chip);
+        let verdict = second::check(&table, settings);
         histogram.add(verdict.number());
-        if let Err(what) = compare(&table, verdict) {
+        if let Err(what) = compare(&table, settings, verdict) {
             differences += 1;
             eprintln!("second: {what}: {table:02X?}");
         }
@@ -41,19 +41,19 @@ fn read(arguments: &[String]) -> Result<(u64, u64), String> {
 
 /// Fast against plain, of readers and listings; rewritten against written from its records, and once
 /// more; the listing's shape.
-fn compare(table: &[u8], fast: Verdict) -> Result<(), &'static str> {
-    if plain::check(table) != fast {
+fn compare(table: &[u8], settings: Settings, fast: Verdict) -> Result<(), &'static str> {
+    if plain::check(table, settings) != fast {
         return Err("the fast and the plain reader differ");
     }
     let mut out = vec![0xA5; table.len()];
-    match (second::rewrite(table, &mut out), fast) {
+    match (second::rewrite(table, settings, &mut out), fast) {
         (Ok(length), Verdict::Accepted(_)) if length == table.len() => (),
         (Err(refusal), Verdict::Refused { number, place })
             if (refusal.number, refusal.place) == (number, place) => {}
         _ => return Err("reader and rewriter differ"),
     }
-    let text = second::listing(table);
-    if text != plain::listing(table) {
+    let text = second::listing(table, settings);
+    if text != plain::listing(table, settings) {
         return Err("the fast and the plain listing differ");
     }
     let text = String::from_utf8(text).map_err(|_| "the listing is no text")?;
@@ -62,11 +62,11 @@ fn compare(table: &[u8], fast: Verdict) -> Result<(), &'static str> {
         return (text == only).then_some(()).ok_or("the R line is wrong");
     };
     let mut records = vec![0x5A; out.len()];
-    if second::rewrite_by_records(table, &mut records).is_err() || records != out {
+    if second::rewrite_by_records(table, settings, &mut records).is_err() || records != out {
         return Err("rewritten and written from its records differ");
     }
     let mut again = vec![0x5A; out.len()];
-    if second::rewrite(&out, &mut again).is_err() || again != out {
+    if second::rewrite(&out, settings, &mut again).is_err() || again != out {
         return Err("rewriting twice changes something");
     }
     shape(&text, count)

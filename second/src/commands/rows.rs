@@ -4,7 +4,7 @@ use super::options::Options;
 use super::End;
 use second::generator;
 use second::random::Random;
-use second::Verdict;
+use second::{Settings, Verdict};
 use std::collections::HashSet;
 use std::io::Write;
 
@@ -13,19 +13,21 @@ type Row = (Vec<u8>, Verdict);
 
 /// Rows gathered so far, each table once.
 struct Rows {
+    settings: Settings,
     rows: Vec<Row>,
     seen: HashSet<Vec<u8>>,
     count: usize,
     max: usize,
 }
 
-pub fn rows(arguments: &[String]) -> End {
+pub fn rows(settings: Settings, arguments: &[String]) -> End {
     let options = match read(arguments) {
         Ok(options) => options,
         Err(why) => return End::Misused(why),
     };
     let (seed, count, max) = options;
     let mut rows = Rows {
+        settings,
         rows: Vec::new(),
         seen: HashSet::new(),
         count,
@@ -53,11 +55,11 @@ fn read(arguments: &[String]) -> Result<(u64, usize, usize), String> {
 }
 
 /// The shortest targeted table with this answer.
-fn smallest(number: u8) -> Option<&'static Vec<u8>> {
+fn smallest(number: u8, settings: Settings) -> Option<&'static Vec<u8>> {
     generator::targeted()
         .iter()
         .map(|(_, table)| table)
-        .filter(|table| second::check(table).number() == number)
+        .filter(|table| second::check(table, settings).number() == number)
         .min_by_key(|table| table.len())
 }
 
@@ -72,14 +74,15 @@ impl Rows {
             return false;
         }
         self.seen.insert(table.to_vec());
-        self.rows.push((table.to_vec(), second::check(table)));
+        let verdict = second::check(table, self.settings);
+        self.rows.push((table.to_vec(), verdict));
         true
     }
 
     /// The shortest targeted table for each answer, so that each is there if it can be.
     fn smallest_of_each(&mut self) {
         for number in 0..=15 {
-            if let Some(table) = smallest(number) {
+            if let Some(table) = smallest(number, self.settings) {
                 self.take(table);
             }
         }
@@ -89,7 +92,8 @@ impl Rows {
     fn targeted(&mut self, random: &mut Random) {
         let mut piles: Vec<Vec<&[u8]>> = vec![Vec::new(); 16];
         for (_, table) in generator::targeted() {
-            piles[usize::from(second::check(table).number())].push(table);
+            let verdict = second::check(table, self.settings);
+            piles[usize::from(verdict.number())].push(table);
         }
         for pile in &mut piles {
             random.shuffle(pile);
@@ -109,7 +113,7 @@ impl Rows {
         // Small bounds leave few different tables; a long run without a new one is the end.
         while !self.full() && idle < 100_000 {
             idle += 1;
-            let table = generator::any(random);
+            let table = generator::any(random, self.settings.chip);
             if self.take(&table) {
                 idle = 0;
             }
@@ -130,7 +134,7 @@ impl Rows {
             if self.rows.iter().any(there) {
                 continue;
             }
-            let shortest = smallest(number).map_or(0, Vec::len);
+            let shortest = smallest(number, self.settings).map_or(0, Vec::len);
             eprintln!("second: answer {number} is left out: raise --count, or --max to {shortest}");
         }
     }

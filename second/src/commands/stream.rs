@@ -1,6 +1,7 @@
 //! `list` and `rewrite`: a table from standard input.
 
 use super::End;
+use second::Settings;
 use std::io::{Read, Write};
 
 /// Standard input up to 4,097 bytes. No more is needed: a table over 4,096 bytes answers 2 or 3 by
@@ -11,7 +12,7 @@ fn read_table() -> std::io::Result<Vec<u8>> {
     Ok(table)
 }
 
-fn transform(arguments: &[String], make: fn(&[u8]) -> Vec<u8>) -> End {
+fn transform(arguments: &[String], make: impl Fn(&[u8]) -> Vec<u8>) -> End {
     if let Some(other) = arguments.first() {
         return End::Misused(format!("'{other}' is one argument too many"));
     }
@@ -29,15 +30,15 @@ fn transform(arguments: &[String], make: fn(&[u8]) -> Vec<u8>) -> End {
     }
 }
 
-pub fn list(arguments: &[String]) -> End {
-    transform(arguments, second::listing)
+pub fn list(settings: Settings, arguments: &[String]) -> End {
+    transform(arguments, |table| second::listing(table, settings))
 }
 
 /// The rewritten bytes, or the `R` line.
-pub fn rewrite(arguments: &[String]) -> End {
+pub fn rewrite(settings: Settings, arguments: &[String]) -> End {
     transform(arguments, |table| {
         let mut out = vec![0; table.len()];
-        match second::rewrite(table, &mut out) {
+        match second::rewrite(table, settings, &mut out) {
             Ok(length) => out[..length].to_vec(),
             Err(refusal) => format!("R\t{}\t{}\n", refusal.number, refusal.place).into_bytes(),
         }

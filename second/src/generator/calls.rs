@@ -6,6 +6,7 @@ use super::valid::valid;
 use crate::element::fixed_length;
 use crate::random::Random;
 use crate::record::{Description, Element, Text};
+use crate::settings::Chip;
 
 /// What the writer is asked to do.
 #[derive(Clone, Debug, PartialEq, Eq)]
@@ -14,44 +15,57 @@ pub enum What {
     Append(Element, Vec<u8>),
 }
 
-/// One call: the buffer as lent, and the request.
+/// One call: the chip it is told, the buffer as lent, and the request.
 #[derive(Clone, Debug, PartialEq, Eq)]
 pub struct WriterCall {
+    pub chip: Chip,
+    /// The chip of all used pins in the record.
+    pub pins: Chip,
     pub buffer: Vec<u8>,
     pub what: What,
 }
 
-/// A call of start or append of any sort.
+/// A call of start or append of any sort, now and then with pins of the other chip.
 pub fn writer_call(random: &mut Random) -> WriterCall {
-    match random.below(20) {
-        0..=3 => start_call(random),
-        4..=9 => onto_a_table(random),
+    let chip = *random.pick(&Chip::BOTH);
+    let pins = if random.chance(15) {
+        chip.other()
+    } else {
+        chip
+    };
+    let (buffer, what) = match random.below(20) {
+        0..=3 => start_call(random, pins),
+        4..=9 => onto_a_table(random, pins),
         10 => long_string(random),
-        _ => onto_any_buffer(random),
+        _ => onto_any_buffer(random, pins),
+    };
+    WriterCall {
+        chip,
+        pins,
+        buffer,
+        what,
     }
 }
 
 /// A start into a buffer around 16 bytes or far longer, full of junk.
-fn start_call(random: &mut Random) -> WriterCall {
+fn start_call(random: &mut Random, pins: Chip) -> (Vec<u8>, What) {
     let length = match random.below(4) {
         0 => random.below(18),
         1 => 16,
         2 => *random.pick(&[4095, 4096, 4097, 70_000]),
         _ => random.between(16, 300),
     };
-    WriterCall {
-        buffer: random.bytes(length),
-        what: What::Start(some_description(random)),
-    }
+    let buffer = random.bytes(length);
+    (buffer, What::Start(some_description(random, pins)))
 }
 
 /// A good element onto an accepted table with room enough, or not quite.
-fn onto_a_table(random: &mut Random) -> WriterCall {
-    let mut buffer = valid(random);
+fn onto_a_table(random: &mut Random, pins: Chip) -> (Vec<u8>, What) {
+    let mut buffer = valid(random, pins);
     let (element, part) = if random.chance(50) {
-        good_element(random)
+        good_element(random, pins)
     } else {
-        some_element(random)
+        some_element(random, pins)
     };
     let needed = fixed_length(element.identifier()) + part.len();
     let room = match random.below(6) {
@@ -64,15 +78,12 @@ fn onto_a_table(random: &mut Random) -> WriterCall {
     };
     let junk = random.bytes(room);
     buffer.extend(junk);
-    WriterCall {
-        buffer,
-        what: What::Append(element, part),
-    }
+    (buffer, What::Append(element, part))
 }
 
 /// Junk with any length field: under 16, over 4,096, past the buffer, or just where it matters.
-fn onto_any_buffer(random: &mut Random) -> WriterCall {
-    let (element, part) = some_element(random);
+fn onto_any_buffer(random: &mut Random, pins: Chip) -> (Vec<u8>, What) {
+    let (element, part) = some_element(random, pins);
     let needed = fixed_length(element.identifier()) + part.len();
     let sizes = [0, 1, 2, 3, 15, 16, 17, 100, 1000, 4095, 4096, 4097, 4200];
     let size = match random.below(3) {
@@ -96,21 +107,15 @@ fn onto_any_buffer(random: &mut Random) -> WriterCall {
     if size >= 3 {
         buffer[1..3].copy_from_slice(&(so_far as u16).to_le_bytes());
     }
-    WriterCall {
-        buffer,
-        what: What::Append(element, part),
-    }
+    (buffer, What::Append(element, part))
 }
 
 /// A string around 4,096 bytes, or around the end of a two-byte length: 16, and no sum may wrap.
-fn long_string(random: &mut Random) -> WriterCall {
+fn long_string(random: &mut Random) -> (Vec<u8>, What) {
     let lengths = [4076, 4077, 4078, 65_519, 65_532, 65_533, 65_536, 65_552];
     let mut part = vec![0x41; *random.pick(&lengths)];
     part[0] = *random.pick(&[0, 1, 1, 1]);
     let mut buffer = raw::TABLE_A.to_vec();
     buffer.resize(*random.pick(&[16, 4095, 4096, 4097, 66_000, 70_000]), 0xA5);
-    WriterCall {
-        buffer,
-        what: What::Append(Element::Text(Text), part),
-    }
+    (buffer, What::Append(Element::Text(Text), part))
 }

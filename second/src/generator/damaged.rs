@@ -3,10 +3,16 @@
 use super::raw::{self, Parts};
 use super::valid::valid_parts;
 use crate::random::Random;
+use crate::settings::Chip;
+
+/// Codes, and pins of every use and around the four.
+const TELLING: [u8; 14] = [
+    0, 1, 3, 5, 6, 0x10, 0x11, 0x14, 0x22, 0x23, 0x24, 0x27, 0x30, 0xEE,
+];
 
 /// A good table after one to four changes.
-pub fn mutated(random: &mut Random) -> Vec<u8> {
-    let mut parts = valid_parts(random);
+pub fn mutated(random: &mut Random, chip: Chip) -> Vec<u8> {
+    let mut parts = valid_parts(random, chip);
     if random.chance(30) {
         rearranged(random, &mut parts);
     }
@@ -65,7 +71,7 @@ fn change(random: &mut Random, table: &mut Vec<u8>, starts: &[usize]) {
         7 => table[place] = old.wrapping_add(1),
         8 => table[place] = old.wrapping_sub(1),
         9 => table[place] = 0xFF,
-        _ => table[place] = *random.pick(&[0, 1, 3, 5, 6, 0x10, 0x11, 0x14, 0x22, 0x30, 0xEE]),
+        _ => table[place] = *random.pick(&TELLING),
     }
     if random.chance(70) {
         raw::mend(table);
@@ -73,8 +79,8 @@ fn change(random: &mut Random, table: &mut Vec<u8>, starts: &[usize]) {
 }
 
 /// A good table cut short, with and without its length mended.
-pub fn truncated(random: &mut Random) -> Vec<u8> {
-    let mut table = valid_parts(random).bytes();
+pub fn truncated(random: &mut Random, chip: Chip) -> Vec<u8> {
+    let mut table = valid_parts(random, chip).bytes();
     let length = if random.chance(30) {
         random.below(18.min(table.len()))
     } else {

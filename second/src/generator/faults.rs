@@ -1,18 +1,21 @@
 //! Two or three faults at once in a table that was good, so that the order of the rules matters.
 
+use super::around::AROUND;
 use super::raw::{self, Parts};
 use super::valid::valid_parts;
 use crate::element::id;
 use crate::random::Random;
+use crate::settings::Chip;
 
 type Fault = fn(&mut Random, &mut Parts);
 
-const FAULTS: [Fault; 24] = [
+const FAULTS: [Fault; 26] = [
     wrong_type,
     wrong_power,
     wrong_hardware_pin,
     strapped_fault_led,
     strapped_element_pin,
+    strapped_around_the_four,
     description_string,
     unknown_element,
     longer_element,
@@ -24,6 +27,7 @@ const FAULTS: [Fault; 24] = [
     wrong_code,
     wrong_pin,
     wrong_pin,
+    pin_around_the_four,
     string_zero,
     element_again,
     element_again,
@@ -35,8 +39,8 @@ const FAULTS: [Fault; 24] = [
 ];
 
 /// A table with two or three faults, some of which may cancel or hide each other.
-pub fn double_faults(random: &mut Random) -> Vec<u8> {
-    let mut parts = valid_parts(random);
+pub fn double_faults(random: &mut Random, chip: Chip) -> Vec<u8> {
+    let mut parts = valid_parts(random, chip);
     for _ in 0..random.between(2, 3) {
         let fault = *random.pick(&FAULTS);
         fault(random, &mut parts);
@@ -91,7 +95,12 @@ fn strapped_fault_led(random: &mut Random, parts: &mut Parts) {
 
 fn strapped_element_pin(random: &mut Random, parts: &mut Parts) {
     let at = random.between(9, 11);
-    parts.description[at] = crate::pins::ALL[random.below(25)].0;
+    parts.description[at] = *random.pick(&crate::pins::ALL);
+}
+
+/// Alone this is no fault, or one on the smaller chip only.
+fn strapped_around_the_four(random: &mut Random, parts: &mut Parts) {
+    parts.description[random.between(9, 11)] = *random.pick(&AROUND);
 }
 
 fn description_string(random: &mut Random, parts: &mut Parts) {
@@ -161,8 +170,18 @@ fn wrong_code(random: &mut Random, parts: &mut Parts) {
 }
 
 fn wrong_pin(random: &mut Random, parts: &mut Parts) {
-    let has_pin = |e: &[u8]| matches!(e[0], 1..=4 | 8..=10 | 14) && e.len() > 10;
     let pin = *random.pick(&[0x07, 0x08, 0x0F, 0x10, 0x18, 0x28, 0x31, 0xEE, 0xF0, 0xFE]);
+    place_pin(random, parts, pin);
+}
+
+/// Alone this is no fault, or one on the smaller chip only; at a fan or an RGB LED it is one on both.
+fn pin_around_the_four(random: &mut Random, parts: &mut Parts) {
+    let pin = *random.pick(&AROUND);
+    place_pin(random, parts, pin);
+}
+
+fn place_pin(random: &mut Random, parts: &mut Parts, pin: u8) {
+    let has_pin = |e: &[u8]| matches!(e[0], 1..=4 | 8..=10 | 14) && e.len() > 10;
     let at = random.between(8, 10);
     let Some(e) = one_of(random, parts, has_pin) else {
         return;

@@ -46,8 +46,9 @@ fn likely(random: &mut Random) -> Vec<u8> {
         id::TACHOMETER => 14 + 4 * random.below(3),
         _ => fixed_length(identifier),
     };
-    const BYTES: [u8; 20] = [
-        0, 0, 0, 0, 1, 1, 1, 2, 3, 3, 5, 6, 0x11, 0x12, 0x13, 0x14, 0x15, 0x20, 0x30, 0xFF,
+    const BYTES: [u8; 23] = [
+        0, 0, 0, 0, 1, 1, 1, 2, 3, 3, 5, 6, 0x11, 0x12, 0x13, 0x14, 0x15, 0x20, 0x23, 0x24, 0x27,
+        0x30, 0xFF,
     ];
     let mut body: Vec<u8> = (0..length - 3).map(|_| *random.pick(&BYTES)).collect();
     if identifier != id::TEXT && identifier != id::ZONE {

@@ -1,9 +1,11 @@
 //! What an accepted table has to share out: zone numbers, string numbers and pins.
 
+use super::around::AROUND;
 use super::raw;
 use crate::element::id;
-use crate::pins::{Pin, ALL, CHIP_SELECT, FAULT_LED};
+use crate::pins::{ALL, CHIP_SELECT, FAULT_LED};
 use crate::random::Random;
+use crate::settings::Chip;
 
 /// How a pin has been given out so far.
 #[derive(Clone, Copy, PartialEq, Eq)]
@@ -21,6 +23,8 @@ pub struct Pool<'r> {
     pub(super) pins: [Given; 256],
     /// Junk in reserved places, or zeros as they should be.
     junk: bool,
+    /// Rather pins around the four than others.
+    near: bool,
 }
 
 /// So many different numbers from `low` to 255.
@@ -32,19 +36,30 @@ fn distinct(random: &mut Random, low: u8, count: usize) -> Vec<u8> {
 }
 
 impl<'r> Pool<'r> {
-    pub fn new(random: &'r mut Random, zones: usize, strings: usize) -> Pool<'r> {
+    /// Pins that the chip lacks are not given out.
+    pub fn new(random: &'r mut Random, chip: Chip, zones: usize, strings: usize) -> Pool<'r> {
         let zones = distinct(random, 0, zones);
         let strings = distinct(random, 1, strings);
         let junk = random.chance(60);
-        let mut pins = [Given::Free; 256];
-        pins[usize::from(FAULT_LED.0)] = Given::Alone;
+        let near = random.chance(20);
+        let mut pins = [Given::Alone; 256];
+        for pin in ALL.into_iter().filter(|&pin| chip.has(pin)) {
+            pins[usize::from(pin)] = Given::Free;
+        }
+        pins[usize::from(FAULT_LED)] = Given::Alone;
         Pool {
             random,
             zones,
             strings,
             pins,
             junk,
+            near,
         }
+    }
+
+    /// From now on rather pins around the four than others.
+    pub fn stay_near(&mut self) {
+        self.near = true;
     }
 
     /// A byte for a reserved place.
@@ -66,12 +81,12 @@ impl<'r> Pool<'r> {
     }
 
     /// Takes one free pin of the list for one use alone.
-    pub(super) fn take_alone(&mut self, list: &[Pin]) -> Option<u8> {
-        let free: Vec<u8> = list
-            .iter()
-            .map(|pin| pin.0)
-            .filter(|&pin| self.pins[usize::from(pin)] == Given::Free)
-            .collect();
+    pub(super) fn take_alone(&mut self, list: &[u8]) -> Option<u8> {
+        let mut free = list.to_vec();
+        free.retain(|&pin| self.pins[usize::from(pin)] == Given::Free);
+        if self.near && free.iter().any(|pin| AROUND.contains(pin)) {
+            free.retain(|pin| AROUND.contains(pin));
+        }
         if free.is_empty() {
             return None;
         }
@@ -81,24 +96,21 @@ impl<'r> Pool<'r> {
     }
 
     /// Takes all pins of the list in common with others; false when one of them is gone.
-    pub(super) fn take_shared(&mut self, list: &[Pin]) -> bool {
+    pub(super) fn take_shared(&mut self, list: &[u8]) -> bool {
         let gone = |given| given == Given::Alone || given == Given::Select;
-        if list.iter().any(|pin| gone(self.pins[usize::from(pin.0)])) {
+        if list.iter().any(|&pin| gone(self.pins[usize::from(pin)])) {
             return false;
         }
-        for pin in list {
-            self.pins[usize::from(pin.0)] = Given::Shared;
+        for &pin in list {
+            self.pins[usize::from(pin)] = Given::Shared;
         }
         true
     }
 
     /// A chip select, perhaps one that another device has already.
     pub(super) fn take_select(&mut self) -> Option<u8> {
-        let used: Vec<u8> = CHIP_SELECT
-            .iter()
-            .map(|pin| pin.0)
-            .filter(|&pin| self.pins[usize::from(pin)] == Given::Select)
-            .collect();
+        let mut used = CHIP_SELECT.to_vec();
+        used.retain(|&pin| self.pins[usize::from(pin)] == Given::Select);
         if !used.is_empty() && self.random.chance(70) {
             return Some(*self.random.pick(&used));
         }

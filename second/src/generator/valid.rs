@@ -5,6 +5,7 @@ use super::raw::{self, Parts};
 use crate::answer::LARGEST_TABLE;
 use crate::element::id;
 use crate::random::Random;
+use crate::settings::Chip;
 
 /// The eight kinds that stand in a zone.
 pub const DEVICES: [u8; 8] = [
@@ -46,21 +47,30 @@ struct Plan {
     limit: usize,
     /// Fill a string until the limit is reached exactly.
     exact: bool,
+    /// Rather pins around the four than others.
+    near: bool,
 }
 
-/// An accepted table, as its parts.
-pub fn valid_parts(random: &mut Random) -> Parts {
+/// A table that this chip accepts, as its parts.
+pub fn valid_parts(random: &mut Random, chip: Chip) -> Parts {
     let plan = plan(random);
-    build(random, &plan)
+    build(random, chip, &plan)
 }
 
-/// An accepted table.
-pub fn valid(random: &mut Random) -> Vec<u8> {
-    valid_parts(random).bytes()
+/// A table that the 320 accepts, rather with pins around the four that the 321 lacks.
+pub fn valid_near(random: &mut Random) -> Vec<u8> {
+    let mut plan = plan(random);
+    plan.near = true;
+    build(random, Chip::F320, &plan).bytes()
 }
 
-/// An accepted table of exactly 4,096 bytes with all ten kinds.
-pub fn mixed(random: &mut Random) -> Vec<u8> {
+/// A table that this chip accepts.
+pub fn valid(random: &mut Random, chip: Chip) -> Vec<u8> {
+    valid_parts(random, chip).bytes()
+}
+
+/// A table of exactly 4,096 bytes with all ten kinds that this chip accepts.
+pub fn mixed(random: &mut Random, chip: Chip) -> Vec<u8> {
     let zones = random.between(1, 12);
     let strings = random.between(4, 20);
     let plan = Plan {
@@ -71,12 +81,14 @@ pub fn mixed(random: &mut Random) -> Vec<u8> {
         kinds: DEVICES.to_vec(),
         limit: LARGEST_TABLE,
         exact: true,
+        near: false,
     };
-    build(random, &plan).bytes()
+    build(random, chip, &plan).bytes()
 }
 
-/// An accepted table of so many elements, 1 to 96: all kinds from 10 on, some 42 bytes to each.
-pub fn mixed_of(random: &mut Random, elements: usize) -> Vec<u8> {
+/// A table of so many elements, 1 to 96, that this chip accepts: all kinds from 10 on, some 42 bytes to
+/// each.
+pub fn mixed_of(random: &mut Random, elements: usize, chip: Chip) -> Vec<u8> {
     let zones = 1 + (elements - 1) / 12;
     let strings = elements / 8;
     let plan = Plan {
@@ -87,8 +99,9 @@ pub fn mixed_of(random: &mut Random, elements: usize) -> Vec<u8> {
         kinds: DEVICES.to_vec(),
         limit: 16 + 42 * elements,
         exact: strings > 0,
+        near: false,
     };
-    build(random, &plan).bytes()
+    build(random, chip, &plan).bytes()
 }
 
 fn plan(random: &mut Random) -> Plan {
@@ -124,6 +137,7 @@ fn plan(random: &mut Random) -> Plan {
         kinds: kinds(random),
         limit,
         exact,
+        near: false,
     }
 }
 
@@ -137,8 +151,11 @@ fn kinds(random: &mut Random) -> Vec<u8> {
         .collect()
 }
 
-fn build(random: &mut Random, plan: &Plan) -> Parts {
-    let mut pool = Pool::new(random, plan.zones, plan.strings);
+fn build(random: &mut Random, chip: Chip, plan: &Plan) -> Parts {
+    let mut pool = Pool::new(random, chip, plan.zones, plan.strings);
+    if plan.near {
+        pool.stay_near();
+    }
     // Hardware revision pins before the elements' pins, unless certain elements must find theirs.
     let early = plan.forced.is_empty().then(|| pool.description());
     let mut elements = Vec::new();
@@ -163,8 +180,13 @@ fn build(random: &mut Random, plan: &Plan) -> Parts {
     }
 }
 
-/// An accepted table of exactly 4,096 bytes: one zone descriptor and then 09h elements only.
-pub fn controllers(random: &mut Random) -> Vec<u8> {
+/// A table of exactly 4,096 bytes that this chip accepts: one zone descriptor and then 09h elements only.
+pub fn controllers(random: &mut Random, chip: Chip) -> Vec<u8> {
+    // The last pin of port 2.
+    let last_of_port = match chip {
+        Chip::F320 => 0x27,
+        Chip::F321 => 0x23,
+    };
     // 30 bytes of zone leave 4,050 = 11 x elements + 2 x blocks + 4 x pairs, so that the elements
     // are even in number, and so are 11 x elements / 2 + blocks + 2025 together.
     let count = 2 * random.between(25, 47);
@@ -180,7 +202,7 @@ pub fn controllers(random: &mut Random) -> Vec<u8> {
     for list in &blocks {
         let bus = random.below(4) as u8;
         let address = if bus == 3 {
-            *random.pick(&[0x14, 0x15, 0x27, 0x30, 0x05])
+            *random.pick(&[0x14, 0x15, last_of_port, 0x30, 0x05])
         } else {
             random.byte()
         };

@@ -13,10 +13,10 @@ pub enum Use {
     Alone,
 }
 
-/// One claim, with the place that answers for it.
+/// One claim on the pin of this byte, with the place that answers for it. All are of one chip.
 #[derive(Clone, Copy, Debug)]
 pub struct Claim {
-    pub pin: Pin,
+    pub pin: u8,
     pub usage: Use,
     pub place: usize,
 }
@@ -31,7 +31,7 @@ pub fn claims(description: &Description, found: &[Found]) -> Vec<Claim> {
     for &pin in &description.hardware {
         if pin.is_used() {
             claims.push(Claim {
-                pin,
+                pin: pin.byte(),
                 usage: Use::Alone,
                 place: 0,
             });
@@ -47,7 +47,7 @@ pub fn claims(description: &Description, found: &[Found]) -> Vec<Claim> {
         }
         for pin in own_pins(&one.element) {
             claims.push(Claim {
-                pin,
+                pin: pin.byte(),
                 usage: own_use(&one.element),
                 place: one.place,
             });
@@ -57,7 +57,7 @@ pub fn claims(description: &Description, found: &[Found]) -> Vec<Claim> {
 }
 
 /// P0.3 and P0.4 for bus types 0 to 2, P0.0 to P0.2 for SPI, P0.7 for 02h and 08h.
-fn shared_pins(element: &Element) -> Vec<Pin> {
+fn shared_pins(element: &Element) -> Vec<u8> {
     match (element, element.attachment()) {
         (_, Some(attachment)) => match attachment.address {
             Address::Bus(_) => I2C_BUS.to_vec(),

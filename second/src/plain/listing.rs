@@ -3,16 +3,18 @@
 use super::{elements, own_pins};
 use crate::answer::Refusal;
 use crate::element::read_description;
-use crate::pins::Pin;
+use crate::pins::{name, Pin};
 use crate::record::{Description, Element};
+use crate::settings::Settings;
 
 /// The text for a table, accepted or refused.
-pub fn listing(table: &[u8]) -> Vec<u8> {
-    let found = match elements(table) {
+pub fn listing(table: &[u8], settings: Settings) -> Vec<u8> {
+    let found = match elements(table, settings) {
         Ok(found) => found,
         Err(Refusal { number, place }) => return format!("R\t{number}\t{place}\n").into_bytes(),
     };
-    let mut text = description_line(table.len(), &read_description(table));
+    let description = read_description(table, settings.chip);
+    let mut text = description_line(table.len(), &description);
     for one in found {
         text.push_str(&element_line(one.place, &one.element, one.part));
     }
@@ -59,13 +61,13 @@ fn pins(used: &[Pin]) -> String {
     if used.is_empty() {
         return "-".to_string();
     }
-    let names: Vec<String> = used.iter().map(|pin| pin.name()).collect();
+    let names: Vec<String> = used.iter().map(|pin| name(pin.byte())).collect();
     names.join(",")
 }
 
 fn name_or_dash(pin: Pin) -> String {
     if pin.is_used() {
-        pin.name()
+        name(pin.byte())
     } else {
         "-".to_string()
     }

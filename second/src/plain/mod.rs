@@ -13,6 +13,7 @@ use crate::answer::{
 use crate::element::{self, id, read_description, read_element, word};
 use crate::record::{Description, Element};
 use crate::rules;
+use crate::settings::{Chip, Settings};
 use claims::{check_claims, claims};
 
 pub use claims::own_pins;
@@ -27,18 +28,18 @@ pub struct Found<'t> {
 }
 
 /// The verdict on a whole table.
-pub fn check(table: &[u8]) -> Verdict {
-    match elements(table) {
+pub fn check(table: &[u8], settings: Settings) -> Verdict {
+    match elements(table, settings) {
         Ok(found) => Verdict::Accepted(found.len()),
         Err(Refusal { number, place }) => Verdict::Refused { number, place },
     }
 }
 
 /// All elements of an accepted table, or the refusal.
-pub fn elements(table: &[u8]) -> Result<Vec<Found<'_>>, Refusal> {
-    check_description(table)?;
-    let description = read_description(table);
-    let found = pass(table)?;
+pub fn elements(table: &[u8], settings: Settings) -> Result<Vec<Found<'_>>, Refusal> {
+    check_description(table, settings.chip)?;
+    let description = read_description(table, settings.chip);
+    let found = pass(table, settings)?;
     check_zones(&found)?;
     check_strings(&description, &found)?;
     check_claims(&claims(&description, &found))?;
@@ -46,7 +47,7 @@ pub fn elements(table: &[u8]) -> Result<Vec<Found<'_>>, Refusal> {
 }
 
 /// 1 to 5, then the hardware revision pins (10).
-fn check_description(table: &[u8]) -> Result<(), Refusal> {
+fn check_description(table: &[u8], chip: Chip) -> Result<(), Refusal> {
     if table.len() < DESCRIPTION_LENGTH {
         return Err(Refusal::at(number::SHORT, 0));
     }
@@ -56,14 +57,14 @@ fn check_description(table: &[u8]) -> Result<(), Refusal> {
     if usize::from(word(table, 1)) != table.len() || table.len() > LARGEST_TABLE {
         return Err(Refusal::at(number::LENGTH, 0));
     }
-    let description = read_description(table);
+    let description = read_description(table, chip);
     if ![1, 2, 3].contains(&description.device_type) {
         return Err(Refusal::at(number::DEVICE_TYPE, 0));
     }
     if !description.self_powered && description.power.0 > 125 {
         return Err(Refusal::at(number::POWER, 0));
     }
-    if !rules::hardware_pins_good(&description) {
+    if !rules::hardware_pins_good(&description, chip) {
         return Err(Refusal::at(number::PIN, 0));
     }
     Ok(())
@@ -71,7 +72,7 @@ fn check_description(table: &[u8]) -> Result<(), Refusal> {
 
 /// Each element from offset 16 is taken through 6, the 97th, 7, 8, 9, 10, the 13th zone and 12
 /// before the next is looked at.
-fn pass(table: &[u8]) -> Result<Vec<Found<'_>>, Refusal> {
+fn pass(table: &[u8], settings: Settings) -> Result<Vec<Found<'_>>, Refusal> {
     let mut found: Vec<Found> = Vec::new();
     let mut place = DESCRIPTION_LENGTH;
     while place < table.len() {
@@ -79,7 +80,8 @@ fn pass(table: &[u8]) -> Result<Vec<Found<'_>>, Refusal> {
         if found.len() == MOST_ELEMENTS {
             return Err(Refusal::at(number::TOO_MANY, place));
         }
-        let (element, part) = judge(bytes).map_err(|number| Refusal::at(number, place))?;
+        let (element, part) =
+            judge(bytes, settings).map_err(|number| Refusal::at(number, place))?;
         let new = Found {
             place,
             element,
@@ -105,18 +107,18 @@ fn cut(rest: &[u8]) -> Option<&[u8]> {
 }
 
 /// 7, 8, 9, 10 for one element.
-fn judge(bytes: &[u8]) -> Result<(Element, &[u8]), u8> {
+fn judge(bytes: &[u8], settings: Settings) -> Result<(Element, &[u8]), u8> {
     if !id::ALL.contains(&bytes[0]) {
         return Err(number::IDENTIFIER);
     }
-    let (element, part) = read_element(bytes).ok_or(number::LAYOUT)?;
+    let (element, part) = read_element(bytes, settings.chip).ok_or(number::LAYOUT)?;
     if !rules::part_fits(&element, part) {
         return Err(number::LAYOUT);
     }
     if !rules::codes_good(&element, part) {
         return Err(number::CODE);
     }
-    if !rules::pins_good(&element) {
+    if !rules::pins_good(&element, settings.chip) {
         return Err(number::PIN);
     }
     Ok((element, part))

@@ -1,10 +1,9 @@
 //! Rules 7 to 12 for one element of each kind, over its bytes.
 
-use super::bit;
 use super::blocks::{register_blocks, speed_blocks};
 use super::seen::{Claims, Numbers};
 use super::sets::{
-    ANALOGUE, CHIP_SELECT, FAN_LIST, I2C_BUS, NO_PIN, REFERENCE, SPI_BUS, STATUS_LED,
+    Pins, ANALOGUE, CHIP_SELECT, FAN_LIST, I2C_BUS, NO_PIN, REFERENCE, SPI_BUS, STATUS_LED,
 };
 use crate::answer::{number, MOST_ZONES};
 use crate::element::id;
@@ -16,20 +15,21 @@ pub fn take(
     identifier: u8,
     element: &[u8],
     rest: &[u8],
+    pins: Pins,
     numbers: &mut Numbers,
     claims: &mut Claims,
 ) -> u8 {
     match identifier {
-        id::DIGITAL_SENSOR => digital_sensor(element, claims),
-        id::ANALOGUE_SENSOR => analogue_sensor(element, claims),
-        id::FAN => fan(element, claims),
-        id::STATUS_LED => status_led(element, claims),
-        id::CURRENT => current(element, claims),
-        id::CONTROLLER => controller(element, rest, claims),
-        id::TACHOMETER => tachometer(element, claims),
+        id::DIGITAL_SENSOR => digital_sensor(element, pins, claims),
+        id::ANALOGUE_SENSOR => analogue_sensor(element, pins, claims),
+        id::FAN => fan(element, pins, claims),
+        id::STATUS_LED => status_led(element, pins, claims),
+        id::CURRENT => current(element, pins, claims),
+        id::CONTROLLER => controller(element, rest, pins, claims),
+        id::TACHOMETER => tachometer(element, pins, claims),
         id::ZONE => zone(element, numbers),
         id::TEXT => text(element, numbers),
-        id::RGB_LED => rgb_led(element, claims),
+        id::RGB_LED => rgb_led(element, pins, claims),
         _ => number::IDENTIFIER,
     }
 }
@@ -38,13 +38,13 @@ pub fn take(
 ///
 /// Both kinds of bus are worked out and one is chosen, as the choice is hard to foretell.
 #[inline(always)]
-fn attachment(bus: u8, address: u8, claims: &mut Claims) -> u8 {
+fn attachment(bus: u8, address: u8, pins: Pins, claims: &mut Claims) -> u8 {
     let bus = bus & 0x0F;
     if bus > 3 {
         return number::CODE;
     }
     let spi = bus == 3;
-    let select = select_unpredictable(spi, bit(address) & CHIP_SELECT, NO_PIN);
+    let select = select_unpredictable(spi, pins.bit(address) & CHIP_SELECT, NO_PIN);
     if select == 0 {
         return number::PIN;
     }
@@ -54,15 +54,15 @@ fn attachment(bus: u8, address: u8, claims: &mut Claims) -> u8 {
 }
 
 #[inline(always)]
-pub fn digital_sensor(element: &[u8], claims: &mut Claims) -> u8 {
+pub fn digital_sensor(element: &[u8], pins: Pins, claims: &mut Claims) -> u8 {
     let Ok(e) = <&[u8; 21]>::try_from(element) else {
         return number::LAYOUT;
     };
-    attachment(e[8], e[9], claims)
+    attachment(e[8], e[9], pins, claims)
 }
 
 #[inline(always)]
-pub fn analogue_sensor(element: &[u8], claims: &mut Claims) -> u8 {
+pub fn analogue_sensor(element: &[u8], pins: Pins, claims: &mut Claims) -> u8 {
     let Ok(e) = <&[u8; 20]>::try_from(element) else {
         return number::LAYOUT;
     };
@@ -71,12 +71,12 @@ pub fn analogue_sensor(element: &[u8], claims: &mut Claims) -> u8 {
     if e[8] & 0x0F != 1 || high > 3 {
         return number::CODE;
     }
-    analogue_pin(e[9], claims)
+    analogue_pin(e[9], pins, claims)
 }
 
 #[inline(always)]
-fn analogue_pin(pin: u8, claims: &mut Claims) -> u8 {
-    let pin = bit(pin) & ANALOGUE;
+fn analogue_pin(pin: u8, pins: Pins, claims: &mut Claims) -> u8 {
+    let pin = pins.bit(pin) & ANALOGUE;
     if pin == 0 {
         return number::PIN;
     }
@@ -86,7 +86,7 @@ fn analogue_pin(pin: u8, claims: &mut Claims) -> u8 {
 }
 
 #[inline(always)]
-pub fn fan(element: &[u8], claims: &mut Claims) -> u8 {
+pub fn fan(element: &[u8], pins: Pins, claims: &mut Claims) -> u8 {
     let Ok(e) = <&[u8; 16]>::try_from(element) else {
         return number::LAYOUT;
     };
@@ -94,8 +94,8 @@ pub fn fan(element: &[u8], claims: &mut Claims) -> u8 {
     if !used & (e[10] != 0) {
         return number::CODE;
     }
-    let pwm = bit(e[8]) & FAN_LIST;
-    let tachometer = bit(e[9]) & FAN_LIST;
+    let pwm = pins.bit(e[8]) & FAN_LIST;
+    let tachometer = pins.bit(e[9]) & FAN_LIST;
     // An absent pin is 0, so the order of the bits also finds a used tachometer off the list.
     if (pwm == 0) | (used & (tachometer <= pwm)) {
         return number::PIN;
@@ -105,7 +105,7 @@ pub fn fan(element: &[u8], claims: &mut Claims) -> u8 {
 }
 
 #[inline(always)]
-pub fn status_led(element: &[u8], claims: &mut Claims) -> u8 {
+pub fn status_led(element: &[u8], pins: Pins, claims: &mut Claims) -> u8 {
     let Ok(e) = <&[u8; 14]>::try_from(element) else {
         return number::LAYOUT;
     };
@@ -113,13 +113,13 @@ pub fn status_led(element: &[u8], claims: &mut Claims) -> u8 {
     if codes {
         return number::CODE;
     }
-    if bad_led_pin(e[8]) | bad_led_pin(e[10]) | bad_led_pin(e[12]) {
+    if bad_led_pin(e[8], pins) | bad_led_pin(e[10], pins) | bad_led_pin(e[12], pins) {
         return number::PIN;
     }
     // One by one: two lights of one element may meet on a pin.
-    claims.alone(bit(e[8]));
-    claims.alone(bit(e[10]));
-    claims.alone(bit(e[12]));
+    claims.alone(pins.bit(e[8]));
+    claims.alone(pins.bit(e[10]));
+    claims.alone(pins.bit(e[12]));
     0
 }
 
@@ -130,20 +130,20 @@ fn bad_light(pin: u8, code: u8) -> bool {
 }
 
 #[inline(always)]
-fn bad_led_pin(pin: u8) -> bool {
-    (pin != 0xFF) & (bit(pin) & STATUS_LED == 0)
+fn bad_led_pin(pin: u8, pins: Pins) -> bool {
+    (pin != 0xFF) & (pins.bit(pin) & STATUS_LED == 0)
 }
 
 #[inline(always)]
-pub fn current(element: &[u8], claims: &mut Claims) -> u8 {
+pub fn current(element: &[u8], pins: Pins, claims: &mut Claims) -> u8 {
     let Ok(e) = <&[u8; 14]>::try_from(element) else {
         return number::LAYOUT;
     };
-    analogue_pin(e[8], claims)
+    analogue_pin(e[8], pins, claims)
 }
 
 #[inline(always)]
-pub fn controller(element: &[u8], rest: &[u8], claims: &mut Claims) -> u8 {
+pub fn controller(element: &[u8], rest: &[u8], pins: Pins, claims: &mut Claims) -> u8 {
     let Some(e) = element.first_chunk::<12>() else {
         return number::LAYOUT;
     };
@@ -151,28 +151,28 @@ pub fn controller(element: &[u8], rest: &[u8], claims: &mut Claims) -> u8 {
     if refusal != 0 {
         return refusal;
     }
-    attachment(e[8], e[9], claims)
+    attachment(e[8], e[9], pins, claims)
 }
 
 #[inline(always)]
-pub fn tachometer(element: &[u8], claims: &mut Claims) -> u8 {
+pub fn tachometer(element: &[u8], pins: Pins, claims: &mut Claims) -> u8 {
     let Some((e, blocks)) = element.split_first_chunk::<12>() else {
         return number::LAYOUT;
     };
     if !register_blocks(blocks) {
         return number::LAYOUT;
     }
-    attachment(e[8], e[9], claims)
+    attachment(e[8], e[9], pins, claims)
 }
 
 #[inline(always)]
-pub fn rgb_led(element: &[u8], claims: &mut Claims) -> u8 {
+pub fn rgb_led(element: &[u8], pins: Pins, claims: &mut Claims) -> u8 {
     let Ok(e) = <&[u8; 11]>::try_from(element) else {
         return number::LAYOUT;
     };
-    let red = bit(e[8]) & FAN_LIST;
-    let green = bit(e[9]) & FAN_LIST;
-    let blue = bit(e[10]) & FAN_LIST;
+    let red = pins.bit(e[8]) & FAN_LIST;
+    let green = pins.bit(e[9]) & FAN_LIST;
+    let blue = pins.bit(e[10]) & FAN_LIST;
     if red == 0 || green <= red || blue <= green {
         return number::PIN;
     }

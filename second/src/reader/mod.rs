@@ -11,8 +11,9 @@ mod seen;
 mod sets;
 
 use crate::answer::{number, Verdict, LARGEST_TABLE, MOST_ELEMENTS};
+use crate::settings::Settings;
 use seen::{Claims, Numbers};
-use sets::{PinSet, BIT};
+use sets::Pins;
 
 /// What the pass came to: the number of elements, or a refusal with its place.
 type Passed = Result<usize, (u8, usize)>;
@@ -21,33 +22,30 @@ type Passed = Result<usize, (u8, usize)>;
 ///
 /// An entry point for benchmarks; never inlined, so that it is the call that is timed.
 #[inline(never)]
-pub fn check(table: &[u8]) -> Verdict {
+pub fn check(table: &[u8], settings: Settings) -> Verdict {
     let Some(head) = table.first_chunk::<16>() else {
         return refused(number::SHORT, 0);
     };
-    let pins = [head[9], head[10], head[11]];
-    let strapped = pins != [0xFF; 3];
+    let hardware = [head[9], head[10], head[11]];
+    let strapped = hardware != [0xFF; 3];
     let refusal = check_description(head, table.len());
     if refusal != 0 {
         return refused(refusal, 0);
     }
-    if strapped && pins.iter().any(|&pin| pin != 0xFF && bit(pin) == 0) {
+    let pins = Pins::of(settings.chip);
+    let bad = |&pin: &u8| pin != 0xFF && pins.bit(pin) == 0;
+    if strapped && hardware.iter().any(bad) {
         return refused(number::PIN, 0);
     }
     if !strapped && table.len() == 16 {
         return bare(head[4]);
     }
-    with_elements(table, head)
+    with_elements(table, head, pins)
 }
 
 #[inline(always)]
 fn refused(number: u8, place: usize) -> Verdict {
     Verdict::Refused { number, place }
-}
-
-#[inline(always)]
-fn bit(pin: u8) -> PinSet {
-    BIT[usize::from(pin)]
 }
 
 /// 2 to 5; 0 when all are good.
@@ -79,14 +77,14 @@ fn bare(string: u8) -> Verdict {
 
 /// The rest, for a table whose description is good.
 #[inline(never)]
-fn with_elements(table: &[u8], head: &[u8; 16]) -> Verdict {
+fn with_elements(table: &[u8], head: &[u8; 16], pins: Pins) -> Verdict {
     let mut claims = Claims::new();
     for pin in [head[9], head[10], head[11]] {
-        claims.alone(bit(pin));
+        claims.alone(pins.bit(pin));
     }
     let mut numbers = Numbers::new();
     numbers.strings_named.add(head[4]);
-    match pass(table, &mut numbers, claims) {
+    match pass(table, pins, &mut numbers, claims) {
         (Ok(count), claims) => finish(table, count, &mut numbers, &claims),
         (Err((number, place)), _) => refused(number, place),
     }
@@ -104,7 +102,7 @@ fn header(rest: &[u8]) -> Option<(u8, usize)> {
 
 /// The pass from offset 16, element by element.
 #[inline(always)]
-fn pass(table: &[u8], numbers: &mut Numbers, claims: Claims) -> (Passed, Claims) {
+fn pass(table: &[u8], pins: Pins, numbers: &mut Numbers, claims: Claims) -> (Passed, Claims) {
     let mut claims = claims;
     let mut place = 16;
     let mut count = 0;
@@ -117,7 +115,14 @@ fn pass(table: &[u8], numbers: &mut Numbers, claims: Claims) -> (Passed, Claims)
             return (Err((number::TOO_MANY, place)), claims);
         }
         numbers.note(identifier, rest);
-        let refusal = kinds::take(identifier, &rest[..length], rest, numbers, &mut claims);
+        let refusal = kinds::take(
+            identifier,
+            &rest[..length],
+            rest,
+            pins,
+            numbers,
+            &mut claims,
+        );
         if refusal != 0 {
             return (Err((refusal, place)), claims);
         }

@@ -2,8 +2,9 @@
 //!
 //! It is made only over tables that the pass has found whole, so lengths are simply followed.
 
-use super::sets::{NumberSet, PinSet, BIT, FAULT_LED, I2C_BUS, REFERENCE, SPI_BUS};
+use super::sets::{NumberSet, PinSet, Pins, FAULT_LED, I2C_BUS, REFERENCE, SPI_BUS};
 use crate::element::id;
+use crate::settings::Chip;
 
 /// The elements of a table found whole: place and bytes.
 fn walk(table: &[u8]) -> impl Iterator<Item = (usize, &[u8])> {
@@ -65,6 +66,11 @@ pub fn clash(table: &[u8]) -> usize {
         .map_or(0, |(place, _)| place)
 }
 
+/// The pins have been found on the chip, and all are on the larger one.
+fn bit(pin: u8) -> PinSet {
+    Pins::of(Chip::F320).bit(pin)
+}
+
 /// The claims so far. Each call answers whether the new ones clash with an earlier one.
 struct Claims {
     shared: PinSet,
@@ -82,14 +88,14 @@ impl Claims {
         if bus & 0x0F != 3 {
             return self.shared(I2C_BUS);
         }
-        let select = BIT[usize::from(address)];
+        let select = bit(address);
         self.select |= select;
         self.shared(SPI_BUS) || select & (self.shared | self.alone) != 0
     }
 
     fn alone<const N: usize>(&mut self, pins: [u8; N]) -> bool {
         pins.into_iter().any(|pin| {
-            let pin = BIT[usize::from(pin)];
+            let pin = bit(pin);
             let taken = pin & (self.shared | self.select | self.alone) != 0;
             self.alone |= pin;
             taken

@@ -1,5 +1,7 @@
 //! Sets of bits: which of 256 numbers, and which of 25 pins.
 
+use crate::settings::Chip;
+
 /// A set of numbers 0 to 255.
 #[derive(Clone, Copy)]
 pub struct NumberSet([u64; 4]);
@@ -45,8 +47,28 @@ impl NumberSet {
 /// A set of pins: bit 8 x port + pin.
 pub type PinSet = u32;
 
-/// The bit of each pin byte, or 0 where no such pin exists (FFh among them).
-pub static BIT: [PinSet; 256] = bits();
+/// P2.4 to P2.7, which the 321 lacks.
+const ONLY_320: PinSet = 0x00F0_0000;
+
+/// The bits of the pins that a chip has.
+#[derive(Clone, Copy)]
+pub struct Pins(&'static [PinSet; 256]);
+
+impl Pins {
+    #[inline(always)]
+    pub fn of(chip: Chip) -> Pins {
+        Pins(&BITS[chip as usize])
+    }
+
+    /// The bit of a pin byte, or 0 where no such pin exists (FFh among them).
+    #[inline(always)]
+    pub fn bit(self, pin: u8) -> PinSet {
+        self.0[usize::from(pin)]
+    }
+}
+
+/// By chip, and by pin byte.
+static BITS: [[PinSet; 256]; 2] = [bits(0), bits(ONLY_320)];
 
 /// P1.4 to P1.7, P2.0 to P2.7, P3.0.
 pub const ANALOGUE: PinSet = 0x01FF_F000;
@@ -67,11 +89,11 @@ pub const FAULT_LED: PinSet = 0x0000_0100;
 /// A bit that no pin has, for a claim that is none.
 pub const NO_PIN: PinSet = 1 << 31;
 
-const fn bits() -> [PinSet; 256] {
+const fn bits(lacking: PinSet) -> [PinSet; 256] {
     let mut bits = [0; 256];
     let mut pin = 0;
     while pin < 25 {
-        bits[(pin / 8) * 16 + pin % 8] = 1 << pin;
+        bits[(pin / 8) * 16 + pin % 8] = (1 << pin) & !lacking;
         pin += 1;
     }
     bits
@@ -80,30 +102,29 @@ const fn bits() -> [PinSet; 256] {
 #[cfg(test)]
 mod tests {
     use super::*;
-    use crate::pins::{self, Pin};
+    use crate::pins;
 
-    /// Every set of bits holds exactly the pins of the list in `pins`.
+    /// Every set of bits holds exactly the pins of the list in `pins` that the chip has.
     #[test]
     fn sets_are_the_lists() {
-        let listed = |list: &[Pin]| -> Vec<u8> {
-            let mut bytes: Vec<u8> = list.iter().map(|pin| pin.0).collect();
-            bytes.sort_unstable();
-            bytes
-        };
-        let held = |set: PinSet| -> Vec<u8> {
-            (0..=255u8)
-                .filter(|&byte| BIT[usize::from(byte)] & set != 0)
-                .collect()
-        };
-        assert_eq!(held(PinSet::MAX), listed(&pins::ALL));
-        assert_eq!(held(ANALOGUE), listed(&pins::ANALOGUE));
-        assert_eq!(held(FAN_LIST), listed(&pins::FAN_LIST));
-        assert_eq!(held(CHIP_SELECT), listed(&pins::CHIP_SELECT));
-        assert_eq!(held(STATUS_LED), listed(&pins::STATUS_LED));
-        assert_eq!(held(I2C_BUS), listed(&pins::I2C_BUS));
-        assert_eq!(held(SPI_BUS), listed(&pins::SPI_BUS));
-        assert_eq!(held(REFERENCE), listed(&pins::REFERENCE));
-        assert_eq!(held(FAULT_LED), listed(&[pins::FAULT_LED]));
+        for chip in Chip::BOTH {
+            let same = |set: PinSet, list: &[u8]| {
+                for byte in 0..=255 {
+                    let held = Pins::of(chip).bit(byte) & set != 0;
+                    let listed = list.contains(&byte) && chip.has(byte);
+                    assert_eq!(held, listed, "{chip:?} {byte:02X}h");
+                }
+            };
+            same(PinSet::MAX, &pins::ALL);
+            same(ANALOGUE, &pins::ANALOGUE);
+            same(FAN_LIST, &pins::FAN_LIST);
+            same(CHIP_SELECT, &pins::CHIP_SELECT);
+            same(STATUS_LED, &pins::STATUS_LED);
+            same(I2C_BUS, &pins::I2C_BUS);
+            same(SPI_BUS, &pins::SPI_BUS);
+            same(REFERENCE, &pins::REFERENCE);
+            same(FAULT_LED, &[pins::FAULT_LED]);
+        }
     }
 
     #[test]

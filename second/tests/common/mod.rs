@@ -2,11 +2,22 @@
 #![allow(dead_code)]
 
 use second::generator::raw::{self, TABLE_A};
-use second::{plain, Verdict};
+use second::{plain, Chip, Settings, Verdict};
 
-/// Both readers answer this number with this place, or count beside 0.
+pub const ON_320: Settings = Settings { chip: Chip::F320 };
+pub const ON_321: Settings = Settings { chip: Chip::F321 };
+
+/// Both readers answer this number with this place, or count beside 0, on both chips.
 #[track_caller]
 pub fn gives(table: &[u8], number: u8, beside: usize) {
+    for chip in Chip::BOTH {
+        gives_on(chip, table, number, beside);
+    }
+}
+
+/// The same on one chip.
+#[track_caller]
+pub fn gives_on(chip: Chip, table: &[u8], number: u8, beside: usize) {
     let wanted = match number {
         0 => Verdict::Accepted(beside),
         _ => Verdict::Refused {
@@ -14,8 +25,17 @@ pub fn gives(table: &[u8], number: u8, beside: usize) {
             place: beside,
         },
     };
-    assert_eq!(second::check(table), wanted, "fast: {table:02X?}");
-    assert_eq!(plain::check(table), wanted, "plain: {table:02X?}");
+    let settings = Settings::from(chip);
+    assert_eq!(
+        second::check(table, settings),
+        wanted,
+        "fast, {chip:?}: {table:02X?}"
+    );
+    assert_eq!(
+        plain::check(table, settings),
+        wanted,
+        "plain, {chip:?}: {table:02X?}"
+    );
 }
 
 /// Table A with some bytes changed.

@@ -25,7 +25,6 @@ returns c =
           ∙ looked (s .args .lead) (now (s .args .p)) _ (c .before .before .if1 .i) (s .args .c)
           (⊎-elim (λ w _. w .1) (λ w t. absurd (false≢true (sym (w .0 .left) ∙ t))) (c .before .before .if1 .came)),
       e .1,
-      e .2,
     )
 
 pub past-block-spec : {M : Type 1} → statement M

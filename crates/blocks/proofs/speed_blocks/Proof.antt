@@ -1,7 +1,7 @@
 -- `speed_blocks` meets its contract by the law of the cut.
 -- Assumes nothing.
 use native.Mathlib.Omega.{arith}
-use mathlib.Core.Path.{refl, _∙_}
+use mathlib.Core.Path.{refl}
 use denote.Ref.{now}
 use borrow.Author.Needs.{needs}
 use Rattle.blocks.proofs.EachKind.{speed-law}
@@ -10,10 +10,9 @@ use Rattle.blocks.proofs.speed_blocks.Tie as tie
 
 returns : tie.Need-returns
 returns c =
-    let p = now (c .before .before .before .args .p) in
-    let e = c .speed-part .ensures in
-    let s = c .before .cut-blocks .ensures in
-    speed-law 6 p _ (omega arith) (e .0 ∙ rw s refl) (e .1 ∙ rw s refl)
+    let p = now (c .before .before .before .before .args .p) in
+    let s = c .before .before .cut-blocks .ensures .0 in
+    speed-law p _ (rw s refl) (rw s refl)
 
 pub speed-blocks-spec : {M : Type 1} → statement M
-speed-blocks-spec = tie.close (tie.spec (search needs) (search needs) (search needs) returns)
+speed-blocks-spec = tie.close (tie.spec (search needs) (λ c. omega (arith, c .cut-blocks .ensures .1)) returns)

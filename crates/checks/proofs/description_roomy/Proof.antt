@@ -1,14 +1,16 @@
--- `description_roomy` meets its contract: the other numbers fit by their types.
+-- `description_roomy` meets its contract: the pins have room, and the other numbers that are not tested fit by their types.
 -- Assumes nothing.
 use native.Mathlib.Omega.{arith}
 use Rattle.checks.proofs.Roomy.{description-roomy}
+use borrow.Author.Needs.{needs}
 use Rattle.checks.proofs.description_roomy.Statement.{statement}
 use Rattle.checks.proofs.description_roomy.Tie as tie
 
 returns : tie.Need-returns
 returns c =
-    let g = c .before .before .good in
-    description-roomy (c .before .before .args .d) (omega arith) (omega arith) (omega arith) (omega arith) (omega arith)
+    let a = c .before .before .before .before .before in
+    let g = a .good in
+    description-roomy (a .args .d) (omega arith) (omega arith) (c .before .before .pin-roomy .ensures) (c .before .pin-roomy2 .ensures) (c .pin-roomy3 .ensures)
 
 pub description-roomy-spec : {M : Type 1} → statement M
-description-roomy-spec = tie.close (tie.spec returns)
+description-roomy-spec = tie.close (tie.spec (search needs) (search needs) (search needs) returns)

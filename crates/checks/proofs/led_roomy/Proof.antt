@@ -1,4 +1,4 @@
--- `led_roomy` meets its contract: the lamps' codes are tested, and the other numbers fit by their types.
+-- `led_roomy` meets its contract: the lamps are tested, and the other numbers fit by their types.
 -- Assumes nothing.
 use native.Mathlib.Omega.{arith}
 use Rattle.checks.proofs.Roomy.{led-roomy}
@@ -10,8 +10,8 @@ returns : tie.Need-returns
 returns c =
     let a = c .before .before .before .before .before .before in
     let f = a .good .0 .1 .1 in
-    led-roomy (a .args .l) (omega (arith, f .0), omega (arith, f .0), omega (arith, f .0), omega (arith, f .0), omega (arith, f .0)) (omega (arith, f .1 .0)) (omega (arith, f .1 .1 .0)) (omega (arith, f .1 .1 .1 .0)) (c .before .before .lamp-roomy .ensures) (c .before .lamp-roomy2 .ensures) (c .lamp-roomy3 .ensures)
+    led-roomy (a .args .l) (omega (arith, f .0), omega (arith, f .0), omega (arith, f .0), omega (arith, f .0), omega (arith, f .0))
+    (c .before .before .lamp-roomy .ensures) (c .before .lamp-roomy2 .ensures) (c .lamp-roomy3 .ensures)
 
 pub led-roomy-spec : {M : Type 1} → statement M
-led-roomy-spec =
-    tie.close (tie.spec (search needs) (search needs) (search needs) returns)
+led-roomy-spec = tie.close (tie.spec (search needs) (search needs) (search needs) returns)

@@ -12,31 +12,31 @@ returns : tie.Need-returns
 unfolding partBreaks
 returns c =
     rw (c .before .before .before .e .given .1)
-    (alone (digital _) (now (c .before .before .before .before .before .before .args .part)) (c .unless-empty .ensures) (c .before .digital-breaks .ensures))
+    (alone _ (digital _) (now (c .before .before .before .before .before .before .args .part)) (c .unless-empty .ensures) (c .before .digital-breaks .ensures))
 
 returns-2 : tie.Need-returns-2
 unfolding partBreaks
 returns-2 c =
     rw (c .before .before .before .e2 .given .1)
-    (alone (analogue _) (now (c .before .before .before .before .before .before .args .part)) (c .unless-empty2 .ensures) (c .before .analogue-breaks .ensures))
+    (alone _ (analogue _) (now (c .before .before .before .before .before .before .args .part)) (c .unless-empty2 .ensures) (c .before .analogue-breaks .ensures))
 
 returns-3 : tie.Need-returns-3
 unfolding partBreaks
 returns-3 c =
     rw (c .before .before .before .e3 .given .1)
-    (alone (fan _) (now (c .before .before .before .before .before .before .args .part)) (c .unless-empty3 .ensures) (c .before .fan-breaks .ensures))
+    (alone _ (fan _) (now (c .before .before .before .before .before .before .args .part)) (c .unless-empty3 .ensures) (c .before .fan-breaks .ensures))
 
 returns-4 : tie.Need-returns-4
 unfolding partBreaks
 returns-4 c =
     rw (c .before .before .before .e4 .given .1)
-    (alone (led _) (now (c .before .before .before .before .before .before .args .part)) (c .unless-empty4 .ensures) (c .before .led-breaks .ensures))
+    (alone _ (led _) (now (c .before .before .before .before .before .before .args .part)) (c .unless-empty4 .ensures) (c .before .led-breaks .ensures))
 
 returns-5 : tie.Need-returns-5
 unfolding partBreaks
 returns-5 c =
     rw (c .before .before .before .e5 .given .1)
-    (alone (current _) (now (c .before .before .before .before .before .before .args .part)) (c .unless-empty5 .ensures) (c .before .current-breaks .ensures))
+    (alone _ (current _) (now (c .before .before .before .before .before .before .args .part)) (c .unless-empty5 .ensures) (c .before .current-breaks .ensures))
 
 returns-6 : tie.Need-returns-6
 unfolding partBreaks
@@ -48,17 +48,17 @@ returns-7 c = rw (c .before .before .e7 .given .1) (c .tachometer-breaks .ensure
 
 returns-8 : tie.Need-returns-8
 unfolding partBreaks
-returns-8 c = rw (c .before .enum-told .given .1) (c .zone-breaks .ensures)
+returns-8 c = rw (c .before .enum-told .given .1) (c .zone-breaks .ensures _)
 
 returns-9 : tie.Need-returns-9
 unfolding partBreaks
-returns-9 c = rw (c .before .enum-told2 .given .1) (c .text-breaks .ensures)
+returns-9 c = rw (c .before .enum-told2 .given .1) (c .text-breaks .ensures _)
 
 returns-10 : tie.Need-returns-10
 unfolding partBreaks
 returns-10 c =
     rw (c .before .before .before .e8 .given .1)
-    (alone (rgb _) (now (c .before .before .before .before .before .before .args .part)) (c .unless-empty6 .ensures) (c .before .rgb-breaks .ensures))
+    (alone _ (rgb _) (now (c .before .before .before .before .before .before .args .part)) (c .unless-empty6 .ensures) (c .before .rgb-breaks .ensures))
 
 pub part-breaks-spec : {M : Type 1} → statement M
 part-breaks-spec =

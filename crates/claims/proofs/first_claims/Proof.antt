@@ -4,6 +4,8 @@ use native.Mathlib.Omega.{arith}
 use mathlib.Core.List.{_∷_, []}
 use Rattle.format.specs.Claims.{alone, claim, madeAt}
 use Rattle.claims.specs.Taken.{ownThree}
+use Rattle.format.specs.declared.pins.Use.the-variants.{HardwareRevision}
+use Rattle.claims.proofs.Elements.{three-pins}
 use borrow.Author.Needs.{needs}
 use Rattle.claims.proofs.first_claims.Statement.{statement}
 use Rattle.claims.proofs.first_claims.Tie as tie
@@ -19,7 +21,7 @@ claim-requires c κs = search needs
 
 returns : tie.Need-returns
 returns c =
-    λ k.
+    λ chip k.
     let p = c .before .before .before .args .d .revision0 in
     let q = c .before .before .before .args .d .revision1 in
     let r = c .before .before .before .args .d .revision2 in
@@ -28,7 +30,7 @@ returns c =
     (ownThree p q r)
     (omega arith)
     (c .before .before .fault-led .ensures)
-    (c .before .three .ensures k)
+    (c .before .three .ensures (three-pins chip HardwareRevision p q r k))
 
 pub first-claims-spec : {M : Type 1} → statement M
 first-claims-spec = tie.close (tie.spec fault-led-requires three-requires claim-requires returns)

@@ -9,7 +9,7 @@ use Rattle.format.specs.declared.pins.Use.the-variants.{FanPin}
 use Rattle.pinsets.proofs.Table.{and-left, and-right}
 use Rattle.claims.proofs.Tests.{both}
 use Rattle.claims.proofs.Sets.{one-pin, union}
-use Rattle.claims.proofs.Elements.{permitted-pin, three-distinct}
+use Rattle.claims.proofs.Elements.{allowed-pin, three-distinct}
 use Rattle.claims.proofs.Lone.{claims-alone}
 use borrow.Author.Needs.{needs}
 use Rattle.claims.proofs.rgb_claims.Statement.{statement}
@@ -26,18 +26,18 @@ bit-of-requires-3 c κs = search needs
 
 returns : tie.Need-returns
 returns c =
-    λ k.
+    λ chip k.
     let r = c .before .before .before .args .c .red in
     let g = c .before .before .before .args .c .green in
     let b = c .before .before .before .args .c .blue in
     let rg = ltb (r .0) (g .0) in
     let gb = ltb (g .0) (b .0) in
-    let k₁ = and-right (allowed FanPin r) (allowed FanPin g && (allowed FanPin b && (rg && gb))) k in
-    let k₂ = and-right (allowed FanPin g) (allowed FanPin b && (rg && gb)) k₁ in
-    let k₃ = and-right (allowed FanPin b) (rg && gb) k₂ in
-    let er = permitted-pin FanPin (r .0) (and-left (allowed FanPin r) (allowed FanPin g && (allowed FanPin b && (rg && gb))) k) in
-    let eg = permitted-pin FanPin (g .0) (and-left (allowed FanPin g) (allowed FanPin b && (rg && gb)) k₁) in
-    let eb = permitted-pin FanPin (b .0) (and-left (allowed FanPin b) (rg && gb) k₂) in
+    let k₁ = and-right (allowed chip FanPin r) (allowed chip FanPin g && (allowed chip FanPin b && (rg && gb))) k in
+    let k₂ = and-right (allowed chip FanPin g) (allowed chip FanPin b && (rg && gb)) k₁ in
+    let k₃ = and-right (allowed chip FanPin b) (rg && gb) k₂ in
+    let er = allowed-pin chip FanPin r (and-left (allowed chip FanPin r) (allowed chip FanPin g && (allowed chip FanPin b && (rg && gb))) k) in
+    let eg = allowed-pin chip FanPin g (and-left (allowed chip FanPin g) (allowed chip FanPin b && (rg && gb)) k₁) in
+    let eb = allowed-pin chip FanPin b (and-left (allowed chip FanPin b) (rg && gb) k₂) in
     rw (c .before .before .bit-of .ensures, c .before .bit-of2 .ensures, c .bit-of3 .ensures)
     (claims-alone
     _

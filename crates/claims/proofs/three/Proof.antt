@@ -1,8 +1,7 @@
 -- Sets of one pin each, or none: their union, and what two of them have in common.
 -- Assumes nothing.
 use mathlib.Core.Bool.{_&&_}
-use Rattle.format.specs.Pins.{allowedOrUnused}
-use Rattle.format.specs.declared.pins.Use.the-variants.{HardwareRevision}
+use Rattle.claims.specs.Taken.{onPin}
 use Rattle.pinsets.proofs.Table.{and-left, and-right}
 use Rattle.claims.proofs.Elements.{used-within}
 use Rattle.claims.proofs.Lone.{claims-three}
@@ -25,9 +24,9 @@ returns c =
     let p = c .before .before .before .args .p in
     let q = c .before .before .before .args .q in
     let r = c .before .before .before .args .r in
-    let x = allowedOrUnused HardwareRevision p in
-    let y = allowedOrUnused HardwareRevision q in
-    let z = allowedOrUnused HardwareRevision r in
+    let x = onPin p in
+    let y = onPin q in
+    let z = onPin r in
     let kp = and-left x (y && z) k in
     let kq = and-left y z (and-right x (y && z) k) in
     let kr = and-right y z (and-right x (y && z) k) in

@@ -1,15 +1,18 @@
--- A pin is below the 25 bits, and the bit of an unused place is not.
+-- An unused place has no pin, and a pin its bit.
 -- Assumes nothing.
-use Rattle.claims.proofs.Elements.{used-set}
+use Rattle.claims.proofs.Sets.{empty, one-pin}
 use borrow.Author.Needs.{needs}
 use Rattle.claims.proofs.used_bit.Statement.{statement}
 use Rattle.claims.proofs.used_bit.Tie as tie
 
-bit-of-requires : tie.Need-bit-of-requires
-bit-of-requires c κs = search needs
-
 returns : tie.Need-returns
-returns c = λ h. rw (c .bit-of .ensures) (used-set (c .before .args .p) h)
+returns c = λ h. rw (c .enum-told .given .1) empty
+
+returns-2 : tie.Need-returns-2
+returns-2 c =
+    λ h.
+    let e = c .before .before .p .given .1 in
+    rw (c .bit-of .ensures, e) (one-pin _ (rw e at h))
 
 pub used-bit-spec : {M : Type 1} → statement M
-used-bit-spec = tie.close (tie.spec bit-of-requires returns)
+used-bit-spec = tie.close (tie.spec (search needs) (search needs) (search needs) returns returns-2)

@@ -7,7 +7,8 @@ use Rattle.fields.proofs.fan.Tie as tie
 returns : tie.Need-returns
 returns c =
     rw (
-      c .before .before .before .before .before .before .placement .ensures,
+      c .before .before .before .before .before .before .before .placement .ensures,
+      c .before .before .before .before .optional .ensures,
       c .before .before .word .ensures,
       c .before .word2 .ensures,
     )
@@ -16,6 +17,7 @@ pub fan-spec : {M : Type 1} → statement M
 fan-spec =
     tie.close
     (tie.spec
+    (search needs)
     (search needs)
     (search needs)
     (search needs)

@@ -6,8 +6,8 @@ use Rattle.fields.proofs.lamp.Statement.{statement}
 use Rattle.fields.proofs.lamp.Tie as tie
 
 returns : tie.Need-returns
-returns c = rw add-one
+returns c = rw (add-one, c .before .before .optional .ensures)
 
 pub lamp-spec : {M : Type 1} → statement M
 lamp-spec =
-    tie.close (tie.spec (search needs) (search needs) (search needs) (search needs) (search needs) returns)
+    tie.close (tie.spec (search needs) (search needs) (search needs) (search needs) (search needs) (search needs) returns)

@@ -10,13 +10,13 @@ use Rattle.found.proofs.analogue_found.Tie as tie
 
 returns : tie.Need-returns
 unfolding decode
-returns c = wrong-length 2 _ _ analogue readAnalogue 17 refl (c .before .if1 .taken) (c .refused .ensures)
+returns c = wrong-length _ 2 _ _ analogue (readAnalogue _) 17 refl (c .before .if1 .taken) (c .refused .ensures)
 
 returns-2 : tie.Need-returns-2
 unfolding decode
 returns-2 c =
     let r = c .before .before .before in
-    right-length 2 _ _ analogue readAnalogue 17 refl _ (r .before .if1 .left) refl (r .analogue .ensures) (c .before .before .analogue-breaks .ensures) (c .before .analogue-claims .ensures) (c .both .ensures)
+    right-length _ 2 _ _ analogue (readAnalogue _) 17 refl _ (r .before .if1 .left) refl (r .analogue .ensures) (c .before .before .analogue-breaks .ensures) (c .before .analogue-claims .ensures) (c .both .ensures)
 
 pub analogue-found-spec : {M : Type 1} → statement M
 analogue-found-spec =

@@ -10,13 +10,13 @@ use Rattle.found.proofs.current_found.Tie as tie
 
 returns : tie.Need-returns
 unfolding decode
-returns c = wrong-length 8 _ _ current readCurrent 11 refl (c .before .if1 .taken) (c .refused .ensures)
+returns c = wrong-length _ 8 _ _ current (readCurrent _) 11 refl (c .before .if1 .taken) (c .refused .ensures)
 
 returns-2 : tie.Need-returns-2
 unfolding decode
 returns-2 c =
     let r = c .before .before .before in
-    right-length 8 _ _ current readCurrent 11 refl _ (r .before .if1 .left) refl (r .current .ensures) (c .before .before .current-breaks .ensures) (c .before .analogue-claims .ensures) (c .both .ensures)
+    right-length _ 8 _ _ current (readCurrent _) 11 refl _ (r .before .if1 .left) refl (r .current .ensures) (c .before .before .current-breaks .ensures) (c .before .analogue-claims .ensures) (c .both .ensures)
 
 pub current-found-spec : {M : Type 1} → statement M
 current-found-spec =

@@ -7,12 +7,12 @@ use Rattle.found.proofs.device_found.Statement.{statement}
 use Rattle.found.proofs.device_found.Tie as tie
 
 returns : tie.Need-returns
-returns c = found-8 _ _ _ (not-true _ (c .before .if1 .taken)) (c .refused .ensures)
+returns c = found-8 _ _ _ _ (not-true _ (c .before .if1 .taken)) (c .refused .ensures)
 
 returns-2 : tie.Need-returns-2
 returns-2 c =
     let r = c .before .before .before in
-    found-whole _ _ _ _ (not-false _ (r .before .if1 .left)) (r .device .ensures) (c .before .before .device-breaks .ensures) (c .before .bus-claims .ensures) (c .both .ensures)
+    found-whole _ _ _ _ _ (not-false _ (r .before .if1 .left)) (r .device .ensures) (c .before .before .device-breaks .ensures) (c .before .bus-claims .ensures) (c .both .ensures)
 
 pub device-found-spec : {M : Type 1} → statement M
 device-found-spec =

@@ -10,13 +10,13 @@ use Rattle.found.proofs.digital_found.Tie as tie
 
 returns : tie.Need-returns
 unfolding decode
-returns c = wrong-length 1 _ _ digital readDigital 18 refl (c .before .if1 .taken) (c .refused .ensures)
+returns c = wrong-length _ 1 _ _ digital (readDigital _) 18 refl (c .before .if1 .taken) (c .refused .ensures)
 
 returns-2 : tie.Need-returns-2
 unfolding decode
 returns-2 c =
     let r = c .before .before .before in
-    right-length 1 _ _ digital readDigital 18 refl _ (r .before .if1 .left) refl (r .digital .ensures) (c .before .before .digital-breaks .ensures) (c .before .bus-claims .ensures) (c .both .ensures)
+    right-length _ 1 _ _ digital (readDigital _) 18 refl _ (r .before .if1 .left) refl (r .digital .ensures) (c .before .before .digital-breaks .ensures) (c .before .bus-claims .ensures) (c .both .ensures)
 
 pub digital-found-spec : {M : Type 1} → statement M
 digital-found-spec =

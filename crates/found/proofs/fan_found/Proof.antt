@@ -10,13 +10,13 @@ use Rattle.found.proofs.fan_found.Tie as tie
 
 returns : tie.Need-returns
 unfolding decode
-returns c = wrong-length 3 _ _ fan readFan 13 refl (c .before .if1 .taken) (c .refused .ensures)
+returns c = wrong-length _ 3 _ _ fan (readFan _) 13 refl (c .before .if1 .taken) (c .refused .ensures)
 
 returns-2 : tie.Need-returns-2
 unfolding decode
 returns-2 c =
     let r = c .before .before .before in
-    right-length 3 _ _ fan readFan 13 refl _ (r .before .if1 .left) refl (r .fan .ensures) (c .before .before .fan-breaks .ensures) (c .before .fan-claims .ensures) (c .both .ensures)
+    right-length _ 3 _ _ fan (readFan _) 13 refl _ (r .before .if1 .left) refl (r .fan .ensures) (c .before .before .fan-breaks .ensures) (c .before .fan-claims .ensures) (c .both .ensures)
 
 pub fan-found-spec : {M : Type 1} → statement M
 fan-found-spec =

@@ -10,13 +10,13 @@ use Rattle.found.proofs.led_found.Tie as tie
 
 returns : tie.Need-returns
 unfolding decode
-returns c = wrong-length 4 _ _ led readLed 11 refl (c .before .if1 .taken) (c .refused .ensures)
+returns c = wrong-length _ 4 _ _ led (readLed _) 11 refl (c .before .if1 .taken) (c .refused .ensures)
 
 returns-2 : tie.Need-returns-2
 unfolding decode
 returns-2 c =
     let r = c .before .before .before in
-    right-length 4 _ _ led readLed 11 refl _ (r .before .if1 .left) refl (r .led .ensures) (c .before .before .led-breaks .ensures) (c .before .led-claims .ensures) (c .both .ensures)
+    right-length _ 4 _ _ led (readLed _) 11 refl _ (r .before .if1 .left) refl (r .led .ensures) (c .before .before .led-breaks .ensures) (c .before .led-claims .ensures) (c .both .ensures)
 
 pub led-found-spec : {M : Type 1} → statement M
 led-found-spec =

@@ -10,13 +10,13 @@ use Rattle.found.proofs.rgb_found.Tie as tie
 
 returns : tie.Need-returns
 unfolding decode
-returns c = wrong-length 14 _ _ rgb readRgb 8 refl (c .before .if1 .taken) (c .refused .ensures)
+returns c = wrong-length _ 14 _ _ rgb (readRgb _) 8 refl (c .before .if1 .taken) (c .refused .ensures)
 
 returns-2 : tie.Need-returns-2
 unfolding decode
 returns-2 c =
     let r = c .before .before .before in
-    right-length 14 _ _ rgb readRgb 8 refl _ (r .before .if1 .left) refl (r .rgb .ensures) (c .before .before .rgb-breaks .ensures) (c .before .rgb-claims .ensures) (c .both .ensures)
+    right-length _ 14 _ _ rgb (readRgb _) 8 refl _ (r .before .if1 .left) refl (r .rgb .ensures) (c .before .before .rgb-breaks .ensures) (c .before .rgb-claims .ensures) (c .both .ensures)
 
 pub rgb-found-spec : {M : Type 1} → statement M
 rgb-found-spec =

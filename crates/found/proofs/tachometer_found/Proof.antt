@@ -7,13 +7,13 @@ use Rattle.found.proofs.tachometer_found.Statement.{statement}
 use Rattle.found.proofs.tachometer_found.Tie as tie
 
 returns : tie.Need-returns
-returns c = tachometer-short _ _ (c .before .if1 .taken) (c .refused .ensures)
+returns c = tachometer-short _ _ _ (c .before .if1 .taken) (c .refused .ensures)
 
 returns-2 : tie.Need-returns-2
 returns-2 c =
     let s = c .before .before .before in
     let b = now (s .before .before .args .b) in
-    tachometer-judged b _ _ (c .device-found .ensures) (s .if1 .left) (rw (rest 9 b) at (c .before .pairs-blocks .ensures))
+    tachometer-judged _ b _ _ (c .device-found .ensures) (s .if1 .left) (rw (rest 9 b) at (c .before .pairs-blocks .ensures))
 
 pub tachometer-found-spec : {M : Type 1} → statement M
 tachometer-found-spec =

@@ -12,21 +12,21 @@ returns c =
     let w = c .before .before in
     let a = w .before .before .before .before .before .args in
     let e = stated-at (now (a .t)) (a .at) (w .before .before .wide .ensures .0) (w .wide2 .ensures .0) in
-    move-6 _ _ _ _ _ _ (c .halted .ensures .0) (c .halted .ensures .1) refl (unframed-small (now (a .t)) (a .at) e (c .before .if1 .taken))
+    move-6 _ _ _ _ _ _ _ (c .halted .ensures .0) (c .halted .ensures .1) refl (unframed-small (now (a .t)) (a .at) e (c .before .if1 .taken))
 
 returns-2 : tie.Need-returns-2
 returns-2 c =
     let w = c .before .before .before in
     let a = w .before .before .before .before .before .args in
     let e = stated-at (now (a .t)) (a .at) (w .before .before .wide .ensures .0) (w .wide2 .ensures .0) in
-    move-6 _ _ _ _ _ _ (c .halted2 .ensures .0) (c .halted2 .ensures .1) refl (unframed-long (now (a .t)) (a .at) e (c .before .if2 .taken))
+    move-6 _ _ _ _ _ _ _ (c .halted2 .ensures .0) (c .halted2 .ensures .1) refl (unframed-long (now (a .t)) (a .at) e (c .before .if2 .taken))
 
 returns-3 : tie.Need-returns-3
 returns-3 c =
     let w = c .before .before .before .before .before in
     let a = w .before .before .before .before .before .args in
     let e = stated-at (now (a .t)) (a .at) (w .before .before .wide .ensures .0) (w .wide2 .ensures .0) in
-    move-11 _ _ _ _ _ _ (c .halted3 .ensures .0) (c .halted3 .ensures .1) refl
+    move-11 _ _ _ _ _ _ _ (c .halted3 .ensures .0) (c .halted3 .ensures .1) refl
     (framed-good (now (a .t)) (a .at) e (c .before .before .before .before .if1 .left) (c .before .before .before .if2 .left)) (c .before .if3 .taken)
 
 returns-4 : tie.Need-returns-4
@@ -35,7 +35,7 @@ returns-4 c =
     let w = f .before .before .before .before in
     let a = w .before .before .before .before .before .args in
     let e = stated-at (now (a .t)) (a .at) (w .before .before .wide .ensures .0) (w .wide2 .ensures .0) in
-    move-on _ _ _ _ _ _ _ refl (content-at _ _ e (f .before .before .before .if1 .left)) (c .before .take .ensures) refl refl e
+    move-on _ _ _ _ _ _ _ _ refl (content-at _ _ e (f .before .before .before .if1 .left)) (c .before .take .ensures) refl refl e
     (f .before .before .before .if1 .left) (f .before .before .if2 .left) (f .if3 .left)
 
 pub one-step-spec : {M : Type 1} → statement M

@@ -9,65 +9,65 @@ use Rattle.pass.proofs.take.Tie as tie
 returns : tie.Need-returns
 returns c =
     let m = c .before .before .before .before in
-    take-placed _ 1 _ _ _ _ _ _ _ _ _ _ _ (m .match .keys1) refl
+    take-placed _ _ 1 _ _ _ _ _ _ _ _ _ _ _ (m .match .keys1) refl
     (c .before .before .before .digital-found .ensures) (c .placed-step .ensures)
 
 returns-2 : tie.Need-returns-2
 returns-2 c =
     let m = c .before .before .before .before in
-    take-placed _ 2 _ _ _ _ _ _ _ _ _ _ _ (m .match .keys2) refl
+    take-placed _ _ 2 _ _ _ _ _ _ _ _ _ _ _ (m .match .keys2) refl
     (c .before .before .before .analogue-found .ensures) (c .placed-step2 .ensures)
 
 returns-3 : tie.Need-returns-3
 returns-3 c =
     let m = c .before .before .before .before in
-    take-placed _ 3 _ _ _ _ _ _ _ _ _ _ _ (m .match .keys3) refl
+    take-placed _ _ 3 _ _ _ _ _ _ _ _ _ _ _ (m .match .keys3) refl
     (c .before .before .before .fan-found .ensures) (c .placed-step3 .ensures)
 
 returns-4 : tie.Need-returns-4
 returns-4 c =
     let m = c .before .before .before .before in
-    take-placed _ 4 _ _ _ _ _ _ _ _ _ _ _ (m .match .keys4) refl
+    take-placed _ _ 4 _ _ _ _ _ _ _ _ _ _ _ (m .match .keys4) refl
     (c .before .before .before .led-found .ensures) (c .placed-step4 .ensures)
 
 returns-5 : tie.Need-returns-5
 returns-5 c =
     let m = c .before .before .before .before in
-    take-placed _ 8 _ _ _ _ _ _ _ _ _ _ _ (m .match .keys5) refl
+    take-placed _ _ 8 _ _ _ _ _ _ _ _ _ _ _ (m .match .keys5) refl
     (c .before .before .before .current-found .ensures) (c .placed-step5 .ensures)
 
 returns-6 : tie.Need-returns-6
 returns-6 c =
     let m = c .before .before .before .before in
-    take-placed _ 9 _ _ _ _ _ _ _ _ _ _ _ (m .match .keys6) refl
+    take-placed _ _ 9 _ _ _ _ _ _ _ _ _ _ _ (m .match .keys6) refl
     (c .before .before .before .controller-found .ensures) (c .placed-step6 .ensures)
 
 returns-7 : tie.Need-returns-7
 returns-7 c =
     let m = c .before .before .before .before in
-    take-placed _ 10 _ _ _ _ _ _ _ _ _ _ _ (m .match .keys7) refl
+    take-placed _ _ 10 _ _ _ _ _ _ _ _ _ _ _ (m .match .keys7) refl
     (c .before .before .before .tachometer-found .ensures) (c .placed-step7 .ensures)
 
 returns-8 : tie.Need-returns-8
 returns-8 c =
     let m = c .before .before .before in
-    take-zone _ _ _ _ _ _ _ (m .match .keys8) (c .zone-step .ensures _ _ _)
+    take-zone _ _ _ _ _ _ _ _ (m .match .keys8) (c .zone-step .ensures _ _ _ _)
 
 returns-9 : tie.Need-returns-9
 returns-9 c =
     let m = c .before .before in
-    take-text _ _ _ _ _ _ _ (m .match .keys9) (c .text-step .ensures _ _ _ _)
+    take-text _ _ _ _ _ _ _ _ (m .match .keys9) (c .text-step .ensures _ _ _ _ _)
 
 returns-10 : tie.Need-returns-10
 returns-10 c =
     let m = c .before .before .before .before in
-    take-placed _ 14 _ _ _ _ _ _ _ _ _ _ _ (m .match .keys10) refl
+    take-placed _ _ 14 _ _ _ _ _ _ _ _ _ _ _ (m .match .keys10) refl
     (c .before .before .before .rgb-found .ensures) (c .placed-step8 .ensures)
 
 returns-11 : tie.Need-returns-11
 returns-11 c =
     let m = c .before .match .rest in
-    take-unknown _ _ _ _ _ _ _
+    take-unknown _ _ _ _ _ _ _ _
     (not-known _ (m .0 .0 .0 .0 .0 .0 .0 .0 .0 .1) (m .0 .0 .0 .0 .0 .0 .0 .0 .1) (m .0 .0 .0 .0 .0 .0 .0 .1) (m .0 .0 .0 .0 .0 .0 .1) (m .0 .0 .0 .0 .0 .1) (m .0 .0 .0 .0 .1) (m .0 .0 .0 .1) (m .0 .0 .1) (m .0 .1) (m .1))
     (c .stopped .ensures .0)
     (c .stopped .ensures .1)

@@ -1,21 +1,12 @@
--- The test of a pin's bit in its use's row is the rule, by the table's law.
+-- An unused place is allowed, and a pin where the pin is.
 -- Assumes nothing.
-use native.Mathlib.Omega.{arith}
-use Rattle.pinsets.proofs.Rows.{row-or-unused}
 use borrow.Author.Needs.{needs}
 use Rattle.pinsets.proofs.allowed_or_unused.Statement.{statement}
 use Rattle.pinsets.proofs.allowed_or_unused.Tie as tie
 
-row-of-requires : tie.Need-row-of-requires
-row-of-requires c κs = search needs
-
-bit-of-requires : tie.Need-bit-of-requires
-bit-of-requires c κs = search needs
-
-returns : tie.Need-returns
-returns c =
-    let p = c .before .before .args .p .0 in
-    rw (c .before .row-of .ensures, c .bit-of .ensures) (row-or-unused (c .before .before .args .u) p (omega arith))
+returns-2 : tie.Need-returns-2
+returns-2 c = rw (c .before .before .p .given .1) (c .allowed .ensures)
 
 pub allowed-or-unused-spec : {M : Type 1} → statement M
-allowed-or-unused-spec = tie.close (tie.spec row-of-requires bit-of-requires returns)
+allowed-or-unused-spec =
+    tie.close (tie.spec (λ c. search needs) (λ c. search needs) (λ c κs. search needs) (λ c. search needs) returns-2)

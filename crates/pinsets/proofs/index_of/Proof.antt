@@ -1,4 +1,4 @@
--- The place that `index_of` answers is `pinIndex`'s, by the two branches, and below 32 by the table's law.
+-- The place that `index_of` answers is `pinIndex`'s, by the branch, and below 32 by the table's law.
 -- Assumes nothing.
 use Prim.Native.Nat.{ℕ, _+_, _*_, _/_, _%_}
 use native.Mathlib.Omega.{arith}
@@ -26,19 +26,12 @@ cast-result c = search needs
 returns : tie.Need-returns
 unfolding pinIndex
 returns c =
-    let b = c .before .before .before .args .b in
-    let n = c .before .before .if1 .none in
+    let b = c .before .before .args .b in
     let t = ltb (b % 16) 8 && ltb b 49 in
-    let d = c .before .if2 .c in
-    let e : n ≡ pick (eqb b 255) 54 55 =
-    ⊎-elim
-    (λ w. picked (eqb b 255) 54 55 (eq-eqb b 255 (w .0 .taken)) (w .1))
-    (λ w. picked-not (eqb b 255) 54 55 (ne-eqb b 255 (w .0 .left)) (w .1))
-    (c .before .before .if1 .came) in
-    let f : d ≡ pick t b n =
-    ⊎-elim (λ w. picked t b n (w .0 .taken) (w .1)) (λ w. picked-not t b n (w .0 .left) (w .1)) (c .before .if2 .came) in
-    let g : d ≡ pick t b (pick (eqb b 255) 54 55) = f ∙ ap (λ (x : ℕ). pick t b x) e in
-    let r : d / 16 * 8 + d % 8 ≡ pinIndex b = rw g refl in
+    let d = c .before .if1 .c in
+    let f : d ≡ pick t b 55 =
+    ⊎-elim (λ w. picked t b 55 (w .0 .taken) (w .1)) (λ w. picked-not t b 55 (w .0 .left) (w .1)) (c .before .if1 .came) in
+    let r : d / 16 * 8 + d % 8 ≡ pinIndex b = rw f refl in
     (r, rw r (index-small b (omega arith)))
 
 pub index-of-spec : {M : Type 1} → statement M

@@ -10,8 +10,8 @@ use Rattle.reader.proofs.check.Tie as tie
 
 returns : tie.Need-returns
 returns c =
-    verdict _ _ (λ i. omega (arith, c .before .before .shared-slice-known .given i))
-    (bare-accepted _ (sym (c .before .bare .ensures) ∙ c .if1 .taken))
+    verdict _ _ _ (λ i. omega (arith, c .before .before .shared-slice-known .given i))
+    (bare-accepted _ _ (sym (c .before .bare .ensures) ∙ c .if1 .taken))
 
 pub check-spec : {M : Type 1} → statement M
 check-spec = tie.close (tie.spec (search needs) returns (search needs) (λ c. c .read .ensures))

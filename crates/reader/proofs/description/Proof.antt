@@ -8,13 +8,13 @@ use Rattle.reader.proofs.description.Statement.{statement}
 use Rattle.reader.proofs.description.Tie as tie
 
 returns : tie.Need-returns
-returns c = undescribed (handed _ _ (c .before .before .before .read .ensures) (c .before .enum-told2 .given .1) (c .handed-on .ensures))
+returns c = undescribed (handed _ _ _ (c .before .before .before .read .ensures) (c .before .enum-told2 .given .1) (c .handed-on .ensures))
 
 description-requires : tie.Need-description-requires
-description-requires c κs = omega (arith, long _ (rw (c .enum-told .given .1) at (c .before .before .read .ensures)))
+description-requires c κs = omega (arith, long _ _ (rw (c .enum-told .given .1) at (c .before .before .read .ensures)))
 
 returns-2 : tie.Need-returns-2
-returns-2 c = describes _ _ (rw (c .before .enum-told .given .1) at (c .before .before .before .read .ensures)) (c .description .ensures)
+returns-2 c = describes _ _ _ (rw (c .before .enum-told .given .1) at (c .before .before .before .read .ensures)) (c .description .ensures)
 
 pub description-spec : {M : Type 1} → statement M
 description-spec =

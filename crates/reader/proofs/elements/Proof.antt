@@ -30,7 +30,7 @@ array-write-ss c = search needs
 concluded-requires : tie.Need-concluded-requires
 concluded-requires c κs =
     let p = c .before .before .before .before .before .before .before .before .before .before .before .before .before .before .before .pre in
-    came-through _ _ _ _ _ _ _ refl (c .before .before .before .before .before .before .before .walk .ensures) (c .before .before .before .before .before .if1 .left) (p .2) (p .0) (p .1)
+    came-through _ _ _ _ _ _ _ _ refl (c .before .before .before .before .before .before .before .walk .ensures) (c .before .before .before .before .before .if1 .left) (p .2) (p .0) (p .1)
 
 returns-2 : tie.Need-returns-2
 returns-2 c = search needs

@@ -14,17 +14,24 @@ returns c =
 returns-2 : tie.Need-returns-2
 returns-2 c =
     let a = c .before .before .before in
-    record { beside = _; gives = gives-past _ _ (rw (a .answer .given .1) at (a .before .before .read .ensures)) (c .before .if1 .taken) }
+    record { beside = _; gives = gives-past _ _ _ (rw (a .answer .given .1) at (a .before .before .read .ensures)) (c .before .if1 .taken) }
 
 place-of-requires : tie.Need-place-of-requires
 place-of-requires c κs =
     let a = c .before .before in
-    (_, rw (a .answer .given .1) at (a .before .before .read .ensures), c .if1 .left)
+    (_, _, rw (a .answer .given .1) at (a .before .before .read .ensures), c .if1 .left)
+
+part-at-requires : tie.Need-part-at-requires
+part-at-requires c κs =
+    let a = c .before .before .before in
+    let l = c .place-of .ensures _ _ (rw (a .answer .given .1) at (a .before .before .read .ensures)) (c .before .if1 .left) in
+    (_, l .r, l .here)
 
 returns-3 : tie.Need-returns-3
 returns-3 c =
-    let l = c .before .place-of .ensures in
-    part-there _ _ _ l (c .part-at .ensures (l .r) (l .here))
+    let a = c .before .before .before .before in
+    let l = c .before .place-of .ensures _ _ (rw (a .answer .given .1) at (a .before .before .read .ensures)) (c .before .before .if1 .left) in
+    part-there _ _ _ _ l (c .part-at .ensures _ (l .r) (l .here))
 
 pub part-spec : {M : Type 1} → statement M
 part-spec =
@@ -42,5 +49,5 @@ part-spec =
     (search needs)
     returns-2
     place-of-requires
-    (λ c κs. search needs)
+    part-at-requires
     returns-3)

@@ -12,28 +12,48 @@ use Rattle.reader.proofs.part_place.Tie as tie
 
 returns : tie.Need-returns
 returns c =
-    let v = handed _ _ (c .before .before .before .read .ensures) (c .before .enum-told .given .1) (c .handed-on .ensures) in
+    let v = handed _ _ _ (c .before .before .before .read .ensures) (c .before .enum-told .given .1) (c .handed-on .ensures) in
     record { beside = []; gives = ungiven v }
 
 returns-2 : tie.Need-returns-2
 returns-2 c =
     let a = c .before .before in
-    record { beside = []; gives = gives-past _ _ (rw (a .answer .given .1) at (a .before .before .read .ensures)) (c .if1 .taken) }
+    record { beside = []; gives = gives-past _ _ _ (rw (a .answer .given .1) at (a .before .before .read .ensures)) (c .if1 .taken) }
 
 place-of-requires : tie.Need-place-of-requires
 place-of-requires c κs =
     let a = c .before .before in
-    (_, rw (a .answer .given .1) at (a .before .before .read .ensures), c .if1 .left)
+    (_, _, rw (a .answer .given .1) at (a .before .before .read .ensures), c .if1 .left)
 
-sub-t11 : tie.Need-sub-t11
-sub-t11 c =
-    let l = c .before .before .place-of .ensures in
-    omega (arith, c .before .part-place .ensures (l .r) (l .here), part-within _ _ _ (l .here) (c .length-at .ensures))
+part-place-requires : tie.Need-part-place-requires
+part-place-requires c κs =
+    let a = c .before .before .before in
+    let l = c .place-of .ensures _ _ (rw (a .answer .given .1) at (a .before .before .read .ensures)) (c .before .if1 .left) in
+    (_, l .r, l .here)
+
+length-at-requires : tie.Need-length-at-requires
+length-at-requires c κs =
+    let a = c .before .before .before .before in
+    let l = c .before .place-of .ensures _ _ (rw (a .answer .given .1) at (a .before .before .read .ensures)) (c .before .before .if1 .left) in
+    omega (arith, l .here .size, l .here .within)
+
+add-t11 : tie.Need-add-t11
+add-t11 c =
+    let a = c .before .before .before .before .before in
+    let l = c .before .before .place-of .ensures _ _ (rw (a .answer .given .1) at (a .before .before .read .ensures)) (c .before .before .before .if1 .left) in
+    omega (arith, c .length-at .ensures, l .here .within)
+
+sub-t12 : tie.Need-sub-t12
+sub-t12 c =
+    let a = c .before .before .before .before .before in
+    let l = c .before .before .place-of .ensures _ _ (rw (a .answer .given .1) at (a .before .before .read .ensures)) (c .before .before .before .if1 .left) in
+    omega (arith, c .before .part-place .ensures _ (l .r) (l .here), part-within _ _ _ _ (l .here) (c .length-at .ensures))
 
 returns-3 : tie.Need-returns-3
 returns-3 c =
-    let l = c .before .before .place-of .ensures in
-    placed-there _ _ _ l (c .before .part-place .ensures (l .r) (l .here)) (c .length-at .ensures)
+    let a = c .before .before .before .before .before in
+    let l = c .before .before .place-of .ensures _ _ (rw (a .answer .given .1) at (a .before .before .read .ensures)) (c .before .before .before .if1 .left) in
+    placed-there _ _ _ _ l (c .before .part-place .ensures _ (l .r) (l .here)) (c .length-at .ensures)
 
 pub part-place-spec : {M : Type 1} → statement M
 part-place-spec =
@@ -46,8 +66,8 @@ part-place-spec =
     returns
     returns-2
     place-of-requires
-    (λ c κs. search needs)
-    (λ c κs. search needs)
-    (search needs)
-    sub-t11
+    part-place-requires
+    length-at-requires
+    add-t11
+    sub-t12
     returns-3)

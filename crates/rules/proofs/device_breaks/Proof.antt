@@ -12,8 +12,8 @@ returns c =
     let select = c .before .selected .ensures in
     let bus = c .before .before .addressed in
     record {
-      of-controller = λ bs s f. c .own-breaks .ensures (controller _ bs) (sym s) (rw (bus .ensures, f) refl) select;
-      of-tachometer = λ a b e. c .own-breaks .ensures (tachometer _ a b) refl (rw (e, and-true (bus .result)) (bus .ensures)) select;
+      of-controller = λ bs s f. c .own-breaks .ensures _ (controller _ bs) (sym s) (rw (bus .ensures, f) refl) select;
+      of-tachometer = λ a b e. c .own-breaks .ensures _ (tachometer _ a b) refl (rw (e, and-true (bus .result)) (bus .ensures)) select;
     }
 
 pub device-breaks-spec : {M : Type 1} → statement M

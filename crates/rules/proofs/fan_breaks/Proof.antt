@@ -9,7 +9,7 @@ use Rattle.rules.proofs.fan_breaks.Tie as tie
 returns : tie.Need-returns
 returns c =
     let tested = c .before in
-    c .own-breaks .ensures (fan _) refl
+    c .own-breaks .ensures _ (fan _) refl
     (rw (tested .before .before .before .before .unused .ensures) refl)
     (rw (tested .rises .ensures, tested .before .allowed-or-unused .ensures, tested .before .before .allowed .ensures) refl)
 

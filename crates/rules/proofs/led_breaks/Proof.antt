@@ -10,7 +10,7 @@ returns : tie.Need-returns
 returns c =
     let tested = c .before in
     let lit = tested .before .before .before in
-    c .own-breaks .ensures (led _) refl
+    c .own-breaks .ensures _ (led _) refl
     (rw (lit .coloured3 .ensures, lit .before .coloured2 .ensures, lit .before .before .coloured .ensures) refl)
     (rw (tested .allowed-or-unused3 .ensures, tested .before .allowed-or-unused2 .ensures, tested .before .before .allowed-or-unused .ensures) refl)
 

@@ -9,7 +9,7 @@ use Rattle.rules.proofs.own_breaks.Tie as tie
 returns : tie.Need-returns
 unfolding ownRules
 returns c =
-    λ x s d p.
+    λ t x s d p.
     rw (c .or-else3 .ensures, c .before .or-else2 .ensures, c .before .before .or-else .ensures, s, d, p) (simp numbering)
 
 pub own-breaks-spec : {M : Type 1} → statement M

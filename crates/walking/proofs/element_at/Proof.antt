@@ -9,12 +9,12 @@ element-of-requires : tie.Need-element-of-requires
 element-of-requires c κs =
     let l = c .before .before in
     let p = l .before .before .pre in
-    (p .0, decoded-here _ _ (p .0) (p .1) (l .length-at .ensures))
+    (p .0, decoded-here _ _ _ (p .0) (p .1) (l .length-at .ensures))
 
 returns : tie.Need-returns
 returns c =
     let l = c .before .before .before in
-    λ x h. c .element-of .ensures x (decoded-here _ _ x h (l .length-at .ensures))
+    λ x h. c .element-of .ensures x (decoded-here _ _ _ x h (l .length-at .ensures))
 
 pub element-at-spec : {M : Type 1} → statement M
 element-at-spec =

@@ -9,13 +9,13 @@ use Rattle.walking.proofs.part_at.Tie as tie
 part-result-start : tie.Need-part-result-start
 part-result-start c =
     let s = c .before in
-    let h = s .before .before .pre .1 in
-    omega (arith, s .part-place .ensures _ h, part-within _ _ _ h (c .length-at .ensures))
+    let p = s .before .before .pre in
+    omega (arith, s .part-place .ensures _ _ (p .2), part-within _ _ _ _ (p .2) (c .length-at .ensures))
 
 returns : tie.Need-returns
 returns c =
     let l = c .before in
-    λ x h. part-here _ _ x h (l .length-at .ensures) (l .before .part-place .ensures x h)
+    λ k x h. part-here k _ _ x h (l .length-at .ensures) (l .before .part-place .ensures k x h)
 
 pub part-at-spec : {M : Type 1} → statement M
 part-at-spec =

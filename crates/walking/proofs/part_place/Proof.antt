@@ -9,11 +9,11 @@ use Rattle.walking.proofs.part_place.Tie as tie
 add-result : tie.Need-add-result
 add-result c =
     let l = c .before in
-    let h = l .before .before .before .pre .1 in
-    omega (arith, start-here _ _ _ h (l .length-at .ensures) (c .part-start .ensures), part-within _ _ _ h (l .length-at .ensures))
+    let h = l .before .before .before .pre .2 in
+    omega (arith, start-here _ _ _ _ h (l .length-at .ensures) (c .part-start .ensures), part-within _ _ _ _ h (l .length-at .ensures))
 
 returns : tie.Need-returns
-returns c = λ x h. omega (arith, start-here _ _ x h (c .before .length-at .ensures) (c .part-start .ensures))
+returns c = λ k x h. omega (arith, start-here k _ _ x h (c .before .length-at .ensures) (c .part-start .ensures))
 
 pub part-place-spec : {M : Type 1} → statement M
 part-place-spec = tie.close (tie.spec (search needs) (λ c κs. search needs) (λ c κs. search needs) add-result returns)

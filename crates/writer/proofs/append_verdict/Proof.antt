@@ -9,21 +9,21 @@ use Rattle.writer.proofs.append_verdict.Statement.{statement}
 use Rattle.writer.proofs.append_verdict.Tie as tie
 
 returns : tie.Need-returns
-returns c = append-1 _ _ _ (c .if1 .taken)
+returns c = append-1 _ _ _ _ (c .if1 .taken)
 
 returns-2 : tie.Need-returns-2
-returns-2 c = read-3 _ _ _ (c .before .before .if1 .left) _ (c .before .length-so-far .ensures .0) (not-true _ (c .if2 .taken))
+returns-2 c = read-3 _ _ _ _ (c .before .before .if1 .left) _ (c .before .length-so-far .ensures .0) (not-true _ (c .if2 .taken))
 
 returns-3 : tie.Need-returns-3
 returns-3 c =
     let n = c .before .before .before in
-    read-25 _ _ _ (n .before .if1 .left) _ (n .length-so-far .ensures .0) (not-false _ (c .before .before .if2 .left)) (sym (c .before .element-roomy .ensures) ∙ not-true _ (c .if3 .taken))
+    read-25 _ _ _ _ (n .before .if1 .left) _ (n .length-so-far .ensures .0) (not-false _ (c .before .before .if2 .left)) (sym (c .before .element-roomy .ensures) ∙ not-true _ (c .if3 .taken))
 
 returns-4 : tie.Need-returns-4
 returns-4 c =
     let h = c .before .before .before in
     let n = h .before .before in
-    read-fault _ _ _ (n .before .if1 .left) _ (n .length-so-far .ensures .0) (not-false _ (h .before .if2 .left)) (sym (h .element-roomy .ensures) ∙ not-false _ (c .before .before .if3 .left)) _ (c .before .part-breaks .ensures) (c .if4 .taken)
+    read-fault _ _ _ _ (n .before .if1 .left) _ (n .length-so-far .ensures .0) (not-false _ (h .before .if2 .left)) (sym (h .element-roomy .ensures) ∙ not-false _ (c .before .before .if3 .left)) _ (c .before .part-breaks .ensures) (c .if4 .taken)
 
 room-requires : tie.Need-room-requires
 room-requires c κs =
@@ -34,10 +34,7 @@ returns-5 : tie.Need-returns-5
 returns-5 c =
     let h = c .before .before .before .before in
     let n = h .before .before in
-    let stands = not-false _ (h .before .if2 .left) in
-    let roomy = sym (h .element-roomy .ensures) ∙ not-false _ (c .before .before .before .if3 .left) in
-    read-room _ _ _ (n .before .if1 .left) _ (n .length-so-far .ensures .0) stands roomy _ (c .before .before .part-breaks .ensures)
-    (c .before .if4 .left) _ (c .room .ensures)
+    read-room _ _ _ _ (n .before .if1 .left) _ (n .length-so-far .ensures .0) (not-false _ (h .before .if2 .left)) (sym (h .element-roomy .ensures) ∙ not-false _ (c .before .before .before .if3 .left)) _ (c .before .before .part-breaks .ensures) (c .before .if4 .left) _ (c .room .ensures)
 
 pub append-verdict-spec : {M : Type 1} → statement M
 append-verdict-spec =

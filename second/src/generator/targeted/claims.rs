@@ -54,8 +54,8 @@ fn hardware(cases: &mut Vec<Case>, all: &[(String, Vec<u8>)]) {
     for pin in crate::pins::ALL {
         for (name, element) in all {
             let mut parts = Parts::of(&[raw::zone(1, 0), element.clone()]);
-            parts.description[10] = pin.0;
-            let title = format!("hardware {}, then {name}", pin.name());
+            parts.description[10] = pin;
+            let title = format!("hardware {}, then {name}", crate::pins::name(pin));
             add(cases, title, parts.bytes());
         }
     }

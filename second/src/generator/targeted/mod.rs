@@ -1,6 +1,7 @@
 //! A fixed list of named tables: one broken in each way that 'What comes back' names, at each
 //! boundary, and the good table beside it.
 
+mod chips;
 mod claims;
 mod codes;
 mod counts;
@@ -27,6 +28,7 @@ pub fn targeted() -> &'static [Case] {
         pins::cases(&mut cases);
         names::cases(&mut cases);
         claims::cases(&mut cases);
+        chips::cases(&mut cases);
         cases
     })
 }

@@ -1,22 +1,19 @@
--- `from::description` meets its contract, by what the one call ensures of its result.
+-- `from::description` meets its contract, by what each call ensures of its result.
 -- Assumes nothing.
 use borrow.Author.Needs.{needs}
 use Rattle.numbers.proofs.from.description.Statement.{statement}
 use Rattle.numbers.proofs.from.description.Tie as tie
 
 returns : tie.Need-returns
-returns c = rw (c .before .before .before .before .before .long .ensures)
+returns c =
+    let l = c .before .before .before .before .before .before .before .before in
+    rw (
+      l .long .ensures,
+      c .before .before .before .before .optional .ensures,
+      c .before .before .optional2 .ensures,
+      c .optional3 .ensures,
+      l .before .before .before .before .chip-of .ensures,
+    )
 
 pub description-spec : {M : Type 1} → statement M
-description-spec =
-    tie.close
-    (tie.spec
-    (search needs)
-    (search needs)
-    (λ c κs. search needs)
-    (search needs)
-    (search needs)
-    (search needs)
-    (search needs)
-    (search needs)
-    returns)
+description-spec = tie.close (tie.spec (λ c κs. search needs) (λ c. search needs) (λ c. search needs) (λ c κs. search needs) (λ c. search needs) (λ c. search needs) (λ c. search needs) (λ c κs. search needs) (λ c. search needs) (λ c κs. search needs) (λ c. search needs) (λ c κs. search needs) returns)

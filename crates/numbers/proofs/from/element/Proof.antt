@@ -6,25 +6,25 @@ use Rattle.numbers.proofs.from.element.Statement.{statement}
 use Rattle.numbers.proofs.from.element.Tie as tie
 
 returns : tie.Need-returns
-returns c = rw (c .before .match .keys1, c .digital .ensures)
+returns c = rw (c .before .match .keys1, c .digital .ensures, c .before .before .chip-of .ensures)
 
 returns-2 : tie.Need-returns-2
-returns-2 c = rw (c .before .match .keys2, c .analogue .ensures)
+returns-2 c = rw (c .before .match .keys2, c .analogue .ensures, c .before .before .chip-of .ensures)
 
 returns-3 : tie.Need-returns-3
-returns-3 c = rw (c .before .before .match .keys3, c .fan .ensures)
+returns-3 c = rw (c .before .before .match .keys3, c .fan .ensures, c .before .before .before .chip-of .ensures)
 
 returns-4 : tie.Need-returns-4
-returns-4 c = rw (c .before .match .keys4, c .led .ensures)
+returns-4 c = rw (c .before .match .keys4, c .led .ensures, c .before .before .chip-of .ensures)
 
 returns-5 : tie.Need-returns-5
-returns-5 c = rw (c .before .match .keys5, c .current .ensures)
+returns-5 c = rw (c .before .match .keys5, c .current .ensures, c .before .before .chip-of .ensures)
 
 returns-6 : tie.Need-returns-6
-returns-6 c = rw (c .before .match .keys6, c .device .ensures)
+returns-6 c = rw (c .before .match .keys6, c .device .ensures, c .before .before .chip-of .ensures)
 
 returns-7 : tie.Need-returns-7
-returns-7 c = rw (c .before .match .keys7, c .device2 .ensures)
+returns-7 c = rw (c .before .match .keys7, c .device2 .ensures, c .before .before .chip-of .ensures)
 
 returns-8 : tie.Need-returns-8
 returns-8 c = rw (c .match .keys8)
@@ -33,7 +33,7 @@ returns-9 : tie.Need-returns-9
 returns-9 c = rw (c .match .keys9)
 
 returns-10 : tie.Need-returns-10
-returns-10 c = rw (c .before .before .match .keys10, c .rgb .ensures)
+returns-10 c = rw (c .before .before .match .keys10, c .rgb .ensures, c .before .before .before .chip-of .ensures)
 
 returns-11 : tie.Need-returns-11
 returns-11 c =
@@ -44,6 +44,7 @@ pub element-spec : {M : Type 1} → statement M
 element-spec =
     tie.close
     (tie.spec
+    (λ c κs. search needs)
     (λ c κs. search needs)
     (λ c κs. search needs)
     (λ c κs. search needs)

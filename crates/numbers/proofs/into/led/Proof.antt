@@ -1,11 +1,17 @@
--- `into::led` meets its contract, by what `placement` ensures of its result.
+-- `into::led` meets its contract, by what each call ensures of its result.
 -- Assumes nothing.
 use borrow.Author.Needs.{needs}
 use Rattle.numbers.proofs.into.led.Statement.{statement}
 use Rattle.numbers.proofs.into.led.Tie as tie
 
 returns : tie.Need-returns
-returns c = rw (c .placement .ensures)
+returns c =
+    rw (
+      c .before .before .before .before .before .before .placement .ensures,
+      c .before .before .byte-of .ensures,
+      c .before .byte-of2 .ensures,
+      c .byte-of3 .ensures,
+    )
 
 pub led-spec : {M : Type 1} → statement M
-led-spec = tie.close (tie.spec (λ c κs. search needs) (search needs) (search needs) (search needs) (search needs) (search needs) (search needs) (search needs) (search needs) (search needs) returns)
+led-spec = tie.close (tie.spec (λ c κs. search needs) (λ c κs. search needs) (λ c. search needs) (λ c. search needs) (λ c. search needs) (λ c κs. search needs) (λ c. search needs) (λ c. search needs) (λ c. search needs) (λ c κs. search needs) (λ c. search needs) (λ c. search needs) (λ c. search needs) returns)

@@ -1,0 +1,15 @@
+-- `settings_of` meets its contract: the branch taken tells the test.
+-- Assumes nothing.
+use borrow.Author.Tests.{eq-eqb, ne-eqb}
+use borrow.Author.Needs.{needs}
+use Rattle.esa.proofs.settings_of.Statement.{statement}
+use Rattle.esa.proofs.settings_of.Tie as tie
+
+returns : tie.Need-returns
+returns c = rw (eq-eqb _ _ (c .if1 .taken))
+
+returns-2 : tie.Need-returns-2
+returns-2 c = rw (ne-eqb _ _ (c .if1 .left))
+
+pub settings-of-spec : {M : Type 1} → statement M
+settings-of-spec = tie.close (tie.spec returns returns-2)
