@@ -12,7 +12,7 @@ void *memset(void *to, int value, number count);
 int memcmp(const void *one, const void *other, number count);
 void _exit(int status);
 
-/* Settings are one number: bit 0 set is the 321. */
+/* Settings are one number: bit 0 set is the 321, bit 1 the archive's rules; start, append and rewrite ignore bit 1. */
 number esa_check(const byte *table, number length, number settings);
 /* Weak, so that an archive without them links too: their modes then answer NO_SUCH_CALL. */
 __attribute__((weak)) number esa_element(const byte *table, number length, number k, number settings);

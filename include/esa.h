@@ -55,6 +55,7 @@ enum esa_numbers {
     ESA_CLASH = 15,            /* a pin is claimed twice; element of the later claim, or 0 */
     ESA_NO_ROOM = 16,          /* writer: the new length passes the buffer or 4,096; 0 */
     ESA_PAST_THE_LAST = 17,    /* there is no element k; in a part, no such block or pair; 0 */
+    ESA_RETIRED = 23,          /* bus type 2, SMBus block mode, by the ordinary rules; element. It stands between 9 and 10 */
     ESA_TOO_LARGE = 25         /* writer: a number is too large for its field; 0 */
 };
 
@@ -80,14 +81,16 @@ static inline const char *esa_words(unsigned number)
     case ESA_CLASH: return "a pin is claimed a second time";
     case ESA_NO_ROOM: return "no room for it";
     case ESA_PAST_THE_LAST: return "there is no such element, block or pair";
+    case ESA_RETIRED: return "a bus type that is retired";
     case ESA_TOO_LARGE: return "a number is too large for its field";
     default: return "a number that no call gives";
     }
 }
 
-/* SETTINGS. One number, behind the other plain numbers of a call: which chip the board carries. Bit 0 set is the C8051F321, which
-   lacks P2.4 to P2.7; all other bits are ignored. No table names its chip. */
-enum { ESA_C8051F320 = 0, ESA_C8051F321 = 1 };
+/* SETTINGS. One number, behind the other plain numbers of a call: which chip the board carries, and by which rules is read. Bit 0
+   set is the C8051F321, which lacks P2.4 to P2.7. Bit 1 set (add ESA_ARCHIVE) are the archive's rules, which still have SMBus block
+   mode, bus type 2; else the ordinary ones, which refuse it (23). All other bits are ignored. No table names its chip. */
+enum { ESA_C8051F320 = 0, ESA_C8051F321 = 1, ESA_ARCHIVE = 2 };
 
 /* NUMBERS. A record is handed over as 32 bytes, 'numbers': each number as wide as its bytes below, lowest byte first. Byte 31
    names the chip of the record's pins: 0 the C8051F320, any other number the C8051F321; read, it is the chip of the settings, 0
@@ -111,10 +114,11 @@ enum { ESA_C8051F320 = 0, ESA_C8051F321 = 1 };
 enum { ESA_NUMBERS = 32 };
 
 /* READING. The table is read only; no byte of it can alter. Every call that takes a table checks the whole of it first, for the
-   chip of its settings. What is accepted for the C8051F321 is accepted for the C8051F320 too. */
+   chip and by the rules of its settings. What is accepted for the C8051F321 is accepted for the C8051F320 too; and whenever the
+   answer by the ordinary rules is not 23, it is the archive's as well. */
 
 /* Is it a table? 0, and beside it the number of elements, exactly when the bytes keep every rule; otherwise the first rule
-   that they break (1 to 15) and its place. */
+   that they break (1 to 15, or 23) and its place. */
 uint64_t esa_check(const uint8_t *table, size_t length, uint64_t settings);
 
 /* What does the description say? 0, and beside it 0, with the description in 'numbers'; or the table's own refusal as esa_check
@@ -173,13 +177,14 @@ static inline uint16_t esa_data(uint64_t answer)
 
 /* The listing of a table, as text: one record a line, fields parted by tabs, each line ended by a line feed. It is put at the
    front of 'out'; the answer is its length in bytes, and the bytes behind it are as they were. Of a refused table the text is
-   the one line R, number, place. Every listing fits into 'out', and none is ended by a zero. */
+   the one line R, number, place. By the archive's rules the line of an element on SMBus block mode has a last field, retired. Every
+   listing fits into 'out', and none is ended by a zero. */
 enum { ESA_LISTING = 4096 };
 size_t esa_list(const uint8_t *table, size_t length, uint64_t settings, uint8_t out[ESA_LISTING]);
 
 /* WRITING. A table is started in a buffer and each element appended to it; bytes 1-2 of the buffer hold the length so far.
    With a refusal no byte of the buffer alters. A table that is still being written may break rules over the whole of it (11
-   to 15): ask esa_check, with the same settings, when it is done. */
+   to 15): ask esa_check, with the same settings, when it is done. There is no archive's writer: bit 1 of the settings is ignored. */
 
 /* Starts a table with the description in the numbers. 0, and beside it 16, the length, with the description in the first 16
    bytes; or, in this order, 1 (a buffer under 16 bytes), 25, 4, 5, 10, all at 0. */
@@ -187,13 +192,13 @@ uint64_t esa_start(uint8_t *buffer, size_t length, uint64_t settings, const uint
 
 /* Appends the element of this identifier in the numbers, with its variable part. 0, and beside it the new length; only bytes
    1-2 and those of the new element alter. Or, in this order, 7 at 0 (an identifier of no kind); 1 at 0 (a buffer under 16
-   bytes); 3 at 0; 25 at 0; 8, 9, 10 at the length so far; 16 at 0. A part beside a kind that has none is 8. */
+   bytes); 3 at 0; 25 at 0; 8, 9, 23, 10 at the length so far; 16 at 0. A part beside a kind that has none is 8. */
 uint64_t esa_append(uint8_t *buffer, size_t length, uint8_t id, uint64_t settings, const uint8_t numbers[ESA_NUMBERS],
                     const uint8_t *part, size_t part_length);
 
 /* Reads the records of a table and writes them again. 0, and beside it the table's length: the front of 'out' is then that
    table with its reserved places at zero, and the bytes behind are as they were. Or the table's own refusal as esa_check
-   gives it, or 16 at 0 when 'room' is under the table's length; with either no byte of 'out' alters. */
+   gives it by the ordinary rules, or 16 at 0 when 'room' is under the table's length; with either no byte of 'out' alters. */
 uint64_t esa_rewrite(const uint8_t *table, size_t length, uint64_t settings, uint8_t *out, size_t room);
 
 /* NAMES. The ten identifiers, the bounds, and how a pin and a number of two or four bytes are put. */

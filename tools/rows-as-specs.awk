@@ -1,4 +1,4 @@
-# Lines of HEX, number, place or count, chip -> the module specs/Rows of a copy of crates/format: one row a line.
+# Lines of HEX, number, place or count, chip, rules -> the module specs/Rows of a copy of crates/format: one row a line.
 BEGIN {
     FS = "\t"
     print "-- Rows of the second program, for one run."

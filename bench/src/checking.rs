@@ -1,31 +1,30 @@
-//! The two readers on each corpus, on both chips.
+//! The two readers on each corpus, with all settings.
 
 use crate::corpora::{self, Corpus};
 use crate::rounds;
 use crate::sides;
-use second::Chip;
+use second::Settings;
 
 /// Prints the times and gives the number of differences.
 pub fn report() -> usize {
     println!("\nChecking.\n");
-    println!("| Corpus | chip | ours, ns | second's, ns | ratio | differences |");
+    println!("| Corpus | settings | ours, ns | second's, ns | ratio | differences |");
     println!("|---|---|---|---|---|---|");
-    Chip::BOTH.into_iter().map(rows).sum()
+    Settings::ALL.into_iter().map(rows).sum()
 }
 
-fn rows(chip: Chip) -> usize {
-    let corpora = corpora::all(chip);
-    corpora.iter().map(|corpus| row(corpus, chip)).sum()
+fn rows(settings: Settings) -> usize {
+    let corpora = corpora::all(settings);
+    corpora.iter().map(|corpus| row(corpus, settings)).sum()
 }
 
-fn row(corpus: &Corpus, chip: Chip) -> usize {
-    let sides = sides::both(chip);
+fn row(corpus: &Corpus, settings: Settings) -> usize {
+    let sides = sides::both(settings);
     let differences = sides::differences(sides, &corpus.tables);
     let [our_time, second_time] = rounds::medians(sides, &corpus.tables);
     println!(
-        "| {} | {} | {our_time:.1} | {second_time:.1} | {:.2} | {differences} |",
+        "| {} | {settings} | {our_time:.1} | {second_time:.1} | {:.2} | {differences} |",
         corpus.name,
-        chip.digits(),
         our_time / second_time
     );
     differences

@@ -2,18 +2,18 @@
 
 use second::generator::{self, raw};
 use second::random::Random;
-use second::Chip;
+use second::Settings;
 
 pub struct Corpus {
     pub name: &'static str,
     pub tables: Vec<Vec<u8>>,
 }
 
-/// Accepted by this chip, the damaged ones excepted.
-pub fn all(chip: Chip) -> Vec<Corpus> {
-    let made = |name, count, make: fn(&mut Random, Chip) -> Vec<u8>| {
+/// Accepted with these settings, the damaged ones excepted.
+pub fn all(settings: Settings) -> Vec<Corpus> {
+    let made = |name, count, make: fn(&mut Random, Settings) -> Vec<u8>| {
         let mut random = Random::new(1);
-        let tables = (0..count).map(|_| make(&mut random, chip)).collect();
+        let tables = (0..count).map(|_| make(&mut random, settings)).collect();
         Corpus { name, tables }
     };
     let controllers = "200 tables of 4,096 bytes, 09h";

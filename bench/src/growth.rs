@@ -3,7 +3,7 @@
 use crate::rounds;
 use crate::sides;
 use second::generator::raw;
-use second::Chip;
+use second::Settings;
 
 const SIZES: [usize; 6] = [16, 64, 256, 1_024, 2_048, 4_096];
 
@@ -18,7 +18,7 @@ pub fn report() -> usize {
 fn series(name: &str, make: fn(usize) -> Vec<u8>) -> usize {
     println!("\nGrowth, accepted tables: {name}.\n");
     println!("| Bytes | elements | ours, ns | ns a byte |\n|---|---|---|---|");
-    let sides = sides::both(Chip::F320);
+    let sides = sides::both(Settings::default());
     let [ours, second] = sides;
     SIZES
         .iter()

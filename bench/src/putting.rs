@@ -76,7 +76,7 @@ fn our_rewriting(work: &Work) -> u64 {
 fn second_rewriting(work: &Work) -> u64 {
     packed(::second::rewrite(
         &work.table,
-        Settings::from(CHIP),
+        CHIP,
         &mut work.out.borrow_mut()[..],
     ))
 }
@@ -85,7 +85,7 @@ fn second_rewriting(work: &Work) -> u64 {
 fn second_by_records(work: &Work) -> u64 {
     packed(::second::rewrite_by_records(
         &work.table,
-        Settings::from(CHIP),
+        CHIP,
         &mut work.out.borrow_mut()[..],
     ))
 }
@@ -123,7 +123,7 @@ fn rows<const SIDES: usize>(sides: [Side; SIDES]) -> usize {
 fn row<const SIDES: usize>(elements: usize, sides: [Side; SIDES]) -> usize {
     let mut random = Random::new(1);
     let works: Vec<Work> = (0..TABLES)
-        .map(|_| Work::of(mixed_of(&mut random, elements, CHIP)))
+        .map(|_| Work::of(mixed_of(&mut random, elements, CHIP.into())))
         .collect();
     let differs = |work: &&Work| {
         let ours = work.left(sides[0]);

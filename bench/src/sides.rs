@@ -1,6 +1,6 @@
 //! The two readers, called alike: bytes in, number + 256 x (place or count) out.
 
-use second::{Chip, Settings};
+use second::Settings;
 
 extern "C" {
     fn esa_check(table: *const u8, length: usize, settings: u64) -> u64;
@@ -8,11 +8,13 @@ extern "C" {
 
 pub type Side = fn(&[u8]) -> u64;
 
-/// The proved reader and the second program's fast one, on a chip.
-pub fn both(chip: Chip) -> [Side; 2] {
-    match chip {
-        Chip::F320 => [ours::<0>, second::<0>],
-        Chip::F321 => [ours::<1>, second::<1>],
+/// The proved reader and the second program's fast one, with these settings.
+pub fn both(settings: Settings) -> [Side; 2] {
+    match settings.number() {
+        0 => [ours::<0>, second::<0>],
+        1 => [ours::<1>, second::<1>],
+        2 => [ours::<2>, second::<2>],
+        _ => [ours::<3>, second::<3>],
     }
 }
 

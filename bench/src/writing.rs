@@ -118,7 +118,7 @@ fn second(work: &Work) -> u64 {
 /// Tables of 4,096 bytes with all kinds and as many elements as a table may have.
 fn full_tables() -> Vec<Work> {
     let mut random = Random::new(1);
-    std::iter::repeat_with(|| generator::mixed(&mut random, CHIP))
+    std::iter::repeat_with(|| generator::mixed(&mut random, CHIP.into()))
         .filter(|table| walk(table).count() == MOST_ELEMENTS)
         .take(TABLES)
         .map(|table| Work::of(&table))

@@ -1,20 +1,27 @@
-//! How often each answer of a call came on each chip, both sides agreeing: told, and held to what must come.
+//! How often each answer of a call came with each of the settings, both sides agreeing: told, and held to what
+//! must come.
 
+use second::answer::number;
 use second::histogram::Histogram;
-use second::Chip;
+use second::Settings;
 
 #[derive(Default)]
-pub struct Answers([Histogram; 2]);
+pub struct Answers([Histogram; 4]);
+
+/// Every answer to a whole table with these settings, and these more.
+pub fn of_a_table(settings: Settings, more: &[u8]) -> Vec<u8> {
+    [&number::of_a_table(settings.rules), more].concat()
+}
 
 impl Answers {
-    pub fn add(&mut self, chip: Chip, number: u8) {
-        self.0[chip as usize].add(number);
+    pub fn add(&mut self, settings: Settings, number: u8) {
+        self.0[settings.number() as usize].add(number);
     }
 
-    /// One line for each chip that was asked: number and count of each answer.
+    /// One line for each of the settings that was asked with: number and count of each answer.
     pub fn print(&self, name: &str) {
-        for chip in Chip::BOTH {
-            let answers = &self.0[chip as usize];
+        for settings in Settings::ALL {
+            let answers = &self.0[settings.number() as usize];
             if answers.total() == 0 {
                 continue;
             }
@@ -23,22 +30,17 @@ impl Answers {
                 .map(|number| format!("{number}: {}", answers.of(number)))
                 .collect();
             let counts = counts.join(", ");
-            println!("answers of {name} on the {}: {counts}", chip.digits());
+            println!("answers of {name} on the {settings}: {counts}");
         }
     }
 
-    /// Prints the answers that should have come on each of these chips and did not; true when all came.
-    pub fn all_came(&self, name: &str, chips: &[Chip], wanted: &[u8]) -> bool {
-        let mut all = true;
-        for &chip in chips {
-            let mut missing = wanted.to_vec();
-            missing.retain(|&number| self.0[chip as usize].of(number) == 0);
-            if !missing.is_empty() {
-                let chip = chip.digits();
-                println!("answers of {name} on the {chip} that never came: {missing:?}");
-                all = false;
-            }
+    /// Prints the answers that should have come with these settings and did not; true when all came.
+    pub fn all_came(&self, name: &str, settings: Settings, wanted: &[u8]) -> bool {
+        let mut missing = wanted.to_vec();
+        missing.retain(|&number| self.0[settings.number() as usize].of(number) == 0);
+        if !missing.is_empty() {
+            println!("answers of {name} on the {settings} that never came: {missing:?}");
         }
-        all
+        missing.is_empty()
     }
 }

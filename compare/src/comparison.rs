@@ -10,9 +10,9 @@ use crate::outcome::Outcome;
 use crate::question::{Origin, Question};
 use crate::settings;
 use crate::tally::Tally;
-use second::generator::{any, touches_the_four};
+use second::generator::any;
 use second::random::Random;
-use second::Chip;
+use second::Settings;
 use std::rc::Rc;
 
 pub struct Comparison {
@@ -54,26 +54,31 @@ impl Comparison {
         })
     }
 
-    /// Compares all calls on a table of any sort; the chips that they are made for take turns.
+    /// Compares all calls on a table of any sort; the settings that they are made for take turns.
     pub fn seeded(&mut self, random: &mut Random, seed: u64, at: u64) -> Result<(), String> {
-        let chip = Chip::BOTH[at as usize % 2];
-        self.table(Origin::Seeded { seed, at }, chip, any(random, chip))
+        let made_for = Settings::ALL[at as usize % 4];
+        self.table(Origin::Seeded { seed, at }, made_for, any(random, made_for))
     }
 
-    /// Compares all calls on one table: on the 320, and on the 321 if it was made for that or touches the
-    /// four pins that it lacks.
-    pub fn table(&mut self, origin: Origin, made_for: Chip, table: Vec<u8>) -> Result<(), String> {
+    /// Compares all calls on one table, with all settings that it is read with; its parts once.
+    pub fn table(
+        &mut self,
+        origin: Origin,
+        made_for: Settings,
+        table: Vec<u8>,
+    ) -> Result<(), String> {
         let table: Rc<[u8]> = table.into();
+        let turn = self.exchange.tally.tables;
         self.exchange.tally.tables += 1;
-        self.calls(origin, Chip::F320, &table)?;
-        if made_for == Chip::F321 || touches_the_four(&table) {
-            self.calls(origin, Chip::F321, &table)?;
+        for settings in settings::of_table(made_for, turn, &table) {
+            let number = settings::reading(settings, turn);
+            self.calls(origin, number, &table)?;
+            self.fields(origin, number, &table, settings == made_for)?;
         }
         Ok(())
     }
 
-    fn calls(&mut self, origin: Origin, chip: Chip, table: &Rc<[u8]>) -> Result<(), String> {
-        let settings = settings::reading(chip, self.exchange.tally.tables);
+    fn calls(&mut self, origin: Origin, settings: u64, table: &Rc<[u8]>) -> Result<(), String> {
         let check = Call::Check.second(table, settings);
         let places = if self.elements {
             places(check.answer, table.len())
@@ -87,8 +92,7 @@ impl Comparison {
                 self.ask(origin, call, settings, table, second)?;
             }
         }
-        self.listing(origin, settings, table)?;
-        self.fields(origin, settings, table)
+        self.listing(origin, settings, table)
     }
 
     /// Holds both sides to an answer that the paper gives.
@@ -98,7 +102,7 @@ impl Comparison {
         }
         let origin = Origin::Known(row.name);
         let table: Rc<[u8]> = row.table.into();
-        let settings = settings::reading(row.chip, self.exchange.tally.tables);
+        let settings = settings::reading(row.settings, self.exchange.tally.tables);
         let second = row.call.second(&table, settings).answer;
         if second != row.answer {
             self.exchange.tally.differences.note(|| {
@@ -109,7 +113,7 @@ impl Comparison {
         self.exchange.tally.tables += 1;
         self.ask(origin, row.call, settings, &table, row.answer.into())?;
         self.listing(origin, settings, &table)?;
-        self.fields(origin, settings, &table)
+        self.fields(origin, settings, &table, true)
     }
 
     /// Compares the calls on parts at their edges.
@@ -117,11 +121,18 @@ impl Comparison {
         self.fields.as_mut().map_or(Ok(()), Fields::part_edges)
     }
 
-    fn fields(&mut self, origin: Origin, settings: u64, table: &Rc<[u8]>) -> Result<(), String> {
+    /// Those of its parts too, if they are asked for.
+    fn fields(
+        &mut self,
+        origin: Origin,
+        settings: u64,
+        table: &Rc<[u8]>,
+        parts: bool,
+    ) -> Result<(), String> {
         let Some(fields) = &mut self.fields else {
             return Ok(());
         };
-        fields.table(origin, settings, table)
+        fields.table(origin, settings, table, parts)
     }
 
     fn listing(&mut self, origin: Origin, settings: u64, table: &Rc<[u8]>) -> Result<(), String> {

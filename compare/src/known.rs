@@ -1,14 +1,14 @@
 //! 'Known tables' of document 01, with the answers that stand there. The bytes are written out here
-//! and not taken from the second program. No pin of theirs is one of the four, so that both chips answer so;
-//! rows with one of the four come in addition.
+//! and not taken from the second program. No pin of theirs is one of the four and no bus is in block mode, so
+//! that the answers are the same with all settings; rows with either come in addition.
 
 use crate::answer::Answer;
 use crate::call::Call;
-use second::Chip;
+use second::{Chip, Rules, Settings};
 
 pub struct Row {
     pub name: &'static str,
-    pub chip: Chip,
+    pub settings: Settings,
     pub table: Vec<u8>,
     pub call: Call,
     pub answer: Answer,
@@ -63,24 +63,50 @@ fn asked(name: &'static str, table: Vec<u8>, call: Call, number: u8, beside: usi
     let answer = Answer::of(number, beside);
     Row {
         name,
-        chip: Chip::F320,
+        settings: Settings::default(),
         table,
         call,
         answer,
     }
 }
 
-fn on(chip: Chip, row: Row) -> Row {
-    Row { chip, ..row }
+fn on(settings: impl Into<Settings>, row: Row) -> Row {
+    let settings = settings.into();
+    Row { settings, ..row }
 }
 
 pub fn rows() -> Vec<Row> {
     let mut rows = four_pins();
-    for chip in Chip::BOTH {
+    rows.extend(Chip::BOTH.into_iter().flat_map(block_mode));
+    for settings in Settings::ALL {
         let lists = [descriptions(), elements(), elements_asked_for()];
-        rows.extend(lists.into_iter().flatten().map(|row| on(chip, row)));
+        rows.extend(lists.into_iter().flatten().map(|row| on(settings, row)));
     }
     rows
+}
+
+/// Not rows of the list itself: bus type 2 is 23 directly after 9, and what it was in the archive (02, 12/14).
+fn block_mode(chip: Chip) -> Vec<Row> {
+    let [strict, old] = Rules::BOTH.map(|rules| Settings::new(chip, rules));
+    let bus = |byte: u8| changed(&C, &[(8, byte)]);
+    let empty = changed(&C, &[(8, 2), (12, 0)]);
+    let whole = |byte: u8| with(&[&bus(byte), &ZONE_1]);
+    vec![
+        on(strict, row("A, C in block mode", with(&[&bus(2)]), 23, 16)),
+        on(old, row("A, C in block mode", with(&[&bus(2)]), 13, 16)),
+        on(strict, row("A, C with F2h, zone 1", whole(0xF2), 23, 16)),
+        on(old, row("A, C with F2h, zone 1", whole(0xF2), 0, 2)),
+        on(
+            strict,
+            row("A, C, ENTRIES 0 in block mode", with(&[&empty]), 9, 16),
+        ),
+        on(
+            old,
+            row("A, C, ENTRIES 0 in block mode", with(&[&empty]), 9, 16),
+        ),
+        on(strict, row("A, C with F1h, zone 1", whole(0xF1), 0, 2)),
+        on(old, row("A, C with F1h, zone 1", whole(0xF1), 0, 2)),
+    ]
 }
 
 /// Not rows of the list itself: P2.4 to P2.7 are on the 320 alone (000, Annex A, note 3), P2.3 and P3.0 on both.
@@ -175,9 +201,9 @@ mod tests {
     #[test]
     fn the_second_program_gives_the_papers_answers() {
         for row in super::rows() {
-            let (name, chip, call) = (row.name, row.chip, row.call);
-            let second = call.second(&row.table, reading(chip, 0)).answer;
-            assert_eq!(second, row.answer, "{name}: {call}, {chip:?}");
+            let (name, settings, call) = (row.name, row.settings, row.call);
+            let second = call.second(&row.table, reading(settings, 0)).answer;
+            assert_eq!(second, row.answer, "{name}: {call}, {settings}");
         }
     }
 }

@@ -1,13 +1,12 @@
 //! What was asked, what came back, and where the two sides differ.
 
-use crate::answers::Answers;
+use crate::answers::{of_a_table, Answers};
 use crate::call::Call;
 use crate::exchange::Takes;
 use crate::fields;
 use crate::outcome::{hex, text, Differences, Outcome};
 use crate::question::Question;
-use crate::settings;
-use second::Chip;
+use second::Settings;
 
 /// By mode of the driver; a listing has no number and is only counted.
 const NAMES: [&str; 3] = ["check", "element", "part"];
@@ -34,14 +33,14 @@ impl Takes<Question> for Tally {
             differences.note(|| format!("{asked}: {}", proved.against(expected, shown)));
         } else if asked.call != Call::List {
             let answers = &mut self.answers[usize::from(asked.call.mode())];
-            answers.add(settings::chip(asked.settings), proved.answer.number());
+            answers.add(Settings::of_number(asked.settings), proved.answer.number());
         }
         self.listings += u64::from(asked.call == Call::List);
     }
 }
 
 impl Tally {
-    /// One line for each mode and chip that was asked for: number and count of each answer.
+    /// One line for each mode and each of the settings that was asked for: number and count of each answer.
     pub fn print_answers(&self) {
         for (name, answers) in NAMES.iter().zip(&self.answers) {
             answers.print(name);
@@ -51,9 +50,15 @@ impl Tally {
         }
     }
 
-    /// Prints the answers of this mode that should have come and did not; true when all came, on both chips.
-    pub fn all_came(&self, mode: usize, numbers: &[u8]) -> bool {
-        self.answers[mode].all_came(NAMES[mode], &Chip::BOTH, numbers)
+    /// Prints the answers of this mode that should have come and did not, those to a whole table and these
+    /// more; true when all came, with all settings.
+    pub fn all_came(&self, mode: usize, more: &[u8]) -> bool {
+        let mut all = true;
+        for settings in Settings::ALL {
+            let wanted = of_a_table(settings, more);
+            all &= self.answers[mode].all_came(NAMES[mode], settings, &wanted);
+        }
+        all
     }
 
     pub fn all_differences(&self) -> u64 {
@@ -83,6 +88,7 @@ mod tests {
     use super::*;
     use crate::answer::Answer;
     use crate::question::Origin;
+    use crate::settings::reading;
     use second::generator;
     use second::random::Random;
 
@@ -101,12 +107,12 @@ mod tests {
     fn an_altered_length_or_byte_of_a_listing_is_reported() {
         let mut random = Random::new(3);
         for at in 0..300 {
-            let chip = Chip::BOTH[at as usize % 2];
+            let made_for = Settings::ALL[at as usize % 4];
             let asked = Question {
                 origin: Origin::Seeded { seed: 3, at },
                 call: Call::List,
-                settings: settings::reading(chip, at),
-                table: generator::any(&mut random, chip).into(),
+                settings: reading(made_for, at),
+                table: generator::any(&mut random, made_for).into(),
             };
             let second = asked.call.second(&asked.table, asked.settings);
             assert_eq!(counted(&asked, &second), (1, 0));

@@ -1,5 +1,5 @@
-/* A tour of the library from C: is a file a table, what stands in it, how a new one is written, and written again; and
-   a lamp that one of the two chips has no pin for.
+/* A tour of the library from C: is a file a table, what stands in it, how a new one is written, and written again; a lamp that
+   one of the two chips has no pin for; and an old sensor that the archive's rules alone take.
    tour [FILE]      without FILE it looks at a table of its own. On x86-64:
    rt staticlib esa && cc -std=c99 -I include examples/c/tour.c target/staticlib/libesa.a -o tour */
 #include <stdio.h>
@@ -55,10 +55,10 @@ static void walk(const uint8_t *table, size_t length, size_t count)
 }
 
 /* The listing: a line for the table and one for each element, or the refusal. */
-static void list(const uint8_t *table, size_t length)
+static void list(const uint8_t *table, size_t length, uint64_t settings)
 {
     uint8_t text[ESA_LISTING];
-    fwrite(text, 1, esa_list(table, length, CHIP, text), stdout);
+    fwrite(text, 1, esa_list(table, length, settings, text), stdout);
 }
 
 /* A table with a fan and its zone; without the zone it is refused. Gives the length, or 0 if the writer refuses. */
@@ -91,8 +91,8 @@ static size_t build(uint8_t *buffer, size_t length)
 }
 
 /* A lamp on P2.7, which the smaller chip lacks: the table is good for the C8051F320 alone. A record is written for the chip
-   that its byte 31 names, and for no other. */
-static void lamp(uint8_t *buffer, size_t length)
+   that its byte 31 names, and for no other. Gives the length, or 0 if the writer refuses. */
+static size_t lamp(uint8_t *buffer, size_t length)
 {
     uint8_t numbers[ESA_NUMBERS] = { 0, 0xFF, 0xFF, 0xFF, 1, 0, 2, 1 }; /* zone 1, green, good */
     numbers[5] = esa_pin(2, 7);
@@ -102,9 +102,25 @@ static void lamp(uint8_t *buffer, size_t length)
     numbers[31] = ESA_C8051F320;
     uint64_t answer = esa_append(buffer, length, ESA_STATUS_LED, ESA_C8051F320, numbers, NULL, 0);
     if (!told("a lamp for the 320 appended", answer, "bytes"))
-        return;
+        return 0;
     told("is it a table for the 320", esa_check(buffer, esa_beside(answer), ESA_C8051F320), "elements");
     told("is it a table for the 321", esa_check(buffer, esa_beside(answer), ESA_C8051F321), "elements");
+    return esa_beside(answer);
+}
+
+/* A sensor on SMBus block mode, which is retired: only a table of old has one, and only the archive's rules read it. */
+static void sensor(uint8_t *buffer, size_t length, size_t written)
+{
+    uint8_t numbers[ESA_NUMBERS] = { 0, 0xFF, 0xFF, 0xFF, 1, 2, 0, 0x48 }; /* zone 1, block mode, bus address 48h */
+    told("a sensor on block mode appended", esa_append(buffer, length, ESA_DIGITAL_SENSOR, CHIP, numbers, NULL, 0), "bytes");
+    numbers[5] = 1; /* SMBus byte mode */
+    uint64_t answer = esa_append(buffer, length, ESA_DIGITAL_SENSOR, CHIP, numbers, NULL, 0);
+    if (!told("a sensor on byte mode appended", answer, "bytes"))
+        return;
+    buffer[written + 8] = 2; /* its bus type, as an old tool wrote it */
+    told("is it a table in use", esa_check(buffer, esa_beside(answer), CHIP), "elements");
+    told("is it a table of the archive", esa_check(buffer, esa_beside(answer), CHIP | ESA_ARCHIVE), "elements");
+    list(buffer, esa_beside(answer), CHIP | ESA_ARCHIVE);
 }
 
 /* Writes a table again: the same table, but for its reserved places, which become zero. */
@@ -144,7 +160,7 @@ int main(int count, char **arguments)
     int good = told("is it a table", answer, "elements");
     if (good)
         walk(table, length, esa_beside(answer));
-    list(table, length);
+    list(table, length, CHIP);
 
     printf("\na table of our own\n");
     uint8_t buffer[100];
@@ -156,6 +172,9 @@ int main(int count, char **arguments)
     again(buffer, written);
 
     printf("\nthe same with a lamp on P2.7\n");
-    lamp(buffer, sizeof buffer);
+    written = lamp(buffer, sizeof buffer);
+
+    printf("\nthe same with an old sensor\n");
+    sensor(buffer, sizeof buffer, written);
     return good ? 0 : 1;
 }

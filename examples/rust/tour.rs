@@ -1,5 +1,5 @@
-//! A tour of the library from Rust: is a file a table, what stands in it, how a new one is written, and written again; and a
-//! lamp that one of the two chips has no pin for.
+//! A tour of the library from Rust: is a file a table, what stands in it, how a new one is written, and written again; a lamp
+//! that one of the two chips has no pin for; and an old sensor that the archive's rules alone take.
 //! tour [FILE]      without FILE it looks at a table of its own. On x86-64:
 //! rt staticlib esa && rustc --edition 2021 -L target/staticlib -l static=esa examples/rust/tour.rs
 
@@ -11,6 +11,7 @@ use std::process::ExitCode;
 mod esa {
     /// The longest table.
     pub const LONGEST: usize = 4096;
+    pub const DIGITAL_SENSOR: u8 = 0x01;
     pub const PWM_FAN: u8 = 0x03;
     pub const STATUS_LED: u8 = 0x04;
     pub const ZONE: u8 = 0x0B;
@@ -19,11 +20,24 @@ mod esa {
     /// The numbers of one record; include/esa.h says which stands where. Byte 31 is the chip of its pins.
     pub type Numbers = [u8; 32];
 
-    /// The chip that the board carries; the settings of a call.
+    /// The chip that the board carries.
     #[derive(Clone, Copy, Debug, PartialEq, Eq)]
     pub enum Chip {
         C8051F320 = 0,
         C8051F321 = 1,
+    }
+
+    /// What a reading goes by: the chip, and the archive's rules or the ordinary ones.
+    #[derive(Clone, Copy, Debug, PartialEq, Eq)]
+    pub struct Settings {
+        pub chip: Chip,
+        pub archive: bool,
+    }
+
+    impl Settings {
+        fn number(self) -> u64 {
+            self.chip as u64 | u64::from(self.archive) << 1
+        }
     }
 
     /// The number of the rule, and its place in the table.
@@ -97,27 +111,31 @@ mod esa {
     }
 
     /// The number of elements.
-    pub fn check(table: &[u8], chip: Chip) -> Answer {
-        unpacked(unsafe { c::esa_check(table.as_ptr(), table.len(), chip as u64) })
+    pub fn check(table: &[u8], settings: Settings) -> Answer {
+        unpacked(unsafe { c::esa_check(table.as_ptr(), table.len(), settings.number()) })
     }
 
     /// The identifier of element k, from 0.
-    pub fn element(table: &[u8], k: usize, chip: Chip) -> Answer {
-        unpacked(unsafe { c::esa_element(table.as_ptr(), table.len(), k, chip as u64) })
+    pub fn element(table: &[u8], k: usize, settings: Settings) -> Answer {
+        unpacked(unsafe { c::esa_element(table.as_ptr(), table.len(), k, settings.number()) })
     }
 
     /// The same, and the numbers of element k.
-    pub fn fields(table: &[u8], k: usize, chip: Chip) -> Result<(usize, Numbers), Refusal> {
+    pub fn fields(table: &[u8], k: usize, settings: Settings) -> Result<(usize, Numbers), Refusal> {
         let mut numbers = [0; 32];
         let (at, length) = (table.as_ptr(), table.len());
-        let answer = unsafe { c::esa_fields(at, length, k, chip as u64, &mut numbers) };
+        let answer = unsafe { c::esa_fields(at, length, k, settings.number(), &mut numbers) };
         Ok((unpacked(answer)?, numbers))
     }
 
     /// The bytes of the variable part of element k, in the table.
-    pub fn part(table: &[u8], k: usize, chip: Chip) -> Result<std::ops::Range<usize>, Refusal> {
+    pub fn part(
+        table: &[u8],
+        k: usize,
+        settings: Settings,
+    ) -> Result<std::ops::Range<usize>, Refusal> {
         let (at, length) = (table.as_ptr(), table.len());
-        let beside = unpacked(unsafe { c::esa_part(at, length, k, chip as u64) })?;
+        let beside = unpacked(unsafe { c::esa_part(at, length, k, settings.number()) })?;
         let (place, length) = (beside & 0xFFFF, beside >> 16);
         Ok(place..place + length)
     }
@@ -142,15 +160,29 @@ mod esa {
     }
 
     /// The listing: a line for the table and one for each element, or the refusal.
-    pub fn list(table: &[u8], chip: Chip) -> String {
+    pub fn list(table: &[u8], settings: Settings) -> String {
         let mut text = [0; 4096];
-        let length = unsafe { c::esa_list(table.as_ptr(), table.len(), chip as u64, &mut text) };
+        let (at, length) = (table.as_ptr(), table.len());
+        let length = unsafe { c::esa_list(at, length, settings.number(), &mut text) };
         text[..length].iter().map(|&byte| char::from(byte)).collect()
     }
 }
 
 /// The chip that this board carries.
 const CHIP: esa::Chip = esa::Chip::C8051F320;
+const READ: esa::Settings = ordinary(CHIP);
+const OLD: esa::Settings = esa::Settings {
+    chip: CHIP,
+    archive: true,
+};
+
+/// A reading by the ordinary rules.
+const fn ordinary(chip: esa::Chip) -> esa::Settings {
+    esa::Settings {
+        chip,
+        archive: false,
+    }
+}
 
 impl Display for esa::Refusal {
     fn fmt(&self, to: &mut fmt::Formatter) -> fmt::Result {
@@ -179,6 +211,7 @@ fn words(number: u8) -> &'static str {
         15 => "a pin is claimed a second time",
         16 => "no room for it",
         17 => "there is no such element",
+        23 => "a bus type that is retired",
         25 => "a number is too large for its field",
         _ => "a number that no call gives",
     }
@@ -213,8 +246,8 @@ fn told(what: &str, answer: esa::Answer, beside: &str) -> esa::Answer {
 fn walk(table: &[u8], count: usize) -> Result<(), esa::Refusal> {
     let mut at = 16; // the first element stands behind the description
     for k in 0..count {
-        let (id, numbers) = esa::fields(table, k, CHIP)?;
-        let part = esa::part(table, k, CHIP)?;
+        let (id, numbers) = esa::fields(table, k, READ)?;
+        let part = esa::part(table, k, READ)?;
         let (name, length, place) = (kind(id), part.len(), part.start);
         println!("  element {k} at {at}: {name}, variable part of {length} bytes at {place}");
         if id == usize::from(esa::PWM_FAN) {
@@ -223,7 +256,7 @@ fn walk(table: &[u8], count: usize) -> Result<(), esa::Refusal> {
         }
         at = part.end; // the part ends the element
     }
-    let _ = told("  one more", esa::element(table, count, CHIP), "");
+    let _ = told("  one more", esa::element(table, count, READ), "");
     Ok(())
 }
 
@@ -251,7 +284,7 @@ fn build(buffer: &mut [u8]) -> esa::Answer {
         esa::append(buffer, esa::PWM_FAN, CHIP, &fan, &[]),
         "bytes",
     )?;
-    let _ = told("is it a table", esa::check(&buffer[..length], CHIP), "elements");
+    let _ = told("is it a table", esa::check(&buffer[..length], READ), "elements");
     told(
         "zone appended",
         esa::append(buffer, esa::ZONE, CHIP, &[0; 32], &zone),
@@ -261,7 +294,7 @@ fn build(buffer: &mut [u8]) -> esa::Answer {
 
 /// A lamp on P2.7, which the smaller chip lacks: the table is good for the C8051F320 alone. A record is written for the chip
 /// that its byte 31 names, and for no other.
-fn lamp(buffer: &mut [u8]) -> Result<(), esa::Refusal> {
+fn lamp(buffer: &mut [u8]) -> esa::Answer {
     use esa::Chip::{C8051F320, C8051F321};
     let mut numbers: esa::Numbers = [0; 32];
     numbers[..8].copy_from_slice(&[0, 0xFF, 0xFF, 0xFF, 1, 0x27, 2, 1]); // zone 1, P2.7, green, good
@@ -274,8 +307,26 @@ fn lamp(buffer: &mut [u8]) -> Result<(), esa::Refusal> {
     let answer = esa::append(buffer, esa::STATUS_LED, C8051F320, &numbers, &[]);
     let length = told("a lamp for the 320 appended", answer, "bytes")?;
     let table = &buffer[..length];
-    let _ = told("is it a table for the 320", esa::check(table, C8051F320), "elements");
-    let _ = told("is it a table for the 321", esa::check(table, C8051F321), "elements");
+    let (large, small) = (ordinary(C8051F320), ordinary(C8051F321));
+    let _ = told("is it a table for the 320", esa::check(table, large), "elements");
+    let _ = told("is it a table for the 321", esa::check(table, small), "elements");
+    Ok(length)
+}
+
+/// A sensor on SMBus block mode, which is retired: only a table of old has one, and only the archive's rules read it.
+fn sensor(buffer: &mut [u8], written: usize) -> Result<(), esa::Refusal> {
+    let mut numbers: esa::Numbers = [0; 32];
+    numbers[..8].copy_from_slice(&[0, 0xFF, 0xFF, 0xFF, 1, 2, 0, 0x48]); // zone 1, block mode, bus address 48h
+    let answer = esa::append(buffer, esa::DIGITAL_SENSOR, CHIP, &numbers, &[]);
+    let _ = told("a sensor on block mode appended", answer, "bytes");
+    numbers[5] = 1; // SMBus byte mode
+    let answer = esa::append(buffer, esa::DIGITAL_SENSOR, CHIP, &numbers, &[]);
+    let length = told("a sensor on byte mode appended", answer, "bytes")?;
+    buffer[written + 8] = 2; // its bus type, as an old tool wrote it
+    let table = &buffer[..length];
+    let _ = told("is it a table in use", esa::check(table, READ), "elements");
+    let _ = told("is it a table of the archive", esa::check(table, OLD), "elements");
+    print!("{}", esa::list(table, OLD));
     Ok(())
 }
 
@@ -309,23 +360,26 @@ fn own_table() -> Vec<u8> {
 /// The whole tour; gives whether the table was accepted.
 fn tour(table: &[u8]) -> Result<bool, esa::Refusal> {
     println!("a table of {} bytes", table.len());
-    let answer = told("is it a table", esa::check(table, CHIP), "elements");
+    let answer = told("is it a table", esa::check(table, READ), "elements");
     if let Ok(count) = answer {
         walk(table, count)?;
     }
-    print!("{}", esa::list(table, CHIP));
+    print!("{}", esa::list(table, READ));
 
     println!("\na table of our own");
     let mut buffer = [0; 100];
     let length = build(&mut buffer)?;
-    told("is it a table", esa::check(&buffer[..length], CHIP), "elements")?;
+    told("is it a table", esa::check(&buffer[..length], READ), "elements")?;
 
     println!("\nthe same with a reserved place in use");
     buffer[12] = 0xA5;
     again(&buffer[..length])?;
 
     println!("\nthe same with a lamp on P2.7");
-    lamp(&mut buffer)?;
+    let length = lamp(&mut buffer)?;
+
+    println!("\nthe same with an old sensor");
+    sensor(&mut buffer, length)?;
     Ok(answer.is_ok())
 }
 

@@ -2,6 +2,8 @@
 
 /// The numbers of the refusals.
 pub mod number {
+    use crate::settings::Rules;
+
     pub const SHORT: u8 = 1;
     pub const REVISION: u8 = 2;
     pub const LENGTH: u8 = 3;
@@ -19,7 +21,14 @@ pub mod number {
     pub const CLASH: u8 = 15;
     pub const NO_ROOM: u8 = 16;
     pub const PAST_LAST: u8 = 17;
+    pub const RETIRED: u8 = 23;
     pub const TOO_LARGE: u8 = 25;
+
+    /// Every answer that a reader has to a whole table.
+    pub fn of_a_table(rules: Rules) -> Vec<u8> {
+        let retired = (rules == Rules::Ordinary).then_some(RETIRED);
+        (0..=CLASH).chain(retired).collect()
+    }
 }
 
 /// A table is 16 to 4,096 bytes.

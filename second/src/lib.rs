@@ -1,8 +1,8 @@
 //! Bindsatchel's second program: an independent reader and writer of ESA configuration tables,
 //! revision 0.90, to be compared with the proved one and to be its benchmark's baseline.
 //!
-//! Written from the scope of work (document 01), its rulings and the ESA Device Specification
-//! 0.90a (source document 000). For benchmarks: [`check`], on the tables of [`generator::mixed`],
+//! Written from the scope of work (document 01), the change requests (document 02), the rulings on both and
+//! the ESA Device Specification 0.90a (source document 000). For benchmarks: [`check`], on the tables of [`generator::mixed`],
 //! [`generator::controllers`] and [`generator::damaged`].
 #![forbid(unsafe_code)]
 
@@ -33,5 +33,5 @@ pub use fields::{describe, fields, part_place, text_place};
 pub use listing::{list, listing};
 pub use reader::check;
 pub use rewrite::{cleared, rewrite, rewrite_by_records};
-pub use settings::{Chip, Settings};
+pub use settings::{Chip, Rules, Settings};
 pub use writer::{append, start};

@@ -1,13 +1,13 @@
 //! The listing: document 01's section of that name, put into a lent buffer in one pass over the bytes.
 //!
 //! Fields are parted by tabs, every line ends in one line feed, and a refused table prints only
-//! its `R` line.
+//! its `R` line. An element in block mode, which the archive alone lists, has a last field `retired`.
 
 use crate::access::walk;
 use crate::answer::Verdict;
 use crate::element::id;
 use crate::reader::check;
-use crate::settings::Settings;
+use crate::settings::{Settings, BLOCK_MODE};
 
 /// Room for every listing: the line of a description has at most 47 bytes, one of an element 29.
 pub const LISTING: usize = 4096;
@@ -113,7 +113,7 @@ impl Text<'_> {
         self.put(b"\n");
     }
 
-    /// `E`, offset, identifier, zone, own used pins.
+    /// `E`, offset, identifier, zone, own used pins, `retired`.
     #[inline(always)]
     fn element(&mut self, place: usize, e: &[u8]) {
         self.put(b"E\t");
@@ -132,7 +132,10 @@ impl Text<'_> {
             }
         }
         if self.length == pins {
-            return self.put(b"-\n");
+            return match retired(e) {
+                true => self.put(b"-\tretired\n"),
+                false => self.put(b"-\n"),
+            };
         }
         // The last comma ends the line instead.
         self.length -= 1;
@@ -177,6 +180,13 @@ fn hex(identifier: u8) -> u8 {
 #[inline(always)]
 fn name(pin: u8) -> [u8; 4] {
     [b'P', b'0' + (pin >> 4), b'.', b'0' + (pin & 0x0F)]
+}
+
+/// Is it a bus device in block mode? Such a one has no pins of its own.
+#[inline(always)]
+fn retired(e: &[u8]) -> bool {
+    matches!(e[0], id::DIGITAL_SENSOR | id::CONTROLLER | id::TACHOMETER)
+        && e[8] & 0x0F == BLOCK_MODE
 }
 
 /// In field order; those that are not there as unused.

@@ -1,11 +1,11 @@
 //! An accepted table with its reserved places at zero, in a lent buffer: a copy, and one walk over it; and
-//! the same end reached from its records.
+//! the same end reached from its records. The rules are the ordinary ones: nothing writes block mode.
 
 use crate::access::walk;
 use crate::answer::{number, Refusal};
 use crate::element::{id, read_description, read_element};
 use crate::reader::check;
-use crate::settings::Settings;
+use crate::settings::Chip;
 use crate::writer::{append, start};
 
 /// Puts the accepted table at the front of `out`, its reserved places at zero, and gives its length;
@@ -14,8 +14,8 @@ use crate::writer::{append, start};
 ///
 /// An entry point for benchmarks, and never inlined for that reason.
 #[inline(never)]
-pub fn rewrite(table: &[u8], settings: Settings, out: &mut [u8]) -> Result<usize, Refusal> {
-    check(table, settings).into_result()?;
+pub fn rewrite(table: &[u8], chip: Chip, out: &mut [u8]) -> Result<usize, Refusal> {
+    check(table, chip.into()).into_result()?;
     let Some(out) = out.get_mut(..table.len()) else {
         return Err(Refusal::at(number::NO_ROOM, 0));
     };
@@ -26,16 +26,11 @@ pub fn rewrite(table: &[u8], settings: Settings, out: &mut [u8]) -> Result<usize
 
 /// The same from the table's records, by start and append. No place is cleared: the layout has zeros there.
 #[inline(never)]
-pub fn rewrite_by_records(
-    table: &[u8],
-    settings: Settings,
-    out: &mut [u8],
-) -> Result<usize, Refusal> {
-    check(table, settings).into_result()?;
+pub fn rewrite_by_records(table: &[u8], chip: Chip, out: &mut [u8]) -> Result<usize, Refusal> {
+    check(table, chip.into()).into_result()?;
     if out.len() < table.len() {
         return Err(Refusal::at(number::NO_ROOM, 0));
     }
-    let chip = settings.chip;
     let mut length = start(out, chip, &read_description(table, chip))?;
     for (_, bytes) in walk(table) {
         let (record, part) =

@@ -1,11 +1,11 @@
-//! The rules over one record, straight from the text: 25, 8, 9 and 10.
+//! The rules over one record, straight from the text: 25, 8, 9, 23 and 10.
 //!
 //! The plain reader and the writer stand on these; the fast reader does not use them.
 
 use crate::blocks::{count_speed_blocks, register_blocks_fill, SpeedBlocks};
 use crate::pins::{Pin, ALL, ANALOGUE, CHIP_SELECT, FAN_LIST, STATUS_LED};
 use crate::record::*;
-use crate::settings::Chip;
+use crate::settings::{Chip, Rules};
 
 /// 25 for a description: serial over 24 bits, power units over 7.
 pub fn description_fits(description: &Description) -> bool {
@@ -89,6 +89,13 @@ fn light_good(light: &Light) -> bool {
     let colour_good = (1..=5).contains(&light.colour);
     let purpose_good = (0..=4).contains(&light.purpose);
     !light.pin.is_used() || (colour_good && purpose_good)
+}
+
+/// 23: a bus type that is no longer in use. Reserved ones are 9, and come before it.
+pub fn bus_in_use(element: &Element, rules: Rules) -> bool {
+    element
+        .attachment()
+        .is_none_or(|attachment| rules.buses().contains(&attachment.bus_type))
 }
 
 /// 10: every used pin is one of the chip, exists, is permitted and keeps the rising order.

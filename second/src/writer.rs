@@ -5,7 +5,7 @@ use crate::element::word;
 use crate::layout;
 use crate::record::{Description, Element};
 use crate::rules;
-use crate::settings::Chip;
+use crate::settings::{Chip, Rules};
 
 /// Starts a table for this chip in the buffer; gives the new length, 16. Checks 1, 25, 4, 5, 10; a pin of
 /// the other chip is 10 too.
@@ -34,8 +34,9 @@ fn check_description(description: &Description, chip: Chip) -> Result<(), u8> {
 
 /// Appends one element to the table for this chip in the buffer; gives the new length.
 ///
-/// Checks 1, 3, 25, 8, 9, 10, 16; a pin of the other chip is 10 too. Of the bytes there it looks at 1-2
-/// only, the length so far; it changes those two and the new element's bytes.
+/// Checks 1, 3, 25, 8, 9, 23, 10, 16; a pin of the other chip is 10 too. Of the bytes there it looks at 1-2
+/// only, the length so far; it changes those two and the new element's bytes. There is no archive to write:
+/// block mode is always 23.
 pub fn append(
     buffer: &mut [u8],
     chip: Chip,
@@ -76,12 +77,14 @@ fn length_so_far(buffer: &[u8]) -> Result<usize, Refusal> {
     Ok(so_far)
 }
 
-/// 8, 9, 10 on the record and its part.
+/// 8, 9, 23, 10 on the record and its part.
 fn check_element(element: &Element, part: &[u8], chip: Chip) -> Result<(), u8> {
     if !rules::part_fits(element, part) {
         Err(number::LAYOUT)
     } else if !rules::codes_good(element, part) {
         Err(number::CODE)
+    } else if !rules::bus_in_use(element, Rules::Ordinary) {
+        Err(number::RETIRED)
     } else if !rules::pins_good(element, chip) {
         Err(number::PIN)
     } else {

@@ -110,7 +110,7 @@ fn fields_of_fans_and_lights() {
 fn parts_are_lent() {
     let mut random = Random::new(5);
     for _ in 0..500 {
-        let table = generator::valid(&mut random, Chip::F320);
+        let table = generator::valid(&mut random, ON_320);
         for (k, (place, bytes)) in second::access::walk(&table).enumerate() {
             let start = match bytes[0] {
                 0x09 => 11,

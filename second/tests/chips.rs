@@ -10,7 +10,7 @@ use second::generator::{valid, writer_call, What};
 use second::pins::{Pin, ALL, ANALOGUE, CHIP_SELECT, FAN_LIST, STATUS_LED};
 use second::random::Random;
 use second::record::{Address, Element};
-use second::{append, start, Chip, Refusal, Settings, Verdict};
+use second::{append, start, Chip, Refusal, Verdict};
 
 const FOUR: [u8; 4] = [0x24, 0x25, 0x26, 0x27];
 
@@ -83,7 +83,7 @@ fn every_pin_byte_for_every_use() {
 fn the_same_bytes_that_are_no_pins() {
     for byte in FOUR {
         gives(&zoned(&[raw::digital(1, 0, byte)]), 0, 2);
-        gives(&zoned(&[raw::controller(1, 2, byte, &[1])]), 0, 2);
+        gives(&zoned(&[raw::controller(1, 1, byte, &[1])]), 0, 2);
         gives(&zoned(&[with(&[(9, byte)], raw::led(1, [0xFF; 3]))]), 0, 2);
         gives(&zoned(&[raw::text(1, &[byte; 9])]), 0, 2);
     }
@@ -140,7 +140,7 @@ fn where_10_stands_in_the_pass() {
 fn what_the_321_accepts_the_320_accepts() {
     let mut random = Random::new(8);
     for _ in 0..10_000 {
-        let table = valid(&mut random, Chip::F321);
+        let table = valid(&mut random, ON_321);
         let verdict = second::check(&table, ON_321);
         let Verdict::Accepted(count) = verdict else {
             panic!("{verdict:?}: {table:02X?}");
@@ -218,7 +218,7 @@ fn append_takes_what_has_no_pins_on_both_chips() {
         raw::led(1, [0xFF; 3]),
         raw::digital(1, 0, 0x24),
         raw::controller(1, 1, 0x4E, &[1]),
-        raw::tachometer(1, 2, 0x40, 0, 0),
+        raw::tachometer(1, 0, 0x40, 0, 0),
         raw::zone(1, 0),
         raw::text(1, b"x"),
     ] {
@@ -384,24 +384,11 @@ fn tables_written_for_a_chip_are_accepted_by_it() {
     let mut random = Random::new(82);
     for at in 0..2_000 {
         let chip = Chip::BOTH[at % 2];
-        let settings = Settings::from(chip);
-        let table = valid(&mut random, chip);
+        let table = valid(&mut random, chip.into());
         let mut out = vec![0; table.len()];
-        let answer = second::rewrite_by_records(&table, settings, &mut out);
+        let answer = second::rewrite_by_records(&table, chip, &mut out);
         assert_eq!(answer, Ok(table.len()));
-        assert_eq!(
-            second::check(&out, settings),
-            second::check(&table, settings)
-        );
+        let [old, new] = [&table, &out].map(|bytes| second::check(bytes, chip.into()));
+        assert_eq!(new, old);
     }
-}
-
-/// Bit 0 alone is looked at.
-#[test]
-fn settings_as_a_number() {
-    for noise in [0, 2, 4, 0x100, 1 << 32, 1 << 63, !1] {
-        assert_eq!(Settings::of_number(noise), ON_320);
-        assert_eq!(Settings::of_number(noise | 1), ON_321);
-    }
-    assert_eq!(Settings::default(), ON_320);
 }

@@ -1,7 +1,7 @@
 //! The program itself, run as a program.
 
 use second::generator::raw::{self, TABLE_A};
-use second::{Chip, Settings};
+use second::{Chip, Rules, Settings};
 use std::io::Write;
 use std::process::{Command, Output, Stdio};
 
@@ -54,7 +54,7 @@ fn rows_are_the_same_for_the_same_seed() {
     assert_ne!(one, rows("2"));
     let lines: Vec<&str> = one.lines().collect();
     assert_eq!(lines.len(), 300);
-    for number in 0..=15 {
+    for number in (0..=15).chain([23]) {
         let wanted = number.to_string();
         let there = |line: &&str| line.split('\t').nth(1) == Some(&wanted);
         assert!(lines.iter().any(there), "{number}");
@@ -95,7 +95,7 @@ fn holds_itself_against_itself() {
 
 #[test]
 fn misuse_is_told_and_gives_status_2() {
-    let misuses: [&[&str]; 20] = [
+    let misuses: [&[&str]; 27] = [
         &[],
         &["dance"],
         &["list", "extra"],
@@ -115,6 +115,13 @@ fn misuse_is_told_and_gives_status_2() {
         &["rewrite", "--chip", "321", "extra"],
         &["check", "file", "--chip", "321"],
         &["check", "--chip", "321"],
+        &["list", "--archive", "extra"],
+        &["list", "--archive", "--archive"],
+        &["list", "--archive", "--chip", "321", "--archive"],
+        &["list", "--chip", "--archive", "321"],
+        &["list", "--archived"],
+        &["check", "file", "--archive"],
+        &["rewrite", "--archive"],
         &[
             "rows", "--seed", "1", "--count", "1", "--max", "1", "--chip", "321",
         ],
@@ -153,21 +160,55 @@ fn the_chip_is_named_behind_the_command() {
     assert_eq!(answers[1], format!("10\t0\t{name}\n").into_bytes());
 }
 
+/// Block mode: refused unless the archive is asked, before or behind the chip.
 #[test]
-fn rows_and_tables_of_the_321() {
-    let mut arguments = ["rows", "--chip", "321", "--seed", "1", "--count", "200"].to_vec();
-    arguments.extend(["--max", "600"]);
+fn the_archive_is_named_behind_the_command() {
+    let table = raw::table(&[raw::digital(1, 0xF2, 0x40), raw::zone(1, 0)]);
+    assert_eq!(run(&["list"], &table).stdout, b"R\t23\t16\n");
+    let listed = b"T\t0.90\t67\t2\t0\t7\tself\t-\t-\t-\n\
+        E\t16\t01\t1\t-\tretired\nE\t37\t0B\t1\t-\n";
+    for options in [
+        &["list", "--archive"][..],
+        &["list", "--archive", "--chip", "321"],
+        &["list", "--chip", "321", "--archive"],
+    ] {
+        assert_eq!(run(options, &table).stdout, listed, "{options:?}");
+    }
+    assert_eq!(run(&["rewrite"], &table).stdout, b"R\t23\t16\n");
+    let file = std::env::temp_dir().join(format!("second-archive-{}", std::process::id()));
+    std::fs::write(&file, table).unwrap();
+    let name = file.to_str().unwrap();
+    let strict = run(&["check", name], &[]).stdout;
+    let old = run(&["check", "--archive", name], &[]).stdout;
+    std::fs::remove_file(&file).unwrap();
+    assert_eq!(strict, format!("23\t16\t{name}\n").into_bytes());
+    assert_eq!(old, format!("0\t2\t{name}\n").into_bytes());
+}
+
+/// The rows, with these options behind the command's name, are answered with these settings.
+fn rows_with(options: &[&str], settings: Settings) {
+    let mut arguments = [&["rows"], options].concat();
+    arguments.extend(["--seed", "1", "--count", "200", "--max", "600"]);
     let rows = String::from_utf8(run(&arguments, &[]).stdout).unwrap();
     assert_eq!(rows.lines().count(), 200);
     for line in rows.lines() {
         let fields: Vec<&str> = line.split('\t').collect();
         let byte = |at| u8::from_str_radix(&fields[0][at..at + 2], 16).unwrap();
         let table: Vec<u8> = (0..fields[0].len()).step_by(2).map(byte).collect();
-        let verdict = second::check(&table, Settings { chip: Chip::F321 });
+        let verdict = second::check(&table, settings);
         let answer = [verdict.number().to_string(), verdict.beside().to_string()];
         assert_eq!(fields[1..], answer);
     }
-    let own = ["self", "--chip", "321", "--seed", "9", "--count", "1000"];
+    let mut own = [&["self"], options].concat();
+    own.extend(["--seed", "9", "--count", "1000"]);
     let text = String::from_utf8(run(&own, &[]).stdout).unwrap();
     assert!(text.ends_with("1000 tables, 0 differences\n"), "{text}");
+}
+
+#[test]
+fn rows_and_tables_with_each_of_the_settings() {
+    rows_with(&["--chip", "321"], Chip::F321.into());
+    let archive = Settings::new(Chip::F320, Rules::Archive);
+    rows_with(&["--archive"], archive);
+    rows_with(&["--chip", "321", "--archive"], archive.other_chip());
 }

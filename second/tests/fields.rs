@@ -8,7 +8,7 @@ use second::generator::raw::{self, Parts};
 use second::generator::{any, targeted};
 use second::numbers::Numbers;
 use second::random::Random;
-use second::{describe, fields, part_place, text_place, Chip, Refusal, Settings};
+use second::{describe, fields, part_place, text_place, Refusal, Settings};
 
 /// What stands in the numbers before a call.
 const JUNK: Numbers = [0xA5; 32];
@@ -58,12 +58,12 @@ fn of_the_description() {
 #[test]
 fn of_a_digital_sensor() {
     let bus = [
-        1, 21, 0, 8, 0x14, 0x15, 0x16, 7, 0xA2, 0x9B, 0xEE, 0x21, 0x22, 0x23, 0x24, 0x25, 0x26,
+        1, 21, 0, 8, 0x14, 0x15, 0x16, 7, 0xA1, 0x9B, 0xEE, 0x21, 0x22, 0x23, 0x24, 0x25, 0x26,
         0x27, 0x28, 0x29, 0x2A,
     ];
     // Bits 7-4 of byte 8, bit 0 of byte 9 and byte 10 are reserved.
     let wanted = [
-        8, 0x14, 0x15, 0x16, 7, 2, 0, 0x4D, 0x21, 0x22, 0x23, 0x24, 0x25, 0x26, 0x27, 0x28, 0x29,
+        8, 0x14, 0x15, 0x16, 7, 1, 0, 0x4D, 0x21, 0x22, 0x23, 0x24, 0x25, 0x26, 0x27, 0x28, 0x29,
         0x2A,
     ];
     gives(&bus, &wanted);
@@ -204,12 +204,12 @@ fn refusals_alter_nothing() {
 fn as_the_other_calls() {
     let mut random = Random::new(41);
     let generated: Vec<Vec<u8>> = (0..3_000)
-        .map(|at| any(&mut random, Chip::BOTH[at % 2]))
+        .map(|at| any(&mut random, Settings::ALL[at % 4]))
         .collect();
     let named = targeted().iter().map(|(_, table)| table);
     let tables = generated.iter().chain(named).enumerate();
     for (at, table) in tables {
-        let settings = Settings::from(Chip::BOTH[at / 2 % 2]);
+        let settings = Settings::ALL[at / 2 % 4];
         let mut found = JUNK;
         let described = describe(table, settings, &mut found);
         assert_eq!(described.err(), second::description(table, settings).err());
@@ -236,7 +236,7 @@ fn of_the_chip() {
         raw::fan(1, 5, 0xFF),
         raw::led(1, [0xFF; 3]),
         raw::current(1, 0x21),
-        raw::controller(1, 2, 0x40, &[1]),
+        raw::controller(1, 1, 0x40, &[1]),
         raw::tachometer(1, 3, 0x14, 0, 0),
         raw::rgb(1, 0x11, 0x12, 0x13),
         raw::text(1, b"x"),

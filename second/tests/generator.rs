@@ -3,11 +3,11 @@
 use second::access::walk;
 use second::generator;
 use second::random::Random;
-use second::{plain, Chip, Settings, Verdict};
+use second::{plain, Chip, Rules, Settings, Verdict};
 use std::collections::HashSet;
 
-fn accepted(table: &[u8], chip: Chip) -> bool {
-    matches!(second::check(table, chip.into()), Verdict::Accepted(_))
+fn accepted(table: &[u8], settings: Settings) -> bool {
+    matches!(second::check(table, settings), Verdict::Accepted(_))
 }
 
 /// Identifiers of all elements of an accepted table.
@@ -17,20 +17,19 @@ fn kinds(table: &[u8]) -> Vec<u8> {
 
 #[test]
 fn valid_tables_are_accepted_and_reach_every_bound() {
-    for chip in Chip::BOTH {
-        accepted_and_of_every_size(chip);
+    for settings in Settings::ALL {
+        accepted_and_of_every_size(settings);
     }
 }
 
-fn accepted_and_of_every_size(chip: Chip) {
-    let settings = Settings::from(chip);
+fn accepted_and_of_every_size(settings: Settings) {
     let mut random = Random::new(11);
     let mut sizes = HashSet::new();
     let mut counts = HashSet::new();
     let mut zones = HashSet::new();
     let mut seen = HashSet::new();
     for _ in 0..20_000 {
-        let table = generator::valid(&mut random, chip);
+        let table = generator::valid(&mut random, settings);
         let verdict = second::check(&table, settings);
         let Verdict::Accepted(count) = verdict else {
             panic!("{verdict:?}: {table:02X?}");
@@ -52,21 +51,28 @@ fn accepted_and_of_every_size(chip: Chip) {
 #[test]
 fn valid_tables_use_all_that_is_permitted() {
     // All but P1.0, and unused.
-    permitted_are_met(Chip::F320, [25, 18, 13, 18 + 1]);
-    permitted_are_met(Chip::F321, [21, 14, 9, 14 + 1]);
+    for rules in Rules::BOTH {
+        let [on_320, on_321] = Chip::BOTH.map(|chip| Settings::new(chip, rules));
+        permitted_are_met(on_320, [25, 18, 13, 18 + 1]);
+        permitted_are_met(on_321, [21, 14, 9, 14 + 1]);
+    }
 }
 
 /// So many different bytes as hardware revision, chip select, analogue sensor and LED.
-fn permitted_are_met(chip: Chip, [hardware, selects, analogue, lights]: [usize; 4]) {
+fn permitted_are_met(settings: Settings, [hardware, selects, analogue, lights]: [usize; 4]) {
     let mut random = Random::new(14);
     let mut seen: HashSet<(&str, u8)> = HashSet::new();
     for _ in 0..5_000 {
-        let table = generator::valid(&mut random, chip);
+        let table = generator::valid(&mut random, settings);
         seen.extend(table[9..12].iter().map(|&pin| ("hardware", pin)));
         seen.insert(("self-powered", table[8] >> 7));
         let mut selects = HashSet::new();
         for (_, e) in walk(&table) {
-            let spi = matches!(e[0], 0x01 | 0x09 | 0x0A) && e[8] & 15 == 3;
+            let on_a_bus = matches!(e[0], 0x01 | 0x09 | 0x0A);
+            if on_a_bus {
+                seen.extend([("bus type", e[8] & 15), ("its byte", e[8])]);
+            }
+            let spi = on_a_bus && e[8] & 15 == 3;
             if spi && !selects.insert(e[9]) {
                 seen.insert(("shared select", e[9]));
             }
@@ -88,6 +94,12 @@ fn permitted_are_met(chip: Chip, [hardware, selects, analogue, lights]: [usize; 
     assert_eq!(count("tachometer"), 4 + 1);
     assert_eq!((count("red"), count("green"), count("blue")), (3, 3, 3));
     assert_eq!(count("blocks"), 6);
+    let archive = settings.rules == Rules::Archive;
+    assert_eq!(count("bus type"), if archive { 4 } else { 3 });
+    // With its reserved bits clear and set.
+    for byte in [0x02, 0xF2] {
+        assert_eq!(seen.contains(&("its byte", byte)), archive);
+    }
 }
 
 /// The pin fields of one element, each with its use.
@@ -108,9 +120,9 @@ fn mixed_tables_have_4096_bytes_and_all_ten_kinds() {
     let mut random = Random::new(12);
     let mut different = HashSet::new();
     for at in 0..1000 {
-        let chip = Chip::BOTH[at % 2];
-        let table = generator::mixed(&mut random, chip);
-        assert!(accepted(&table, chip));
+        let settings = Settings::ALL[at % 4];
+        let table = generator::mixed(&mut random, settings);
+        assert!(accepted(&table, settings));
         assert_eq!(table.len(), 4096);
         let kinds: HashSet<u8> = kinds(&table).into_iter().collect();
         assert_eq!(kinds.len(), 10, "{kinds:?}");
@@ -125,9 +137,9 @@ fn controller_tables_have_4096_bytes_and_one_zone() {
     let mut different = HashSet::new();
     let mut blocks_seen = HashSet::new();
     for at in 0..1000 {
-        let chip = Chip::BOTH[at % 2];
-        let table = generator::controllers(&mut random, chip);
-        assert!(accepted(&table, chip));
+        let settings = Settings::ALL[at % 4];
+        let table = generator::controllers(&mut random, settings);
+        assert!(accepted(&table, settings));
         assert_eq!(table.len(), 4096);
         let mut kinds = kinds(&table);
         kinds.retain(|&kind| kind != 0x09);
@@ -153,18 +165,18 @@ fn targeted_cases_have_different_names() {
 /// FNV-1a over many tables: a change of this number is a change of every recorded run.
 #[test]
 fn the_same_seed_gives_the_same_tables() {
-    let fingerprint = |seed: u64, chip: Chip| {
+    let fingerprint = |seed: u64| {
         let mut random = Random::new(seed);
         let mut hash: u64 = 0xCBF2_9CE4_8422_2325;
         for _ in 0..2000 {
-            for byte in generator::any(&mut random, chip) {
+            for byte in generator::any(&mut random, Settings::ALL[seed as usize]) {
                 hash = (hash ^ u64::from(byte)).wrapping_mul(0x100_0000_01B3);
             }
         }
         hash
     };
-    let found = [(1, Chip::F320), (2, Chip::F321)].map(|(seed, chip)| fingerprint(seed, chip));
-    assert_eq!(found, [0x561B_EA1A_C174_0A9B, 0x4A1F_78F3_D2AC_ACCF]);
+    let found = [0, 3].map(fingerprint);
+    assert_eq!(found, [0xF06B_5EAF_7D2B_3B9F, 0x1D85_BB8D_52EE_B958]);
 }
 
 #[test]
@@ -172,9 +184,9 @@ fn mixed_tables_have_as_many_elements_as_asked_for() {
     let mut random = Random::new(17);
     for elements in 1..=96 {
         for at in 0..20 {
-            let chip = Chip::BOTH[at % 2];
-            let table = generator::mixed_of(&mut random, elements, chip);
-            let verdict = second::check(&table, chip.into());
+            let settings = Settings::ALL[at % 4];
+            let table = generator::mixed_of(&mut random, elements, settings);
+            let verdict = second::check(&table, settings);
             assert_eq!(verdict, Verdict::Accepted(elements));
             let kinds: HashSet<u8> = kinds(&table).into_iter().collect();
             assert_eq!(kinds.len() == 10, elements >= 10, "{elements}: {kinds:?}");
@@ -187,12 +199,13 @@ fn mixed_tables_have_as_many_elements_as_asked_for() {
 fn tables_around_the_four() {
     let mut random = Random::new(18);
     let mut seen: HashSet<(&str, u8)> = HashSet::new();
-    for _ in 0..5_000 {
-        let table = generator::only_on_the_320(&mut random);
+    for at in 0..5_000 {
+        let rules = Rules::BOTH[at % 2];
+        let table = generator::only_on_the_320(&mut random, rules);
         assert!(generator::touches_the_four(&table));
         seen.extend(table[9..12].iter().map(|&pin| ("hardware", pin)));
         seen.extend(walk(&table).flat_map(|(_, element)| pins_of(element)));
-        let table = generator::valid(&mut random, Chip::F321);
+        let table = generator::valid(&mut random, Settings::new(Chip::F321, rules));
         assert!(!generator::touches_the_four(&table));
     }
     for used in ["hardware", "select", "analogue", "current", "light"] {
@@ -202,18 +215,29 @@ fn tables_around_the_four() {
     }
 }
 
-/// Whatever the bytes: where no pin place has one of the four, the chips do not differ.
+/// Whatever the bytes: where no pin place has one of the four, the chips do not differ, and where no bus
+/// device is in block mode, the rules do not.
 #[test]
-fn tables_that_touch_none_of_the_four() {
+fn tables_that_touch_none_of_the_four_or_no_block_mode() {
     let mut random = Random::new(19);
-    let mut untouched = 0;
+    let mut untouched = [0; 2];
     for at in 0..20_000 {
-        let table = generator::any(&mut random, Chip::BOTH[at % 2]);
+        let settings = Settings::ALL[at % 4];
+        let table = generator::any(&mut random, Settings::ALL[at / 4 % 4]);
+        let verdict = second::check(&table, settings);
         if !generator::touches_the_four(&table) {
-            let [one, other] = Chip::BOTH.map(|chip| second::check(&table, chip.into()));
-            assert_eq!(one, other, "{table:02X?}");
-            untouched += 1;
+            let other = second::check(&table, settings.other_chip());
+            assert_eq!(verdict, other, "{table:02X?}");
+            untouched[0] += 1;
+        }
+        if !generator::has_block_mode(&table) {
+            let other = second::check(&table, settings.other_rules());
+            assert_eq!(verdict, other, "{table:02X?}");
+            untouched[1] += 1;
         }
     }
-    assert!(untouched > 5_000);
+    assert!(
+        untouched.iter().all(|&count| count > 5_000),
+        "{untouched:?}"
+    );
 }

@@ -7,7 +7,7 @@ use second::generator::raw::{self, Parts};
 use second::generator::{any, mixed, targeted, valid};
 use second::listing::LISTING;
 use second::random::Random;
-use second::{plain, Chip, Settings};
+use second::{plain, Settings};
 
 fn text(table: &[u8]) -> String {
     String::from_utf8(second::listing(table, ON_320)).unwrap()
@@ -92,8 +92,7 @@ fn zone_numbers_and_strings() {
 
 /// The fast listing is the plain one, and leaves the rest of its buffer.
 #[track_caller]
-fn same(table: &[u8], chip: Chip) -> usize {
-    let settings = Settings::from(chip);
+fn same(table: &[u8], settings: Settings) -> usize {
     let mut out = [0xA5; LISTING];
     let length = second::list(table, settings, &mut out);
     assert_eq!(
@@ -119,7 +118,7 @@ fn the_chip_is_not_printed() {
     assert!(text(&table).ends_with("E\t46\t02\t1\tP2.4\n"));
     let mut random = Random::new(33);
     for _ in 0..2_000 {
-        let table = valid(&mut random, Chip::F321);
+        let table = valid(&mut random, ON_321);
         assert_eq!(
             second::listing(&table, ON_321),
             second::listing(&table, ON_320)
@@ -131,13 +130,13 @@ fn the_chip_is_not_printed() {
 fn fast_and_plain_are_the_same() {
     let mut random = Random::new(31);
     for at in 0..20_000 {
-        let (chip, made_for) = (Chip::BOTH[at % 2], Chip::BOTH[at / 2 % 2]);
-        same(&any(&mut random, made_for), chip);
-        same(&valid(&mut random, made_for), chip);
+        let [settings, made_for] = [at, at / 4].map(|at| Settings::ALL[at % 4]);
+        same(&any(&mut random, made_for), settings);
+        same(&valid(&mut random, made_for), settings);
     }
     for (_, table) in targeted() {
-        for chip in Chip::BOTH {
-            same(table, chip);
+        for settings in Settings::ALL {
+            same(table, settings);
         }
     }
 }
@@ -145,9 +144,10 @@ fn fast_and_plain_are_the_same() {
 #[test]
 fn the_longest_lines_have_room() {
     let mut random = Random::new(32);
-    for chip in Chip::BOTH {
+    for settings in Settings::ALL {
         for _ in 0..300 {
-            assert!(same(&mixed(&mut random, chip), chip) <= 47 + 96 * 29);
+            let table = mixed(&mut random, settings);
+            assert!(same(&table, settings) <= 47 + 96 * 29);
         }
     }
 }

@@ -47,7 +47,7 @@ fn self_powered_with_any_power_units_is_good() {
         gives(&changed(&[(8, power)]), number, 0);
         let mut out = [0; 16];
         if number == 0 {
-            second::rewrite(&changed(&[(8, power)]), ON_320, &mut out).unwrap();
+            second::rewrite(&changed(&[(8, power)]), Chip::F320, &mut out).unwrap();
             assert_eq!(out[8], power);
         }
     }
@@ -260,7 +260,7 @@ fn reserved_places_complete() {
         (raw::analogue(1, 0x20), &[(8, 0xF0)]),
         (raw::current(1, 0x21), &[(9, 0xFF)]),
         (
-            raw::controller(1, 2, 0x40, &[1]),
+            raw::controller(1, 1, 0x40, &[1]),
             &[(8, 0xF0), (9, 1), (10, 0xFF)],
         ),
         (
@@ -280,7 +280,10 @@ fn reserved_places_complete() {
     table[12..16].fill(0xFF);
     gives(&table, 0, 8);
     let mut out = vec![0xA5; table.len()];
-    assert_eq!(second::rewrite(&table, ON_320, &mut out), Ok(table.len()));
+    assert_eq!(
+        second::rewrite(&table, Chip::F320, &mut out),
+        Ok(table.len())
+    );
     assert_eq!(out, zoned(&clean));
 }
 
@@ -289,7 +292,7 @@ fn zone_byte_5_is_content() {
     let zone = with(&[(5, 0xFF)], raw::zone(1, 0));
     let table = raw::table(std::slice::from_ref(&zone));
     let mut out = vec![0; table.len()];
-    second::rewrite(&table, ON_320, &mut out).unwrap();
+    second::rewrite(&table, Chip::F320, &mut out).unwrap();
     assert_eq!(out, table);
     assert_eq!(second::part(&table, 0, ON_320), &zone[3..]);
 }
@@ -303,8 +306,8 @@ fn a_reserved_bus_type_is_9_and_nobody_looks_at_the_address() {
             gives(&zoned(&[raw::tachometer(1, bus, address, 0, 0)]), 9, 46);
         }
     }
-    // Under bus types 0 to 2 the byte is no pin.
-    for bus in 0..=2 {
+    // Under bus types 0 and 1 the byte is no pin; `retired` has type 2.
+    for bus in 0..=1 {
         gives(&zoned(&[raw::digital(1, bus, 0xFF)]), 0, 2);
     }
     gives(&zoned(&[raw::digital(1, 3, 0xFF)]), 10, 46);
@@ -317,7 +320,7 @@ fn colour_and_purpose_beside_used_and_unused_pins() {
         let table = zoned(&[dark]);
         gives(&table, 0, 2);
         let mut out = vec![0; table.len()];
-        second::rewrite(&table, ON_320, &mut out).unwrap();
+        second::rewrite(&table, Chip::F320, &mut out).unwrap();
         assert_eq!(out, table);
         let good = (1..=5).contains(&(code >> 4)) && code & 15 <= 4;
         let lit = with(&[(9, code)], raw::led(1, [0x14, 0xFF, 0xFF]));

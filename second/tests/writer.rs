@@ -85,14 +85,14 @@ fn generated_calls() {
             }
             (Err(Refusal { number, place }), _) => {
                 assert_eq!(buffer, call.buffer);
-                let at_element = (8..=10).contains(&number);
+                let at_element = matches!(number, 8..=10 | 23);
                 assert_eq!(place, if at_element { element_place } else { 0 });
             }
         }
         histogram.add(answer.map_or_else(|refusal| refusal.number, |_| 0));
     }
     only(&starts, &[0, 1, 4, 5, 10, 25]);
-    only(&appends, &[0, 1, 3, 8, 9, 10, 16, 25]);
+    only(&appends, &[0, 1, 3, 8, 9, 10, 16, 23, 25]);
 }
 
 /// These answers came, each at least fifty times, and no others.
@@ -117,7 +117,7 @@ fn kind_fits(element: &Element) -> bool {
 
 /// The rules over records, as append keeps them, are the fast reader's rules over bytes.
 #[test]
-fn append_and_the_fast_reader_agree_on_8_9_10() {
+fn append_and_the_fast_reader_agree_on_8_9_23_10() {
     let mut random = Random::new(32);
     let mut histogram = Histogram::new();
     for _ in 0..CALLS {
@@ -140,13 +140,13 @@ fn append_and_the_fast_reader_agree_on_8_9_10() {
             Err(refusal) => refusal.number,
         };
         let read = match second::check(&table, chip.into()) {
-            Verdict::Refused { number, place: 16 } if (6..=12).contains(&number) => number,
+            Verdict::Refused { number, place: 16 } if matches!(number, 6..=12 | 23) => number,
             _ => 0,
         };
         assert_eq!(number, read, "{element:?} {part:02X?}");
         histogram.add(number);
     }
-    only(&histogram, &[0, 8, 9, 10]);
+    only(&histogram, &[0, 8, 9, 10, 23]);
 }
 
 fn plain_description() -> Description {
@@ -357,6 +357,7 @@ fn addresses_of_the_other_kind_are_9_and_too_large_ones_25() {
     assert_eq!(call(0, bus(0x80)), Err(Refusal::at(25, 0)));
     assert_eq!(call(3, bus(0x80)), Err(Refusal::at(25, 0)));
     assert_eq!(call(3, bus(0x0A)), Err(Refusal::at(9, 16)));
+    assert_eq!(call(2, bus(0x7F)), Err(Refusal::at(23, 16)));
     assert_eq!(call(2, select(0x14)), Err(Refusal::at(9, 16)));
     assert_eq!(call(2, select(0x31)), Err(Refusal::at(9, 16)));
     assert_eq!(call(3, select(0x14)), Ok(33));

@@ -11,55 +11,71 @@ ready() {
     rewrite=$("$root/tools/as-rt" "$root/target/bin/rewrite") || exit 2
 }
 
-# The words of every program that is run: an option that names a chip, or none.
-option=''
+# The words of every program that is run: its options, or none.
+options=''
 
 # Runs a program on standard input: its output and its status go to files. It never needs 20 s: then the status is 124.
 runs() { # PROGRAM COMMAND
     status=0
-    eval "timeout 20 $2 $option" >"$work/$1" 2>"$work/$1.err" || status=$?
+    eval "timeout 20 $2 $options" >"$work/$1" 2>"$work/$1.err" || status=$?
     echo "$status" >"$work/$1.status"
 }
 
 # shellcheck disable=SC2086
-wanted() { # FILE
-    "$second" list $option <"$1" >"$work/list.wanted" || die "the second program cannot list $1"
-    "$second" rewrite $option <"$1" >"$work/rewrite.wanted" || die "the second program cannot rewrite $1"
+wanted() { # FILE PROGRAM...
+    file=$1
+    shift
+    for program; do
+        "$second" $program $options <"$file" >"$work/$program.wanted" || die "the second program: $program $options of $file"
+    done
 }
 
 # Status 0, the bytes that are wanted, and nothing on standard error.
 same() { # NAME PROGRAM
     read -r status <"$work/$2.status"
     if [ "$status" = 0 ] && cmp -s "$work/$2" "$work/$2.wanted" && [ ! -s "$work/$2.err" ]; then return 0; fi
-    printf 'wrong: %s: %s %s has status %s and says\n' "$1" "$2" "$option" "$status"
+    printf 'wrong: %s: %s %s has status %s and says\n' "$1" "$2" "$options" "$status"
     cat "$work/$2" "$work/$2.err" | od -c | sed -n '1,8p'
     return 1
 }
 
-# Counts the input, after both programs have run on it.
-judge() { # NAME
+# Counts the input, after the programs have run on it.
+judge() { # NAME PROGRAM...
     files=$((files + 1))
     right=yes
-    for program in list rewrite; do
-        same "$1" $program || right=no
+    name=$1
+    shift
+    for program; do
+        same "$name" "$program" || right=no
     done
     [ $right = yes ] || wrong=$((wrong + 1))
 }
 
 # A file, to both programs at once, on one chip.
 hold_on() { # CHIP NAME FILE
-    option="--chip $1"
+    options="--chip $1"
     runs list "$list" <"$3" &
     runs rewrite "$rewrite" <"$3"
-    wanted "$3"
+    wanted "$3" list rewrite
     wait
-    judge "$2"
-    option=''
+    judge "$2" list rewrite
+    options=''
+}
+
+# By the archive's rules; there is no such rewriting.
+hold_archived() { # CHIP NAME FILE
+    options="--chip $1 --archive"
+    runs list "$list" <"$3"
+    wanted "$3" list
+    judge "$2" list
+    options=''
 }
 
 hold() { # NAME FILE
-    hold_on 320 "$1" "$2"
-    hold_on 321 "$1" "$2"
+    for chip in 320 321; do
+        hold_on $chip "$1" "$2"
+        hold_archived $chip "$1" "$2"
+    done
 }
 
 # The bytes of a file, through a pipe that a command fills.
@@ -68,6 +84,6 @@ hold_piped() { # NAME FILE COMMAND...
     shift 2
     "$@" 2>/dev/null | runs list "$list"
     "$@" 2>/dev/null | runs rewrite "$rewrite"
-    wanted "$file"
-    judge "$name"
+    wanted "$file" list rewrite
+    judge "$name" list rewrite
 }

@@ -56,6 +56,6 @@ no_input() {
     hold 'an empty file' "$work/input"
     runs list "$list" <&-
     runs rewrite "$rewrite" <&-
-    wanted "$work/input"
-    judge 'a closed standard input'
+    wanted "$work/input" list rewrite
+    judge 'a closed standard input' list rewrite
 }

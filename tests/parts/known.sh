@@ -7,14 +7,17 @@ samples() {
     done
 }
 
-# A table in hex, and what the first line of its listing starts with on either chip: R, number, place of a refusal; T of a good one.
+# A table in hex, and what the first line of its listing starts with on either chip and by either rules: R, number, place of a
+# refusal; T of a good one.
 row() { # NAME HEX LINE
     "$root/tools/bytes" "$2" >"$work/row" || die "the row '$1' is not in hex"
     for chip in 320 321; do
-        hold_on $chip "$1" "$work/row"
-        case $(head -n 1 "$work/list" | tr '\t' ' ') in "$3"*) continue ;; esac
-        printf "wrong: %s: on the %s document 01 wants '%s'\n" "$1" $chip "$3"
-        [ "$right" = no ] || wrong=$((wrong + 1))
+        for way in hold_on hold_archived; do
+            $way $chip "$1" "$work/row"
+            case $(head -n 1 "$work/list" | tr '\t' ' ') in "$3"*) continue ;; esac
+            printf "wrong: %s: %s the %s document 01 wants '%s'\n" "$1" $way $chip "$3"
+            [ "$right" = no ] || wrong=$((wrong + 1))
+        done
     done
 }
 
@@ -69,22 +72,26 @@ known_rows() {
     unstarred_rows
 }
 
-make() { # CHIP KIND COUNT
-    "$second" make --chip "$1" "$2" --seed "$seed" --count "$3" "$work/tables-$1" || die "no tables were made"
+# shellcheck disable=SC2086
+make() { # OPTIONS KIND COUNT
+    "$second" make $1 "$2" --seed "$seed" --count "$3" "$work/tables $1" || die "no tables were made"
 }
 
 # Half of any sort, a quarter of good ones with every kind, a quarter of damaged ones.
-generated_for() { # CHIP COUNT
+generated_for() { # OPTIONS COUNT
     quarter=$(($2 / 4))
     make "$1" any $(($2 - 2 * quarter))
     make "$1" mixed $quarter
     make "$1" damaged $quarter
-    for file in "$work/tables-$1"/*.bin; do
-        [ ! -f "$file" ] || hold "seed $seed for the $1, ${file##*/}" "$file"
+    for made in "$work/tables $1"/*.bin; do
+        [ ! -f "$made" ] || hold "seed $seed for $1, ${made##*/}" "$made"
     done
 }
 
 generated() {
-    generated_for 320 $((count - count / 2))
-    generated_for 321 $((count / 2))
+    part=$((count / 4))
+    generated_for '--chip 320' $((count - 3 * part))
+    generated_for '--chip 321' $part
+    generated_for '--chip 320 --archive' $part
+    generated_for '--chip 321 --archive' $part
 }

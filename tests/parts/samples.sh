@@ -46,15 +46,15 @@ sample() { # NAME STATUS
     try "./esa list of $1 is as its text says" as_the_text_says list "$1" "$2"
 }
 
-# A sample that is refused on the 321 alone.
-sample_of_the_320() { # NAME
-    sample "$1" 0
-    try "./esa check --chip 321 of $1 is as its text says" as_the_text_says 'check --chip 321' "$1" 1
-    try "./esa list --chip 321 of $1 is as its text says" as_the_text_says 'list --chip 321' "$1" 1
+# A sample that an option gives another answer.
+sample_with() { # NAME STATUS OPTION STATUS
+    sample "$1" "$2"
+    try "./esa check $3 of $1 is as its text says" as_the_text_says "check $3" "$1" "$4"
+    try "./esa list $3 of $1 is as its text says" as_the_text_says "list $3" "$1" "$4"
 }
 
-six_samples() {
-    [ "$(find "$tables" -type f | wc -l)" -eq 12 ]
+seven_samples() {
+    [ "$(find "$tables" -type f | wc -l)" -eq 14 ]
 }
 
 samples() {
@@ -63,6 +63,7 @@ samples() {
     sample spring 1
     sample lamp 1
     sample twice 1
-    sample_of_the_320 larger-chip
-    try "six sample tables with a text each, and nothing else" six_samples
+    sample_with larger-chip 0 '--chip 321' 1
+    sample_with old-box 1 --archive 0
+    try "seven sample tables with a text each, and nothing else" seven_samples
 }

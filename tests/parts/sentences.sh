@@ -1,4 +1,5 @@
-# Part of tests/esa: what is said of each table of sentences.tsv, and on the 321 of each of sentences-321.tsv.
+# Part of tests/esa: what is said of each table of sentences.tsv, on the 321 of each of sentences-321.tsv, and by the archive's rules
+# of each of sentences-archive.tsv.
 # shellcheck shell=sh disable=SC2015,SC2154
 
 # Lines of hex as lines of octal escapes for printf.
@@ -43,4 +44,5 @@ sentences_of() { # NAME WORD...
 sentences() {
     sentences_of sentences
     sentences_of sentences-321 --chip 321
+    sentences_of sentences-archive --archive
 }

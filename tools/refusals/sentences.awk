@@ -70,7 +70,7 @@ function sentence() {
     if (number == 10) return place == 0 ? of_revision_pins() : of_pins()
     if (number <= 12) return of_numbers()
     if (number <= 14) return of_names()
-    return of_claims()
+    return number == 23 ? of_retired() : of_claims()
 }
 
 # 1 to 5
@@ -159,6 +159,12 @@ function of_entries(    p, n) {
         if (byte(p + 1) == 0) return say("entries")
     }
     return say("other")
+}
+
+# 23
+function of_retired() {
+    at(place + 8)
+    return say("block-mode")
 }
 
 # 10

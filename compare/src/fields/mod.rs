@@ -8,13 +8,12 @@ mod tally;
 use crate::comparison::HUGE;
 use crate::exchange::Exchange;
 use crate::question::Origin;
-use crate::settings;
 use batch::Batch;
 use reading::Reading;
 use second::access::walk;
 use second::element::{fixed_length, id};
 use second::random::Random;
-use second::{Chip, Settings, Verdict};
+use second::{Settings, Verdict};
 use std::rc::Rc;
 
 pub use tally::Tally;
@@ -38,9 +37,9 @@ fn places(verdict: Verdict, length: usize) -> Vec<u64> {
     }
 }
 
-/// All readings of a table. Of one that the 320 accepts, asked for that chip, those of each part that has
-/// blocks too; parts are of no chip.
-fn batches(origin: Origin, settings: u64, table: &Rc<[u8]>) -> Vec<Batch> {
+/// All readings of a table; of an accepted one, if asked for, those of each part that has blocks too. Parts
+/// know no settings.
+fn batches(origin: Origin, settings: u64, table: &Rc<[u8]>, parts: bool) -> Vec<Batch> {
     let verdict = second::check(table, Settings::of_number(settings));
     let mut readings = vec![Reading::Describe];
     for k in places(verdict, table.len()) {
@@ -52,8 +51,7 @@ fn batches(origin: Origin, settings: u64, table: &Rc<[u8]>) -> Vec<Batch> {
         bytes: table.clone(),
         readings,
     }];
-    let chip = settings::chip(settings);
-    if let (Verdict::Accepted(_), Chip::F320) = (verdict, chip) {
+    if let (Verdict::Accepted(_), true) = (verdict, parts) {
         let elements = walk(table).map(|(_, bytes)| bytes);
         batches.extend(elements.filter_map(|bytes| of_part(origin, bytes)));
     }
@@ -84,14 +82,20 @@ impl Fields {
         })
     }
 
-    /// The table; for the 320 its own parts with blocks, and one part more that is damaged or random.
-    pub fn table(&mut self, origin: Origin, settings: u64, table: &Rc<[u8]>) -> Result<(), String> {
-        let batches = batches(origin, settings, table);
+    /// The table; if asked for, its own parts with blocks, and one part more that is damaged or random.
+    pub fn table(
+        &mut self,
+        origin: Origin,
+        settings: u64,
+        table: &Rc<[u8]>,
+        parts: bool,
+    ) -> Result<(), String> {
+        let batches = batches(origin, settings, table, parts);
         let own = batches[1..].last().map(|batch| batch.bytes.clone());
         for batch in batches {
             self.ask(batch)?;
         }
-        if settings::chip(settings) == Chip::F321 {
+        if !parts {
             return Ok(());
         }
         let part = parts::some(own.as_deref(), &mut self.random);

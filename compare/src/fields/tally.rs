@@ -2,11 +2,10 @@
 
 use super::batch::{Batch, Replies};
 use super::reading::Reading;
-use crate::answers::Answers;
+use crate::answers::{of_a_table, Answers};
 use crate::exchange::Takes;
 use crate::outcome::{hex, Differences};
-use crate::settings;
-use second::Chip;
+use second::Settings;
 
 #[derive(Default)]
 pub struct Tally {
@@ -24,7 +23,8 @@ impl Takes<Batch> for Tally {
             self.answers += 1;
             if proved == expected {
                 let answers = &mut self.by_call[usize::from(reading.which())];
-                answers.add(settings::chip(batch.settings), proved.answer().number());
+                let settings = Settings::of_number(batch.settings);
+                answers.add(settings, proved.answer().number());
                 continue;
             }
             self.differences.note(|| {
@@ -43,19 +43,23 @@ impl Tally {
         }
     }
 
-    /// Every answer that the calls have, at least once on each chip; prints those that never came. Parts are of
-    /// no chip and count with the 320.
+    /// Every answer that the calls have, at least once with each of the settings; prints those that never came.
+    /// Parts know no settings and count with the first.
     pub fn all_came(&self) -> bool {
-        let came = |call: usize, chips: &[Chip], wanted: &[u8]| {
-            self.by_call[call].all_came(Reading::NAMES[call], chips, wanted)
+        let came = |call: usize, settings: Settings, wanted: &[u8]| {
+            self.by_call[call].all_came(Reading::NAMES[call], settings, wanted)
         };
-        let both = &Chip::BOTH;
-        let of_table: Vec<u8> = (0..=15).collect();
-        let of_element: Vec<u8> = (0..=15).chain([17]).collect();
-        let table = came(0, both, &of_table);
-        let elements = (1..=3).all(|call| came(call, both, &of_element));
-        let parts = (4..=7).all(|call| came(call, &[Chip::F320], &[0, 17]));
-        table && elements && parts
+        let mut all = true;
+        for settings in Settings::ALL {
+            all &= came(0, settings, &of_a_table(settings, &[]));
+            for call in 1..=3 {
+                all &= came(call, settings, &of_a_table(settings, &[17]));
+            }
+        }
+        for call in 4..=7 {
+            all &= came(call, Settings::default(), &[0, 17]);
+        }
+        all
     }
 
     /// The last line.
@@ -71,6 +75,7 @@ mod tests {
     use super::*;
     use crate::fields::{batches, parts};
     use crate::question::Origin;
+    use crate::settings::reading;
     use second::generator;
     use second::random::Random;
 
@@ -89,10 +94,10 @@ mod tests {
         let mut random = Random::new(3);
         for at in 0..100 {
             let origin = Origin::Seeded { seed: 3, at };
-            let chip = Chip::BOTH[at as usize % 2];
-            let table = generator::any(&mut random, chip).into();
+            let made_for = Settings::ALL[at as usize % 4];
+            let table = generator::any(&mut random, made_for).into();
             let part = parts::some(None, &mut random);
-            let mut all = batches(origin, settings::reading(chip, at), &table);
+            let mut all = batches(origin, reading(made_for, at), &table, true);
             all.push(Batch {
                 origin,
                 settings: 0,

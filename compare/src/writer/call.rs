@@ -4,9 +4,10 @@ use crate::answer::Answer;
 use crate::driver::Driver;
 use crate::exchange::Asked;
 use crate::outcome::{hex, Outcome};
+use crate::settings::of_writing;
 use second::answer::number;
 use second::numbers::{self, Numbers};
-use second::{Refusal, Settings};
+use second::Refusal;
 use std::fmt;
 
 /// What the call is asked to do; the driver's modes 3, 4 and 5.
@@ -76,18 +77,18 @@ impl WriterCall {
 
     /// The C face alone knows identifiers of no kind: 7 with 0, and nothing else is looked at.
     fn run_second(&self, buffer: &mut [u8]) -> Result<usize, Refusal> {
-        let settings = Settings::of_number(self.settings);
+        let chip = of_writing(self.settings);
         let id = match self.does {
             Does::Start => {
                 let record = numbers::description(&self.numbers);
-                return second::start(buffer, settings.chip, &record);
+                return second::start(buffer, chip, &record);
             }
-            Does::Rewrite => return second::rewrite(&self.part, settings, buffer),
+            Does::Rewrite => return second::rewrite(&self.part, chip, buffer),
             Does::Append(id) => id,
         };
         let element = numbers::element(id, &self.numbers);
         let element = element.ok_or(Refusal::at(number::IDENTIFIER, 0))?;
-        second::append(buffer, settings.chip, &element, &self.part)
+        second::append(buffer, chip, &element, &self.part)
     }
 }
 

@@ -1,4 +1,5 @@
-//! Calls with pins of this chip and of the other, on and around the four: 10, and what comes before and after it.
+//! Calls with pins of this chip and of the other, on and around the four: 10, and what comes before and after it;
+//! and 23 in the same company.
 
 use super::call::WriterCall;
 use super::codes::PINS;
@@ -6,6 +7,7 @@ use super::samples::{description, elements, junk, Sample, Sink};
 use crate::settings::writing;
 use second::element::id;
 use second::numbers::CHIP;
+use second::settings::BLOCK_MODE;
 use second::Chip;
 
 /// What the byte that names the chip may be: 0 the 320, any other value the 321.
@@ -21,14 +23,23 @@ pub fn calls(chip: Chip, to: Sink) -> Result<(), String> {
             }
         }
         in_company(&sample, to)?;
+        if on_a_bus(sample.id) {
+            let mut retired = sample.clone();
+            retired.numbers[5..7].copy_from_slice(&[BLOCK_MODE, 0]);
+            in_company(&retired, to)?;
+        }
     }
     starts(chip, to)
+}
+
+fn on_a_bus(id: u8) -> bool {
+    matches!(id, id::DIGITAL_SENSOR | id::CONTROLLER | id::TACHOMETER)
 }
 
 /// Where the numbers of a kind have its pins.
 fn places(id: u8) -> &'static [usize] {
     match id {
-        id::DIGITAL_SENSOR | id::CONTROLLER | id::TACHOMETER => &[7],
+        _ if on_a_bus(id) => &[7],
         id::ANALOGUE_SENSOR => &[6],
         id::FAN => &[5, 6],
         id::STATUS_LED => &[5, 8, 11],

@@ -1,19 +1,23 @@
 //! Tables of any sort, written again into buffers of junk: one byte short, just long enough, longer.
 
 use super::call::WriterCall;
-use crate::settings::reading;
-use second::generator::{any, only_on_the_320, valid};
+use crate::settings::writing;
+use second::generator::{any, only_in_the_archive, only_on_the_320, valid};
 use second::random::Random;
-use second::{Chip, Verdict};
+use second::{Chip, Rules, Settings, Verdict};
 
 /// The rewritings of one table. An accepted one is written twice: what is written must come again.
 pub fn calls(random: &mut Random) -> Vec<WriterCall> {
     let chip = *random.pick(&Chip::BOTH);
-    let settings = reading(chip, random.word());
+    let settings = writing(chip, random.word());
     let table = match random.below(10) {
-        0..=2 => valid(random, chip),
-        3 => only_on_the_320(random),
-        _ => any(random, chip),
+        0..=2 => valid(random, chip.into()),
+        3 => only_on_the_320(random, Rules::Ordinary),
+        4 => only_in_the_archive(random, chip),
+        _ => {
+            let rules = *random.pick(&Rules::BOTH);
+            any(random, Settings::new(chip, rules))
+        }
     };
     let longer = table.len() + random.between(1, 40);
     let mut calls: Vec<WriterCall> = [table.len().saturating_sub(1), table.len(), longer]

@@ -19,9 +19,9 @@ pub fn noise(random: &mut Random) -> Numbers {
 pub fn calls(random: &mut Random) -> Vec<WriterCall> {
     let chip = *random.pick(&Chip::BOTH);
     let table = if random.chance(10) {
-        mixed(random, chip)
+        mixed(random, chip.into())
     } else {
-        valid(random, chip)
+        valid(random, chip.into())
     };
     let room = match random.below(4) {
         0 => table.len(),

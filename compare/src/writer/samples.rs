@@ -67,7 +67,7 @@ pub fn elements(chip: Chip) -> Vec<Sample> {
         raw::led(1, [0x14, 0x02, 0x30]),
         raw::led(1, [0xFF, last_of_port, 0xFF]),
         raw::current(1, 0x21),
-        raw::controller(1, 2, 0x80, &[1, 2]),
+        raw::controller(1, 1, 0x80, &[1, 2]),
         raw::controller(1, 3, 0x15, &[1; 6]),
         raw::tachometer(1, 1, 0x40, 1, 0),
         raw::tachometer(1, 3, 0x16, 2, 1),

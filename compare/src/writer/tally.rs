@@ -1,11 +1,11 @@
 //! What was asked of the writer, what came back, and where the two sides differ.
 
 use super::call::{Does, WriterCall};
-use crate::answers::Answers;
+use crate::answers::{of_a_table, Answers};
 use crate::exchange::Takes;
 use crate::outcome::{hex, Differences, Outcome};
-use crate::settings;
-use second::Chip;
+use crate::settings::of_writing;
+use second::{Chip, Settings};
 
 #[derive(Default)]
 pub struct Tally {
@@ -31,7 +31,8 @@ impl Takes<WriterCall> for Tally {
             Does::Append(_) => &mut self.appends,
             Does::Rewrite => &mut self.rewritings,
         };
-        answers.add(settings::chip(call.settings), proved.answer.number());
+        let chip = of_writing(call.settings);
+        answers.add(chip.into(), proved.answer.number());
     }
 }
 
@@ -49,13 +50,16 @@ impl Tally {
     /// Prints the answers of the three calls that should have come and did not; true when all came, on both
     /// chips.
     pub fn all_came(&self) -> bool {
-        let both = &Chip::BOTH;
-        let of_rewrite: Vec<u8> = (0..=16).collect();
-        let starts = self.starts.all_came("start", both, &[0, 1, 4, 5, 10, 25]);
-        let of_append = [0, 1, 3, 7, 8, 9, 10, 16, 25];
-        let appends = self.appends.all_came("append", both, &of_append);
-        let rewritings = self.rewritings.all_came("rewrite", both, &of_rewrite);
-        starts && appends && rewritings
+        let mut all = true;
+        for settings in Chip::BOTH.map(Settings::from) {
+            let of_start = [0, 1, 4, 5, 10, 25];
+            all &= self.starts.all_came("start", settings, &of_start);
+            let of_append = [0, 1, 3, 7, 8, 9, 10, 16, 23, 25];
+            all &= self.appends.all_came("append", settings, &of_append);
+            let of_rewrite = of_a_table(settings, &[16]);
+            all &= self.rewritings.all_came("rewrite", settings, &of_rewrite);
+        }
+        all
     }
 
     /// The last line.

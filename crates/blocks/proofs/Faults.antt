@@ -1,4 +1,4 @@
--- The first of 8, 9 and 10 that an element with blocks breaks: 8 by what its part says, and else what its fixed fields say.
+-- The first of 8, 9, 23 and 10 that an element with blocks breaks: 8 by what its part says, and else what its fixed fields say.
 -- Assumes nothing.
 use Prim.Native.Nat.{ℕ}
 use mathlib.Core.Path.{_≡_, refl, sym, _∙_, ap}

@@ -1,4 +1,4 @@
-// What the writer asks of a record before it writes: 25, and 8, 9 and 10 of an element with its part. 8, 9 and 10 are found by
+// What the writer asks of a record before it writes: 25, and 8, 9, 23 and 10 of an element with its part, which are found by
 // the functions that the reader calls too.
 ghost use mathlib.Core.Path.{_≡_};
 ghost use mathlib.Core.Bool.{true, false, _&&_};
@@ -151,7 +151,7 @@ fn tachometer_breaks(d: BusDevice, part: &[u8], s: Settings) -> u8
     device_breaks(d, blocks::pairs_blocks(part, 2), s)
 }
 
-// The first of 8, 9 and 10 that an element with its part breaks, or 0.
+// The first of 8, 9, 23 and 10 that an element with its part breaks, or 0.
 pub fn part_breaks(e: Element, part: &[u8], s: Settings) -> u8
     ensures { λ r. ⌜ r ≡ numbered (partBreaks s e (now (part .entry))) ⌝ }
 {

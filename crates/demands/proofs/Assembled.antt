@@ -67,7 +67,7 @@ pub append-reads-back :
 append-reads-back chip r more h k =
     ap (λ (l : List ℕ). decode chip (byte (l ++ more) 0) (content (l ++ more))) (slots-written r) ∙ record-reads-back chip r more h k
 
--- what keeps the rules is not refused by 25, 8, 9 or 10
+-- what keeps the rules is not refused by 25, 8, 9, 23 or 10
 pub body-roomy : (r : Record) → allRoomy (layout r) ≡ true → allRoomy (body r) ≡ true
 body-roomy r h = roomy-split (whole (idOf (elementOf r)) ∷ word (3 + length (body r))) (body r) h .1
 

@@ -3,6 +3,7 @@ pub mod Standing
 pub mod Demand2
 pub mod Making
 pub mod Refusals
+pub mod Retired
 pub mod Tried
 pub mod BadWriters
 pub mod OtherChip

@@ -8,12 +8,13 @@ use mathlib.Core.List.{List, [], _∷_, _++_}
 use lib.ListN.{length}
 use lib.Dec.{leb}
 use Rattle.format.specs.Slots.{Bytes}
-use Rattle.format.specs.Records.{Record}
+use Rattle.format.specs.Records.{Record, elementOf}
 use Rattle.format.specs.Known.{tableA}
 use Rattle.format.specs.Decode.{pinOf, placementOf, fanOf}
-use Rattle.format.specs.Rules.{typed, powered, strapped, descriptionRules, shaped, coded, pinned, ownRules, ofItsKind, descriptionKind, descriptionRoomy, elementRoomy}
+use Rattle.format.specs.Rules.{typed, powered, strapped, descriptionRules, shaped, coded, inUse, pinned, ownRules, ofItsKind, descriptionKind, descriptionRoomy, elementRoomy}
 use Rattle.format.specs.Verdict.{stated}
 use Rattle.format.specs.Writing.{lengthStands, startAnswer, partBreaks, appendAnswer}
+use Rattle.format.specs.declared.settings.Rules.the-variants.{Ordinary}
 use Rattle.format.specs.declared.pins.Chip.{Chip}
 use Rattle.format.specs.declared.pins.Chip.the-variants.{C8051F320, C8051F321}
 use Rattle.format.specs.declared.pins.Use.the-variants.{HardwareRevision}
@@ -54,12 +55,13 @@ module _ (chip : Chip) where
       → elementRoomy e ≡ true
       → shaped r ≡ true
       → coded r ≡ true
+      → inUse Ordinary (elementOf r) ≡ true
       → ofItsKind chip r ≡ false
       → appendAnswer chip b e p ≡ Refused 10 (stated b)
   unfolding appendAnswer ownRules
-  append-other-chip b e p r f m room so-far roomy shape code other =
+  append-other-chip b e p r f m room so-far roomy shape code used other =
       let q = not-both (pinned chip r) (ofItsKind chip r) (λ k. kept-kind chip r code k) other in
-      rw (room, so-far, roomy, part-faults chip e p r f m, shape, code, q) refl
+      rw (room, so-far, roomy, part-faults chip e p r f m, shape, code, used, q) refl
 
 -- 'F' with its PWM pin P0.5 of another chip than the named one, behind table A: 10 at 16
 abbrev room30 : List ℕ

@@ -27,32 +27,34 @@ use Rattle.format.proofs.Slots.{roomy-split}
 use Rattle.format.proofs.Lengths.{layouts-append}
 use Rattle.writer.proofs.Answering.{good, unbroken}
 use Rattle.format.specs.declared.pins.Chip.{Chip}
+use Rattle.format.specs.declared.settings.Settings.{Settings}
 
-module _ (chip : Chip) where
-  -- a record in the middle of a list that keeps the rules
+-- a record in the middle of a list that keeps the rules
+module _ (σ : Settings) where
   pub passed-at :
       (xs before : List Record) (r : Record) (after : List Record)
-      → PassKept (writing chip) xs (before ++ r ∷ after)
-      → elementBreaks (writing chip) (xs ++ before) r ≡ none
-  passed-at xs [] r after h = subst (λ (l : List Record). elementBreaks (writing chip) l r ≡ none) (sym (append-nil xs)) (h .1)
+      → PassKept σ xs (before ++ r ∷ after)
+      → elementBreaks σ (xs ++ before) r ≡ none
+  passed-at xs [] r after h = subst (λ (l : List Record). elementBreaks σ l r ≡ none) (sym (append-nil xs)) (h .1)
   passed-at xs (x ∷ before) r after h =
-      subst (λ (l : List Record). elementBreaks (writing chip) l r ≡ none) (append-assoc xs (x ∷ []) before) (passed-at (xs ++ x ∷ []) before r after (h .2))
+      subst (λ (l : List Record). elementBreaks σ l r ≡ none) (append-assoc xs (x ∷ []) before) (passed-at (xs ++ x ∷ []) before r after (h .2))
 
-  pub layout-roomy : (d : Description) (before : List Record) (r : Record) (after : List Record) → Keeps (writing chip) d (before ++ r ∷ after) → allRoomy (layout r) ≡ true
+  pub layout-roomy : (d : Description) (before : List Record) (r : Record) (after : List Record) → Keeps σ d (before ++ r ∷ after) → allRoomy (layout r) ≡ true
   layout-roomy d before r after k =
       let rs = before ++ r ∷ after in
       let h = roomy-split (opening d (16 + length (layouts rs))) (layouts rs) (k .roomy-25) .1 in
       let g = subst (λ (l : List Slot). allRoomy l ≡ true) (layouts-append before (r ∷ after)) h in
       roomy-split (layout r) (layouts after) (roomy-split (layouts before) (layouts (r ∷ after)) g .1) .0
 
+module _ (chip : Chip) where
   pub record Unrefused (r : Record) : Type 0 where
     pub keeps : elementRoomy (elementOf r) ≡ true
     pub whole : partBreaks (writing chip) (elementOf r) (written (part r)) ≡ none
 
   pub kept-unrefused : (d : Description) (before : List Record) (r : Record) (after : List Record) → Keeps (writing chip) d (before ++ r ∷ after) → Unrefused r
   kept-unrefused d before r after k =
-      let q = roomy-split (fixed (elementOf r)) (part r) (body-roomy r (layout-roomy d before r after k)) in
-      record { keeps = q .0; whole = kept-break (writing chip) before r (passed-at [] before r after (k .passed)) (q .1) }
+      let q = roomy-split (fixed (elementOf r)) (part r) (body-roomy r (layout-roomy (writing chip) d before r after k)) in
+      record { keeps = q .0; whole = kept-break (writing chip) before r (passed-at (writing chip) [] before r after (k .passed)) (q .1) }
 
   -- so append refuses it by 1, 3 and 16 alone
   abbrev pub ofTheBuffer : Written → Bool
@@ -76,7 +78,7 @@ module _ (chip : Chip) where
       (or-buffer (lengthStands b) 3 _ refl
       (rw (u .keeps, u .whole) (or-buffer (hasRoom b (newLength b e p)) 16 (Length (newLength b e p)) refl refl)))
 
-  -- what append takes is the element and the part of a record that breaks neither 25 nor 8, 9 and 10
+  -- what append takes is the element and the part of a record that breaks neither 25 nor 8, 9, 23 and 10
   pub record Takes (e : Element) (p : List ℕ) (r : Record) : Type 0 where
     pub of-them : MadeOf e p r
     pub room-25 : elementRoomy e ≡ true

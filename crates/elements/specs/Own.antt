@@ -16,6 +16,9 @@ use Rattle.elements.specs.declared.OwnPins.{OwnPins}
 abbrev pub three : ℕ → ℕ → ℕ → OwnPins
 three a b c = record { one = a; two = b; three = c }
 
+abbrev pub noPins : OwnPins
+noPins = three 0xff 0xff 0xff
+
 abbrev pub selectOf : Address → ℕ
 selectOf (Bus a) = 0xff
 selectOf (Select p) = p .0
@@ -34,8 +37,8 @@ ownPins (Led l) = lampPins l
 ownPins (Current c) = three (c .pin .0) 0xff 0xff
 ownPins (Controller d) = three (selectOf (d .address)) 0xff 0xff
 ownPins (Tachometer d) = three (selectOf (d .address)) 0xff 0xff
-ownPins Zone = three 0xff 0xff 0xff
-ownPins Text = three 0xff 0xff 0xff
+ownPins Zone = noPins
+ownPins Text = noPins
 ownPins (Rgb r) = three (r .red .0) (r .green .0) (r .blue .0)
 
 -- 'zone (of a zone descriptor its own number)', from the element and its variable part; 256 of a string, which has none

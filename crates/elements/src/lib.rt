@@ -1,11 +1,15 @@
 // An element's bytes as a case of the element enum, where its variable part starts, and what it says of itself: its identifier,
-// position, own pins and zone.
+// position, own pins and zone, and whether it is in use.
 ghost use mathlib.Core.Path.{_≡_};
+ghost use mathlib.Core.Bool.{true};
 ghost use mathlib.Core.Option.{some};
 ghost use Rattle.format.specs.Records.{Record, elementOf, unknownPosition};
 ghost use Rattle.format.specs.Layout.{idOf, optionalByte};
+ghost use Rattle.format.specs.Pins.{among};
+ghost use Rattle.format.specs.Rules.{typeInUse, inUse};
 ghost use Rattle.format.specs.Decode.{decode};
 ghost use Rattle.format.specs.Slots.{byte};
+ghost use Rattle.format.specs.declared.settings.Rules.the-variants.{Ordinary};
 ghost use Rattle.elements.specs.Parts.{partStart};
 ghost use Rattle.elements.specs.Own.{three as threeOf, selectOf, fanPins, lampPins, ownPins, zoneOf};
 use format::pins::Chip;
@@ -15,6 +19,7 @@ use format::records::Element;
 use format::records::Placement;
 use format::records::PwmFan;
 use format::records::StatusLed;
+use format::settings::Rules;
 use words::wide;
 
 // The element in the bytes after a header with this identifier, its pins of this chip.
@@ -85,17 +90,19 @@ pub struct OwnPins {
 pub struct Showing {
     pub zone: usize,
     pub pins: OwnPins,
+    pub used: bool,
 }
 
 // The zone of an element, of a zone descriptor its own number, and 256 of a string, which has none; and its pins in field order,
-// of which a chip select is one and shared pins are not. One match for both: the kind is told once (docs/BENCH.md).
+// of which a chip select is one and shared pins are not; and whether the ordinary rules have it in use. One match for all: the kind
+// is told once (docs/BENCH.md).
 pub fn shown(e: Element, part: &[u8]) -> Showing
-    ensures { λ r. ⌜ (r .zone ≡ zoneOf e (now (part .entry))) × (r .pins ≡ ownPins e) ⌝ }
+    ensures { λ r. ⌜ (r .zone ≡ zoneOf e (now (part .entry))) × (r .pins ≡ ownPins e) × (r .used ≡ inUse Ordinary e) ⌝ }
 {
     match e {
         Element::Digital(d) => {
             let a = d.address;
-            placed(d.placement.zone, selected(a))
+            on_bus(d.placement.zone, d.bus, a)
         }
         Element::Analogue(a) => placed(a.placement.zone, own(a.pin.0, 255, 255)),
         Element::Fan(f) => placed(f.placement.zone, fan_pins(f)),
@@ -103,11 +110,11 @@ pub fn shown(e: Element, part: &[u8]) -> Showing
         Element::Current(c) => placed(c.placement.zone, own(c.pin.0, 255, 255)),
         Element::Controller(d) => {
             let a = d.address;
-            placed(d.placement.zone, selected(a))
+            on_bus(d.placement.zone, d.bus, a)
         }
         Element::Tachometer(d) => {
             let a = d.address;
-            placed(d.placement.zone, selected(a))
+            on_bus(d.placement.zone, d.bus, a)
         }
         Element::Zone => without_pins(number_of(part)),
         Element::Text => without_pins(256),
@@ -116,20 +123,33 @@ pub fn shown(e: Element, part: &[u8]) -> Showing
 }
 
 fn placed(zone: u8, pins: OwnPins) -> Showing
-    ensures { λ r. ⌜ (r .zone ≡ zone) × (r .pins ≡ pins) ⌝ }
+    ensures { λ r. ⌜ (r .zone ≡ zone) × (r .pins ≡ pins) × (r .used ≡ true) ⌝ }
 {
     Showing {
         zone: wide(zone),
         pins,
+        used: true,
+    }
+}
+
+// A device on a bus: its chip select, if it has one, and its bus type.
+fn on_bus(zone: u8, bus: u8, a: Address) -> Showing
+    ensures { λ r. ⌜ (r .zone ≡ zone) × (r .pins ≡ threeOf (selectOf a) 0xff 0xff) × (r .used ≡ typeInUse Ordinary bus) ⌝ }
+{
+    Showing {
+        zone: wide(zone),
+        pins: selected(a),
+        used: rules::in_use(bus, Rules::Ordinary),
     }
 }
 
 fn without_pins(zone: usize) -> Showing
-    ensures { λ r. ⌜ (r .zone ≡ zone) × (r .pins ≡ threeOf 0xff 0xff 0xff) ⌝ }
+    ensures { λ r. ⌜ (r .zone ≡ zone) × (r .pins ≡ threeOf 0xff 0xff 0xff) × (r .used ≡ true) ⌝ }
 {
     Showing {
         zone,
         pins: own(255, 255, 255),
+        used: true,
     }
 }
 

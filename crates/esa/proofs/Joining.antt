@@ -28,7 +28,6 @@ use Rattle.numbers.specs.From.{descriptionFrom, elementFrom}
 use Rattle.numbers.specs.declared.MaybeElement.{MaybeElement}
 use Rattle.numbers.specs.declared.MaybeElement.the-variants.{Element as Found, Unknown}
 use Rattle.esa.specs.Writing.{packedWritten, StartedFor, AppendedAs, AppendedFor}
-use Rattle.format.specs.declared.settings.Settings.{Settings}
 use Rattle.format.specs.declared.pins.Chip.{Chip}
 
 or-bound :
@@ -76,10 +75,10 @@ pub append-bound :
     (c : Chip) (b : List ℕ) (e : Element) (p : List ℕ) (r : Written) (after : List ℕ) → Appended c b e p r after → valueOfWritten r ≤ 4096
 append-bound c b e p r after a = rw (a .answer) (append-answer-bound c b e p)
 
-pub rewrite-bound : (σ : Settings) (b c : List ℕ) (w : Written) (after : List ℕ) → Rewritten σ b c w after → valueOfWritten w ≤ 4096
-rewrite-bound σ b c w after (done d rs a h) = omega (arith, fits-length b (table d rs) (a .fits), a .keeps .limit)
-rewrite-bound σ b c w after (no-room d rs a h) = omega arith
-rewrite-bound σ b c w after (refused v) = value-bound σ b _ v
+pub rewrite-bound : (chip : Chip) (b c : List ℕ) (w : Written) (after : List ℕ) → Rewritten chip b c w after → valueOfWritten w ≤ 4096
+rewrite-bound chip b c w after (done d rs a h) = omega (arith, fits-length b (table d rs) (a .fits), a .keeps .limit)
+rewrite-bound chip b c w after (no-room d rs a h) = omega arith
+rewrite-bound chip b c w after (refused v) = value-bound (writing chip) b _ v
 
 pub started-for :
     (c : Chip) (b n : List ℕ) (d : Description) (w : Written) (r : ℕ) (after : List ℕ)

@@ -138,11 +138,11 @@ appended-unique c b id n p r r′ after after′ a a′ =
     as-unique c (elementFrom id n) b p r r′ after after′ (a .appended) (a′ .appended)
 
 pub rewritten-unique :
-    (σ : Settings) (b c : List ℕ) (r r′ : ℕ) (after after′ : List ℕ)
+    (chip : Chip) (b c : List ℕ) (r r′ : ℕ) (after after′ : List ℕ)
     → Bytes b
-    → RewrittenFor σ b c r after
-    → RewrittenFor σ b c r′ after′
+    → RewrittenFor chip b c r after
+    → RewrittenFor chip b c r′ after′
     → (r ≡ r′) × (after ≡ after′)
-rewritten-unique σ b c r r′ after after′ small s s′ =
-    let q = only-rewrite σ b c (s .answer) (s′ .answer) after after′ small (s .rewritten) (s′ .rewritten) in
+rewritten-unique chip b c r r′ after after′ small s s′ =
+    let q = only-rewrite chip b c (s .answer) (s′ .answer) after after′ small (s .rewritten) (s′ .rewritten) in
     (s .number ∙ ap packedWritten (q .0) ∙ sym (s′ .number), q .1)

@@ -12,7 +12,6 @@ use Rattle.numbers.specs.From.{descriptionFrom, elementFrom}
 use Rattle.numbers.specs.declared.MaybeElement.{MaybeElement}
 use Rattle.numbers.specs.declared.MaybeElement.the-variants.{Element as Found, Unknown}
 use Rattle.esa.specs.Face.{packs}
-use Rattle.format.specs.declared.settings.Settings.{Settings}
 use Rattle.format.specs.declared.pins.Chip.{Chip}
 
 abbrev pub packedWritten : Written → ℕ
@@ -40,7 +39,7 @@ pub record AppendedFor (c : Chip) (b : List ℕ) (id : ℕ) (n p : List ℕ) (r 
   pub appended : AppendedAs c (elementFrom id n) b p r after
 
 -- the records of a table were written again
-pub record RewrittenFor (σ : Settings) (b c : List ℕ) (r : ℕ) (after : List ℕ) : Type 0 where
+pub record RewrittenFor (chip : Chip) (b c : List ℕ) (r : ℕ) (after : List ℕ) : Type 0 where
   pub answer : Written
-  pub rewritten : Rewritten σ b c answer after
+  pub rewritten : Rewritten chip b c answer after
   pub number : r ≡ packedWritten answer

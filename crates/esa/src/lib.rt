@@ -1,9 +1,10 @@
 // The C face: numbers and byte slices. An answer leaves as one number: the number of 'What comes back' and 256 times what
-// stands beside it. Settings come as one number: bit 0 set is the 321, other bits are ignored.
+// stands beside it. Settings come as one number: bit 0 set is the 321, bit 1 the archive's rules, other bits are ignored; the writer
+// ignores bit 1 too.
 ghost use mathlib.Core.Path.{_≡_};
 ghost use Rattle.parts.specs.Inside.{blockIn, pairIn, listIn, listPairIn};
 ghost use Rattle.listing.specs.Lines.{Listed};
-ghost use Rattle.esa.specs.Settled.{settingsOf};
+ghost use Rattle.esa.specs.Settled.{chipOf, rulesOf, settingsOf};
 ghost use Rattle.esa.specs.Face.{Checked, AskedFor, PartFor};
 ghost use Rattle.esa.specs.Fields.{DescribedFor, FieldsFor};
 ghost use Rattle.esa.specs.Places.{PlacedFor, TextPlaced, TextFor};
@@ -12,6 +13,7 @@ ghost use Rattle.esa.specs.Writing.{StartedFor, AppendedFor, RewrittenFo
 use format::answers::Asked;
 use format::answers::Described;
 use format::pins::Chip;
+use format::settings::Rules;
 use format::settings::Settings;
 use numbers::MaybeElement;
 use reader::Placed;
@@ -138,10 +140,9 @@ pub extern "C" fn esa_entry(part: &[u8], w: usize, i: usize) -> u64
 // Starts a table with the description in the numbers. Beside 0 stands the length, beside a refusal its place.
 #[no_mangle]
 pub extern "C" fn esa_start(buffer: &mut [u8], settings: u64, numbers: &[u8; 32]) -> u64
-    ensures { λ r. ⌜ StartedFor (settingsOf settings .chip) (now (buffer .entry)) (now (numbers .entry)) r (now (buffer .exit)) ⌝ }
+    ensures { λ r. ⌜ StartedFor (chipOf settings) (now (buffer .entry)) (now (numbers .entry)) r (now (buffer .exit)) ⌝ }
 {
-    let s = settings_of(settings);
-    let chip = s.chip;
+    let chip = chip_of(settings);
     packing::written(writer::start(buffer, numbers::from::description(numbers), chip))
 }
 
@@ -155,22 +156,21 @@ pub extern "C" fn esa_append(
     numbers: &[u8; 32],
     part: &[u8],
 ) -> u64
-    ensures { λ r. ⌜ AppendedFor (settingsOf settings .chip) (now (buffer .entry)) id (now (numbers .entry)) (now (part .entry)) r (now (buffer .exit)) ⌝ }
+    ensures { λ r. ⌜ AppendedFor (chipOf settings) (now (buffer .entry)) id (now (numbers .entry)) (now (part .entry)) r (now (buffer .exit)) ⌝ }
 {
-    let s = settings_of(settings);
-    let chip = s.chip;
+    let chip = chip_of(settings);
     match numbers::from::element(id, numbers) {
         MaybeElement::Element(e) => packing::written(writer::append(buffer, e, part, chip)),
         MaybeElement::Unknown => 7,
     }
 }
 
-// The records of an accepted table, written again into a buffer. Beside 0 stands the length, beside a refusal its place.
+// The records of an accepted table, written again into a buffer, by the writer's rules. Beside 0 stands the length, beside a refusal its place.
 #[no_mangle]
 pub extern "C" fn esa_rewrite(table: &[u8], settings: u64, out: &mut [u8]) -> u64
-    ensures { λ r. ⌜ RewrittenFor (settingsOf settings) (now (table .entry)) (now (out .entry)) r (now (out .exit)) ⌝ }
+    ensures { λ r. ⌜ RewrittenFor (chipOf settings) (now (table .entry)) (now (out .entry)) r (now (out .exit)) ⌝ }
 {
-    packing::written(rewriting::rewrite(table, out, settings_of(settings)))
+    packing::written(rewriting::rewrite(table, out, chip_of(settings)))
 }
 
 // The listing of a table at the front of the buffer. The answer is its length in bytes.
@@ -194,16 +194,31 @@ fn text(table: &[u8], k: usize, s: Settings) -> u64
     }
 }
 
+fn chip_of(settings: u64) -> Chip
+    ensures { λ r. ⌜ r ≡ chipOf settings ⌝ }
+{
+    if settings % 2 == 0 {
+        Chip::C8051F320
+    } else {
+        Chip::C8051F321
+    }
+}
+
+fn rules_of(settings: u64) -> Rules
+    ensures { λ r. ⌜ r ≡ rulesOf settings ⌝ }
+{
+    if settings / 2 % 2 == 0 {
+        Rules::Ordinary
+    } else {
+        Rules::Archive
+    }
+}
+
 fn settings_of(settings: u64) -> Settings
     ensures { λ r. ⌜ r ≡ settingsOf settings ⌝ }
 {
-    if settings % 2 == 0 {
-        Settings {
-            chip: Chip::C8051F320,
-        }
-    } else {
-        Settings {
-            chip: Chip::C8051F321,
-        }
+    Settings {
+        chip: chip_of(settings),
+        rules: rules_of(settings),
     }
 }

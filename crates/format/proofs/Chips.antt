@@ -11,10 +11,10 @@ use mathlib.Core.Option.{Option, none, some}
 use lib.ListN.{length}
 use lib.Dec.{eqb, ltb}
 use Rattle.format.specs.Slots.{Slot, Fits, Bytes, allRoomy}
-use Rattle.format.specs.Records.{Record, digital, analogue, fan, led, current, controller, tachometer, zone, string, rgb}
+use Rattle.format.specs.Records.{Record, digital, analogue, fan, led, current, controller, tachometer, zone, string, rgb, elementOf}
 use Rattle.format.specs.Layout.{optionalPinSlot, address, layout, layouts, opening, table}
 use Rattle.format.specs.Pins.{among, onChip, keptIf, only, listed, permitted, ofChip, allowed, unused, allowedOrUnused}
-use Rattle.format.specs.Rules.{unlessKept, firstBroken, descriptionRules, ownRules, shaped, coded, pinned, selected, rises, ofItsBus}
+use Rattle.format.specs.Rules.{unlessKept, firstBroken, descriptionRules, ownRules, shaped, coded, inUse, pinned, selected, rises, ofItsBus}
 use Rattle.format.specs.ZonesAndStrings.{Role, role, zoneDeclared, stringDeclared, gathered, zones, strings, rulesAgainst, zoneNamed, stringNamed, allAmong, firstNaming, zoneless, nameless}
 use Rattle.format.specs.Claims.{Made, madeAt, ownUsed, onBus, claimsOf, firstClaims, claimsFrom, contested}
 use Rattle.format.specs.Table.{elementBreaks, descriptionBreaks, PassKept, Keeps}
@@ -29,6 +29,7 @@ use Rattle.format.specs.declared.pins.Pin.{Pin}
 use Rattle.format.specs.declared.pins.OptionalPin.{OptionalPin}
 use Rattle.format.specs.declared.pins.OptionalPin.the-variants.{Unused, Used}
 use Rattle.format.specs.declared.settings.Settings.{Settings}
+use Rattle.format.specs.declared.settings.Rules.{Rules}
 use Rattle.format.specs.declared.records.Description.{Description}
 use Rattle.format.specs.declared.records.Address.{Address}
 use Rattle.format.specs.declared.records.Address.the-variants.{Bus, Select}
@@ -122,6 +123,18 @@ module _ (c : Chip) where
   coded-on (zone bytes) = refl
   coded-on (string bytes) = refl
   coded-on (rgb r) = refl
+
+  in-use-on : (k : Rules) (r : Record) → inUse k (elementOf (recordOn c r)) ≡ inUse k (elementOf r)
+  in-use-on k (digital d) = refl
+  in-use-on k (analogue a) = refl
+  in-use-on k (fan f) = refl
+  in-use-on k (led l) = refl
+  in-use-on k (current x) = refl
+  in-use-on k (controller d bs) = refl
+  in-use-on k (tachometer d a b) = refl
+  in-use-on k (zone bytes) = refl
+  in-use-on k (string bytes) = refl
+  in-use-on k (rgb r) = refl
 
   layouts-on : (rs : List Record) → layouts (recordsOn c rs) ≡ layouts rs
   layouts-on [] = refl
@@ -243,7 +256,8 @@ pinned-larger (rgb r) h =
 own-larger : (s : Settings) (r : Record) → EachKept (ownRules (withChip small s) r) → EachKept (ownRules (withChip large s) (recordOn large r))
 unfolding ownRules
 own-larger s r k =
-    (rw (shaped-on large r) (k .0), (rw (coded-on large r) (k .1 .0), (pinned-larger r (k .1 .1 .0), tt)))
+    let used : inUse (s .rules) (elementOf (recordOn large r)) ≡ true = rw (in-use-on large (s .rules) r) (k .1 .1 .0) in
+    (rw (shaped-on large r) (k .0), (rw (coded-on large r) (k .1 .0), (used, (pinned-larger r (k .1 .1 .1 .0), tt))))
 
 described-larger : (d : Description) → descriptionBreaks small d ≡ none → descriptionBreaks large (descriptionOn large d) ≡ none
 described-larger d h =

@@ -9,8 +9,8 @@ use borrow.Author.Tests.{eqb-true}
 use mathlib.Core.List.{List, [], _∷_, _++_}
 use mathlib.Core.Option.{Option, none, some}
 use native.Mathlib.Omega.{arith}
-use Rattle.format.specs.Records.{Record, digital, analogue, fan, led, current, controller, tachometer, zone, string, rgb}
-use Rattle.format.specs.Rules.{Rule, unlessKept, firstBroken, numbered, descriptionRules, typed, powered, strapped, ownRules, shaped, coded, pinned, busTypes, ofItsBus, chosen, addressed, selected, rises, filled, ofItsDevice, ofItsKind, descriptionKind}
+use Rattle.format.specs.Records.{Record, digital, analogue, fan, led, current, controller, tachometer, zone, string, rgb, elementOf}
+use Rattle.format.specs.Rules.{Rule, unlessKept, firstBroken, numbered, descriptionRules, typed, powered, strapped, ownRules, shaped, coded, inUse, pinned, busTypes, ofItsBus, chosen, addressed, selected, rises, filled, ofItsDevice, ofItsKind, descriptionKind}
 use Rattle.format.specs.Pins.{among, ofChip, allowed, unused, allowedOrUnused, standing, permitted}
 use Rattle.format.specs.declared.pins.Chip.{Chip}
 use Rattle.format.specs.declared.pins.Chip.the-variants.{C8051F320, C8051F321}
@@ -96,7 +96,7 @@ some-number (some k) n = refl
 
 pub own-numbered : (s : Settings) (r : Record) → Numbered (ownRules s r)
 unfolding ownRules
-own-numbered s r = (omega arith, (omega arith, (omega arith, tt)))
+own-numbered s r = (omega arith, (omega arith, (omega arith, (omega arith, tt))))
 
 pub against-numbered : (before : List Record) (r : Record) → Numbered (rulesAgainst before r)
 unfolding rulesAgainst
@@ -125,6 +125,7 @@ kept-description c d k = rw (k .type-4, k .power-5, k .pins-10) refl
 pub record OwnKept (s : Settings) (r : Record) : Type 0 where
   pub shape-8 : shaped r ≡ true
   pub codes-9 : coded r ≡ true
+  pub use-23 : inUse (s .rules) (elementOf r) ≡ true
   pub pins-10 : pinned (s .chip) r ≡ true
 
 module _ (s : Settings) where
@@ -132,12 +133,22 @@ module _ (s : Settings) where
   unfolding ownRules
   own-kept r h =
       let k = each-kept (ownRules s r) h in
-      record { shape-8 = k .0; codes-9 = k .1 .0; pins-10 = k .1 .1 .0 }
+      record { shape-8 = k .0; codes-9 = k .1 .0; use-23 = k .1 .1 .0; pins-10 = k .1 .1 .1 .0 }
 
   -- 8, before all others
   pub misshapen : (r : Record) → shaped r ≡ false → firstBroken (ownRules s r) ≡ some 8
   unfolding ownRules
   misshapen r h = simp h
+
+  -- 23, after 8 and 9 and before all others
+  pub out-of-use :
+      (r : Record)
+      → shaped r ≡ true
+      → coded r ≡ true
+      → inUse (s .rules) (elementOf r) ≡ false
+      → firstBroken (ownRules s r) ≡ some 23
+  unfolding ownRules
+  out-of-use r h k u = simp (h, k, u)
 
   -- an element after others: its own rules, then those against them
   pub own-breaks :

@@ -14,7 +14,7 @@ use Rattle.format.specs.ZonesAndStrings.{rulesAgainst}
 use Rattle.format.specs.Verdict.{Verdict}
 use Rattle.format.specs.Decode.{decode}
 use Rattle.format.specs.Reader.{verdictOf, pass, step}
-use Rattle.format.specs.Known.{Row, starred, twofold, zoned, ofPins, apart}
+use Rattle.format.specs.Known.{Row, starred, twofold, zoned, ofPins, apart, retired}
 use Rattle.format.specs.declared.answers.Answer.{Answer}
 use Rattle.format.specs.declared.answers.Answer.the-variants.{Accepted, Refused}
 use Rattle.format.proofs.Kept.{and-true}
@@ -22,6 +22,8 @@ use Rattle.format.proofs.Theorem.{meets}
 use Rattle.format.specs.declared.pins.Chip.{Chip}
 use Rattle.format.specs.declared.pins.Chip.the-variants.{C8051F320, C8051F321}
 use Rattle.format.specs.declared.settings.Settings.{Settings}
+use Rattle.format.specs.declared.settings.Rules.{Rules}
+use Rattle.format.specs.declared.settings.Rules.the-variants.{Ordinary, Archive}
 
 abbrev pub same : Answer → Answer → Bool
 same (Accepted n) (Accepted m) = eqb n m
@@ -65,50 +67,71 @@ right-each s (r ∷ rs) h =
     let u = and-true (small (r .bytes)) (same (verdictOf s (r .bytes)) (r .answer)) (t .0) in
     (rw (same-is (verdictOf s (r .bytes)) (r .answer) (u .1)) at (meets s (r .bytes) (small-bytes (r .bytes) (u .0))), right-each s rs (t .1))
 
--- the settings with a chip
-abbrev on : Chip → Settings
-on c = record { chip = c }
+-- the settings of a chip and rules
+abbrev on : Chip → Rules → Settings
+on c k = record { chip = c; rules = k }
 
-computed : (c : Chip) → right (on c) starred ≡ true
+computed : (c : Chip) (k : Rules) → right (on c k) starred ≡ true
 unfolding verdictOf pass step decode descriptionRules ownRules rulesAgainst
-computed C8051F320 = refl
-computed C8051F321 = refl
+computed C8051F320 Ordinary = refl
+computed C8051F320 Archive = refl
+computed C8051F321 Ordinary = refl
+computed C8051F321 Archive = refl
 
 pub known-tables : (s : Settings) → Each s starred
-known-tables s = right-each s starred (computed (s .chip))
+known-tables s = right-each s starred (computed (s .chip) (s .rules))
 
 -- the order of the rules
-computed-twofold : (c : Chip) → right (on c) twofold ≡ true
+computed-twofold : (c : Chip) (k : Rules) → right (on c k) twofold ≡ true
 unfolding verdictOf pass step decode descriptionRules ownRules rulesAgainst
-computed-twofold C8051F320 = refl
-computed-twofold C8051F321 = refl
+computed-twofold C8051F320 Ordinary = refl
+computed-twofold C8051F320 Archive = refl
+computed-twofold C8051F321 Ordinary = refl
+computed-twofold C8051F321 Archive = refl
 
 pub order-of-rules : (s : Settings) → Each s twofold
-order-of-rules s = right-each s twofold (computed-twofold (s .chip))
+order-of-rules s = right-each s twofold (computed-twofold (s .chip) (s .rules))
 
 -- a zone descriptor after the element that names it
-computed-zoned : (c : Chip) → right (on c) zoned ≡ true
+computed-zoned : (c : Chip) (k : Rules) → right (on c k) zoned ≡ true
 unfolding verdictOf pass step decode descriptionRules ownRules rulesAgainst
-computed-zoned C8051F320 = refl
-computed-zoned C8051F321 = refl
+computed-zoned C8051F320 Ordinary = refl
+computed-zoned C8051F320 Archive = refl
+computed-zoned C8051F321 Ordinary = refl
+computed-zoned C8051F321 Archive = refl
 
 pub zone-comes-later : (s : Settings) → Each s zoned
-zone-comes-later s = right-each s zoned (computed-zoned (s .chip))
+zone-comes-later s = right-each s zoned (computed-zoned (s .chip) (s .rules))
 
 -- one chip select for two, and a lamp on the fan list
-computed-pins : (c : Chip) → right (on c) ofPins ≡ true
+computed-pins : (c : Chip) (k : Rules) → right (on c k) ofPins ≡ true
 unfolding verdictOf pass step decode descriptionRules ownRules rulesAgainst
-computed-pins C8051F320 = refl
-computed-pins C8051F321 = refl
+computed-pins C8051F320 Ordinary = refl
+computed-pins C8051F320 Archive = refl
+computed-pins C8051F321 Ordinary = refl
+computed-pins C8051F321 Archive = refl
 
 pub pins-of-elements : (s : Settings) → Each s ofPins
-pins-of-elements s = right-each s ofPins (computed-pins (s .chip))
+pins-of-elements s = right-each s ofPins (computed-pins (s .chip) (s .rules))
 
 -- the pins that the 321 lacks
-computed-apart : (c : Chip) → right (on c) (apart c) ≡ true
+computed-apart : (c : Chip) (k : Rules) → right (on c k) (apart c) ≡ true
 unfolding verdictOf pass step decode descriptionRules ownRules rulesAgainst
-computed-apart C8051F320 = refl
-computed-apart C8051F321 = refl
+computed-apart C8051F320 Ordinary = refl
+computed-apart C8051F320 Archive = refl
+computed-apart C8051F321 Ordinary = refl
+computed-apart C8051F321 Archive = refl
 
 pub chips-apart : (s : Settings) → Each s (apart (s .chip))
-chips-apart s = right-each s (apart (s .chip)) (computed-apart (s .chip))
+chips-apart s = right-each s (apart (s .chip)) (computed-apart (s .chip) (s .rules))
+
+-- a bus type that is retired, and 23 among the other rules
+computed-retired : (c : Chip) (k : Rules) → right (on c k) (retired k) ≡ true
+unfolding verdictOf pass step decode descriptionRules ownRules rulesAgainst
+computed-retired C8051F320 Ordinary = refl
+computed-retired C8051F320 Archive = refl
+computed-retired C8051F321 Ordinary = refl
+computed-retired C8051F321 Archive = refl
+
+pub readers-apart : (s : Settings) → Each s (retired (s .rules))
+readers-apart s = right-each s (retired (s .rules)) (computed-retired (s .chip) (s .rules))

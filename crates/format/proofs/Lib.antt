@@ -18,3 +18,5 @@ pub mod FieldRows
 pub mod Demand3
 pub mod BadReaders
 pub mod Chips
+pub mod NamedChip
+pub mod Archive

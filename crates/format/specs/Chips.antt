@@ -16,7 +16,7 @@ use Rattle.format.specs.declared.records.Address.the-variants.{Bus, Sele
 
 -- the settings with another chip
 abbrev pub withChip : Chip → Settings → Settings
-withChip c s = record { chip = c }
+withChip c s = record { chip = c; rules = s .rules }
 
 abbrev pub pinOn : Chip → Pin → Pin
 pinOn c p = pinOf c (p .0)

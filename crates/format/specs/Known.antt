@@ -1,11 +1,13 @@
 -- The starred rows of 'Known tables', rows of two faults at once, and a row whose zone descriptor comes after the element that
--- names it. Their answers are proved of the verdict itself, on each
--- chip. The last rows tell the chips apart.
+-- names it. Their answers are proved of the verdict itself, under all settings. The last rows tell the chips apart, and the ordinary
+-- reader from the archive's.
 -- Assumes nothing.
 use Prim.Native.Nat.{ℕ}
 use mathlib.Core.List.{List, [], _∷_, _++_}
 use Rattle.format.specs.declared.pins.Chip.{Chip}
 use Rattle.format.specs.declared.pins.Chip.the-variants.{C8051F320, C8051F321}
+use Rattle.format.specs.declared.settings.Rules.{Rules}
+use Rattle.format.specs.declared.settings.Rules.the-variants.{Ordinary, Archive}
 use Rattle.format.specs.declared.answers.Answer.{Answer}
 use Rattle.format.specs.declared.answers.Answer.the-variants.{Accepted, Refused}
 
@@ -30,10 +32,13 @@ headF n pwm tachometer =
 abbrev pub fanF : ℕ → ℕ → List ℕ
 fanF pwm tachometer = headF 0x10 pwm tachometer ++ 0x40 ∷ []
 
--- controller C: its ENTRIES
+-- controller C: its bus type and its ENTRIES
+abbrev pub controllerOn : ℕ → ℕ → List ℕ
+controllerOn bus entries =
+    0x09 ∷ 0x11 ∷ 0x00 ∷ 0x00 ∷ 0xff ∷ 0xff ∷ 0xff ∷ 0x01 ∷ bus ∷ 0x40 ∷ 0x00 ∷ 0x05 ∷ entries ∷ 0x07 ∷ 0x00 ∷ 0x0c ∷ 0x00 ∷ []
+
 abbrev pub controllerC : ℕ → List ℕ
-controllerC entries =
-    0x09 ∷ 0x11 ∷ 0x00 ∷ 0x00 ∷ 0xff ∷ 0xff ∷ 0xff ∷ 0x01 ∷ 0x00 ∷ 0x40 ∷ 0x00 ∷ 0x05 ∷ entries ∷ 0x07 ∷ 0x00 ∷ 0x0c ∷ 0x00 ∷ []
+controllerC entries = controllerOn 0x00 entries
 
 pub record Row : Type 0 where
   pub bytes : List ℕ
@@ -109,16 +114,20 @@ zoned =
 
 -- 'Refusing two SPI elements with one chip select'; a status LED has its own pins, and the fan list is none of them.
 
--- a digital sensor on SPI, in zone 1, with this chip select
-abbrev pub sensorS : ℕ → List ℕ
-sensorS select =
+-- a digital sensor in zone 1, on this bus type, with this first byte of its address
+abbrev pub sensorOn : ℕ → ℕ → List ℕ
+sensorOn bus address =
     0x01
     ∷ 0x15 ∷ 0x00
     ∷ 0x00 ∷ 0xff ∷ 0xff ∷ 0xff ∷ 0x01
-    ∷ 0x03 ∷ select ∷ 0x00
+    ∷ bus ∷ address ∷ 0x00
     ∷ 0x00 ∷ 0x00 ∷ 0x00 ∷ 0x00
     ∷ 0x00 ∷ 0x00 ∷ 0x00 ∷ 0x00 ∷ 0x00 ∷ 0x00
     ∷ []
+
+-- .. on SPI, with this chip select
+abbrev pub sensorS : ℕ → List ℕ
+sensorS select = sensorOn 0x03 select
 
 -- a status LED in zone 1, its first lamp green and on this pin, the others unused
 abbrev pub ledL : ℕ → List ℕ
@@ -163,4 +172,40 @@ apart c =
     ∷ (after 36 (sensorT 0x24) gives by c (Refused 13 16) (Refused 10 16))
     ∷ (after 66 (sensorT 0x23 ++ zone1) gives Accepted 2)
     ∷ (after 66 (sensorT 0x30 ++ zone1) gives Accepted 2)
+    ∷ []
+
+-- 'SMBUS block mode is retired': 23 'directly after 9, at the element', by the ordinary rules alone.
+
+-- an external tachometer in zone 1 on this bus type, with no entries
+abbrev pub tachometerOn : ℕ → List ℕ
+tachometerOn bus =
+    0x0a ∷ 0x0e ∷ 0x00 ∷ 0x00 ∷ 0xff ∷ 0xff ∷ 0xff ∷ 0x01 ∷ bus ∷ 0x40 ∷ 0x00 ∷ 0x00 ∷ 0x00 ∷ 0x00 ∷ []
+
+-- an answer by the ordinary rules, and one by the archive's
+abbrev pub byRules : Rules → Answer → Answer → Answer
+byRules Ordinary a b = a
+byRules Archive a b = b
+
+abbrev pub retired : Rules → List Row
+retired k =
+    -- each kind that has a bus type; reserved bits beside it; after an element that has none
+    (after 67 (sensorOn 0x02 0x40 ++ zone1) gives byRules k (Refused 23 16) (Accepted 2))
+    ∷ (after 63 (controllerOn 0x02 1 ++ zone1) gives byRules k (Refused 23 16) (Accepted 2))
+    ∷ (after 60 (tachometerOn 0x02 ++ zone1) gives byRules k (Refused 23 16) (Accepted 2))
+    ∷ (after 63 (controllerOn 0xf2 1 ++ zone1) gives byRules k (Refused 23 16) (Accepted 2))
+    ∷ (after 60 (zone1 ++ tachometerOn 0x02) gives byRules k (Refused 23 46) (Accepted 2))
+    -- the others stay
+    ∷ (after 60 (tachometerOn 0x01 ++ zone1) gives Accepted 2)
+    ∷ (after 60 (tachometerOn 0x04 ++ zone1) gives Refused 9 16)
+    -- 8 and 23, 9 and 23: ENTRIES 2 and ENTRIES 0
+    ∷ (after 33 (controllerOn 0x02 2) gives Refused 8 16)
+    ∷ (after 33 (controllerOn 0x02 0) gives Refused 9 16)
+    -- 10 needs a chip select, so SPI, and cannot meet it: P1.0, and the same byte as an address
+    ∷ (after 67 (sensorOn 0x03 0x10 ++ zone1) gives Refused 10 16)
+    ∷ (after 67 (sensorOn 0x02 0x10 ++ zone1) gives byRules k (Refused 23 16) (Accepted 2))
+    -- 23 and 12, of the same zone twice; 23 and 13, 14 of the description, 15 with a hardware revision pin on P0.3
+    ∷ (after 90 (tachometerOn 0x02 ++ zone1 ++ zone1) gives byRules k (Refused 23 16) (Refused 12 60))
+    ∷ (after 30 (tachometerOn 0x02) gives byRules k (Refused 23 16) (Refused 13 16))
+    ∷ (tableWith 60 0x02 0x09 0x80 0xff ++ tachometerOn 0x02 ++ zone1 gives byRules k (Refused 23 16) (Refused 14 0))
+    ∷ (tableWith 60 0x02 0x00 0x80 0x03 ++ tachometerOn 0x02 ++ zone1 gives byRules k (Refused 23 16) (Refused 15 16))
     ∷ []

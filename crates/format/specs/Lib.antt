@@ -17,4 +17,5 @@ pub mod Bargain
 pub mod Decode
 pub mod Reader
 pub mod Chips
+pub mod Archive
 pub mod Writing

@@ -1,4 +1,4 @@
--- The rules of one record alone: 4, 5 and 10 of the description, 8, 9 and 10 of an element. Each test is true where its
+-- The rules of one record alone: 4, 5 and 10 of the description, 8, 9, 23 and 10 of an element. Each test is true where its
 -- rule is kept; a number names the rule as 'What comes back' does.
 -- Assumes nothing.
 use Prim.Native.Nat.{ℕ, _+_}
@@ -7,7 +7,7 @@ use mathlib.Core.List.{List, [], _∷_}
 use mathlib.Core.Option.{Option, none, some}
 use lib.ListN.{length}
 use lib.Dec.{eqb, ltb, leb}
-use Rattle.format.specs.Records.{Block, Record, digital, analogue, fan, led, current, controller, tachometer, zone, string, rgb, stringNumber}
+use Rattle.format.specs.Records.{Block, Record, digital, analogue, fan, led, current, controller, tachometer, zone, string, rgb, stringNumber, elementOf}
 use Rattle.format.specs.Slots.{allRoomy}
 use Rattle.format.specs.Layout.{opening, fixed}
 use Rattle.format.specs.Pins.{among, ofChip, allowed, unused, allowedOrUnused, standing}
@@ -18,9 +18,12 @@ use Rattle.format.specs.declared.pins.OptionalPin.{OptionalPin}
 use Rattle.format.specs.declared.pins.OptionalPin.the-variants.{Unused, Used}
 use Rattle.format.specs.declared.pins.Chip.{Chip}
 use Rattle.format.specs.declared.settings.Settings.{Settings}
+use Rattle.format.specs.declared.settings.Rules.{Rules}
+use Rattle.format.specs.declared.settings.Rules.the-variants.{Ordinary, Archive}
 use Rattle.format.specs.declared.records.Description.{Description}
 use Rattle.format.specs.declared.records.Lamp.{Lamp}
 use Rattle.format.specs.declared.records.Element.{Element}
+use Rattle.format.specs.declared.records.Element.the-variants.{Digital, Analogue, Fan, Led, Current, Controller, Tachometer, Zone, Text, Rgb}
 use Rattle.format.specs.declared.records.Address.{Address}
 use Rattle.format.specs.declared.records.Address.the-variants.{Bus, Select}
 
@@ -121,6 +124,28 @@ coded (zone bytes) = true
 coded (string bytes) = not (eqb (stringNumber bytes) 0)
 coded (rgb r) = true
 
+-- 23 (12/14): which bus types are in use, by the rules that the caller names: 2h, 'SMBUS block mode', 'is retired', and 'an archive
+-- reader keeps the old rules'
+abbrev pub busTypesInUse : Rules → List ℕ
+busTypesInUse Ordinary = 0 ∷ 1 ∷ 3 ∷ []
+busTypesInUse Archive = busTypes
+
+-- 23: a bus type that has a code (9 meets the others) and is not in use
+abbrev pub typeInUse : Rules → ℕ → Bool
+typeInUse k bus = not (among bus busTypes) || among bus (busTypesInUse k)
+
+abbrev pub inUse : Rules → Element → Bool
+inUse k (Digital d) = typeInUse k (d .bus)
+inUse k (Analogue a) = true
+inUse k (Fan f) = true
+inUse k (Led l) = true
+inUse k (Current c) = true
+inUse k (Controller d) = typeInUse k (d .bus)
+inUse k (Tachometer d) = typeInUse k (d .bus)
+inUse k Zone = true
+inUse k Text = true
+inUse k (Rgb r) = true
+
 -- 10, of a chip select
 abbrev pub selected : Chip → Address → Bool
 selected c (Bus a) = true
@@ -151,7 +176,7 @@ pinned c (rgb r) =
 
 -- the rules that an element keeps or breaks by itself, in their order: the reader and the writer share them
 unfoldable pub ownRules : Settings → Record → List Rule
-ownRules s r = rule 8 (shaped r) ∷ rule 9 (coded r) ∷ rule 10 (pinned (s .chip) r) ∷ []
+ownRules s r = rule 8 (shaped r) ∷ rule 9 (coded r) ∷ rule 23 (inUse (s .rules) (elementOf r)) ∷ rule 10 (pinned (s .chip) r) ∷ []
 
 -- Rule 25, of the description and of an element's fields: 'a number in the record is too large for its field'; here, that none
 -- is. Lengths and ENTRIES are the layout's and not the record's, so that a part that is too long for them is none of 25's.

@@ -16,7 +16,7 @@ use Rattle.format.specs.declared.pins.Chip.{Chip}
 use Rattle.format.specs.declared.settings.Settings.{Settings}
 use Rattle.format.specs.declared.records.Description.{Description}
 
--- the first rule that an element breaks, after those before it: '8, 9, 10, the 13th zone (11), 12'
+-- the first rule that an element breaks, after those before it: '8, 9', 23, '10, the 13th zone (11), 12'
 abbrev pub elementBreaks : Settings → List Record → Record → Option ℕ
 elementBreaks s before r = firstBroken (ownRules s r ++ rulesAgainst before r)
 
@@ -37,7 +37,7 @@ pub record Keeps (s : Settings) (d : Description) (rs : List Record) : Type 0 wh
   pub limit : length (table d rs) ≤ 4096
   -- 4, 5, 10
   pub described : descriptionBreaks (s .chip) d ≡ none
-  -- 8 to 12
+  -- 8 to 12, and 23
   pub passed : PassKept s [] rs
   -- 13
   pub zoned : zoneless rs ≡ none

@@ -41,7 +41,7 @@ pub record Stands (c : Chip) (bs : List ℕ) (r : Record) : Type 0 where
   pub kind : ofItsKind c r ≡ true
 
 -- What stands at the head of the bytes, after the elements before, breaks the named rule of the pass and none before it:
--- '6, the 97th (11), 7, 8, 9, 10, the 13th zone (11), 12'.
+-- '6, the 97th (11), 7, 8, 9', 23, '10, the 13th zone (11), 12'.
 pub data Breaks (s : Settings) (before : List Record) (bs : List ℕ) : ℕ → Type 0 where
   header : 0 < length bs → framed bs ≡ false → Breaks s before bs 6
   crowded : framed bs ≡ true → 96 ≤ length before → Breaks s before bs 11
@@ -53,7 +53,7 @@ pub data Breaks (s : Settings) (before : List Record) (bs : List ℕ) : ℕ → 
       → known (byte bs 0) ≡ true
       → ((r : Record) → Stands (s .chip) bs r → ⊥)
       → Breaks s before bs 8
-  -- 8 to 12: a record stands there and breaks a rule
+  -- 8 to 12, and 23: a record stands there and breaks a rule
   faulty :
       {k : ℕ} (r : Record)
       → length before < 96
@@ -80,7 +80,7 @@ pub record Accepts (s : Settings) (b : List ℕ) (d : Description) (rs : List Re
   pub keeps : Keeps s d rs
   pub fits : Fits b (table d rs)
 
--- one case for each row of 'What comes back' that the reader can give, 0 to 15: those of the description are the list
+-- one case for each row of 'What comes back' that the reader can give, 0 to 15 and 23: those of the description are the list
 -- `descriptionRules`, those of the pass the cases of `Breaks`
 pub data Verdict (s : Settings) (b : List ℕ) : Answer → Type 0 where
   -- 0
@@ -94,7 +94,7 @@ pub data Verdict (s : Settings) (b : List ℕ) : Answer → Type 0 where
   -- 4, 5, 10, of the description
   misdescribed :
       {k : ℕ} (d : Description) (rest : List ℕ) → Opened (s .chip) b d rest → descriptionBreaks (s .chip) d ≡ some k → Verdict s b (Refused k 0)
-  -- 6 to 12: 'the bytes from 16 up to its place are the layout .. of elements that break none of the pass's rules, and what
+  -- 6 to 12, and 23: 'the bytes from 16 up to its place are the layout .. of elements that break none of the pass's rules, and what
   -- stands there breaks the named rule and none before it'
   stopped :
       {k : ℕ} (d : Description) (rest : List ℕ) (rs : List Record) (here : List ℕ)

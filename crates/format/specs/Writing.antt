@@ -15,6 +15,7 @@ use Rattle.format.specs.Verdict.{stated}
 use Rattle.format.specs.Decode.{bind, whenNil, cutBlocks, cutTwo}
 use Rattle.format.specs.declared.pins.Chip.{Chip}
 use Rattle.format.specs.declared.settings.Settings.{Settings}
+use Rattle.format.specs.declared.settings.Rules.the-variants.{Ordinary}
 use Rattle.format.specs.declared.records.Description.{Description}
 use Rattle.format.specs.declared.records.Element.{Element}
 use Rattle.format.specs.declared.records.Element.the-variants.{Digital, Analogue, Fan, Led, Current, Controller, Tachometer, Zone, Text, Rgb}
@@ -34,7 +35,7 @@ assemble Zone p = some (zone p)
 assemble Text p = some (string p)
 assemble (Rgb r) p = whenNil p (rgb r)
 
--- the first of 8, 9 and 10 that an element with its part breaks
+-- the first of 8, 9, 23 and 10 that an element with its part breaks
 abbrev pub assembledBreaks : Settings → Option Record → Option ℕ
 assembledBreaks s none = some 8
 assembledBreaks s (some r) = firstBroken (ownRules s r)
@@ -55,16 +56,16 @@ abbrev pub unlessBrokenAt : Option ℕ → ℕ → Written → Written
 unlessBrokenAt none p later = later
 unlessBrokenAt (some k) p later = Refused k p
 
--- the writer's settings: the caller names the chip alone
+-- the writer's settings: the caller names the chip alone, and the rules are the ordinary ones
 abbrev pub writing : Chip → Settings
-writing c = record { chip = c }
+writing c = record { chip = c; rules = Ordinary }
 
 -- start: 'checks 1, 25, 4, 5, 10; writes 16 bytes with length 16'
 unfoldable pub startAnswer : Chip → List ℕ → Description → Written
 startAnswer c b d =
     orRefused (leb 16 (length b)) 1 0 (orRefused (descriptionRoomy d) 25 0 (unlessBrokenAt (descriptionBreaks c d) 0 (Length 16)))
 
--- append: '1; 3, when that length is under 16, over 4,096 or past the buffer; then 25, 8, 9, 10 on the record, where the length
+-- append: '1; 3, when that length is under 16, over 4,096 or past the buffer; then 25, 8, 9', 23, '10 on the record, where the length
 -- so far stands for "element" ..; then 16, when the new length would pass the buffer or 4,096'
 abbrev pub newLength : List ℕ → Element → List ℕ → ℕ
 newLength b e p = stated b + length (elementSlots e p)

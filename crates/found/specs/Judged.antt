@@ -21,7 +21,7 @@ use Rattle.claims.specs.declared.Claims.{Claims}
 use Rattle.blocks.specs.declared.Part.{Part}
 use Rattle.found.specs.declared.Found.{Found}
 
--- the first of 8, 9 and 10 that it breaks, or 0
+-- the first of 8, 9, 23 and 10 that it breaks, or 0
 abbrev pub ownFault : Settings → Option Record → ℕ
 ownFault s o = numbered (assembledBreaks s o)
 

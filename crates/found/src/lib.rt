@@ -1,5 +1,5 @@
-// What the bytes of an element that stands in a zone say of it alone: the first of 8, 9 and 10 that it breaks, and the pins
-// that it claims. The slices start after the element's header; pins are read and judged under the caller's settings.
+// What the bytes of an element that stands in a zone say of it alone: the first of 8, 9, 23 and 10 that it breaks, and the
+// pins that it claims. The slices start after the element's header; pins are read and judged under the caller's settings.
 ghost use mathlib.Core.Path.{_≡_};
 ghost use Prim.Native.Nat.{_≤_};
 ghost use lib.ListN.{length};

@@ -3,6 +3,7 @@
 // document has them, A with its length mended. tools/known holds what is printed to the second program.
 use format::answers::Answer;
 use format::pins::Chip;
+use format::settings::Rules;
 use format::settings::Settings;
 use libc::STDOUT_FILENO;
 use sending::send;
@@ -38,6 +39,7 @@ fn print_answer(number: u8, beside: usize) {
 fn larger() -> Settings {
     Settings {
         chip: Chip::C8051F320,
+        rules: Rules::Ordinary,
     }
 }
 

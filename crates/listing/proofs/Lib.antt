@@ -1,2 +1,4 @@
+pub mod Bare
 pub mod Turn
 pub mod Only
+pub mod Readers

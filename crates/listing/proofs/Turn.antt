@@ -4,11 +4,13 @@ use Prim.Native.Nat.{ℕ, _+_, _*_, _<_, _≤_}
 use native.Mathlib.Omega.{arith}
 use native.Mathlib.Nat.{add-zero}
 use mathlib.Core.Path.{_≡_, refl, sym, _∙_, ap, subst}
+use mathlib.Core.Bool.{false}
 use mathlib.Core.List.{List, [], _∷_, _++_, append-nil, append-assoc}
 use lib.ListN.{length, drop, length-append}
 use Rattle.format.specs.Slots.{written, byte}
 use Rattle.format.specs.Records.{Record, elementOf}
 use Rattle.format.specs.Layout.{part, layout, layouts}
+use Rattle.format.specs.Rules.{inUse}
 use Rattle.format.specs.Verdict.{stated, Verdict}
 use Rattle.format.specs.Decode.{readDescription}
 use Rattle.format.specs.declared.records.Description.{Description}
@@ -22,6 +24,10 @@ use Rattle.spelling.proofs.Putting.{then, put-none}
 use Rattle.listing.specs.Lines.{tableLine, elementLine, elementLines, refusedLine, Listed, listed, refused}
 use Rattle.format.specs.declared.pins.Chip.{Chip}
 use Rattle.format.specs.declared.settings.Settings.{Settings}
+use Rattle.format.specs.declared.settings.Rules.the-variants.{Ordinary}
+use Rattle.format.proofs.Kept.{own-kept, own-unbroken}
+use Rattle.elements.specs.Own.{ownPins, noPins}
+use Rattle.listing.proofs.Bare.{bare}
 
 -- the line of an element behind those of the elements before it
 abbrev lineAt : ℕ → Record → List ℕ
@@ -61,6 +67,18 @@ module _ (σ : Settings) (b c : List ℕ) (from at end : ℕ) (out : List ℕ) (
         length-append (w .done) (w .left),
         ap length (g .same),
       )
+
+  -- what is not in use has no pin of its own
+  pub unpinned :
+      (e : Element)
+      → at < length b
+      → ((x : Record) → Here (σ .chip) b at x → e ≡ elementOf x)
+      → inUse Ordinary e ≡ false
+      → ownPins e ≡ noPins
+  unpinned e h es u =
+      let g = next σ b at (Lined c from end out) w h in
+      let q = es (g .r) (g .here) in
+      rw q (bare (g .r) (own-kept σ (g .r) (own-unbroken σ (w .done) (g .r) (g .keeps)) .codes-9) (rw q at u))
 
   pub turned :
       {n end′ : ℕ} (e : Element) (p after : List ℕ)

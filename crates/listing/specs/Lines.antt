@@ -1,13 +1,14 @@
 -- The listing of a table (01, 'The listing'): 'one record a line, fields parted by tabs', in ASCII codes.
 -- Assumes nothing.
 use Prim.Native.Nat.{ℕ, _+_, _*_}
-use mathlib.Core.Bool.{cond}
+use mathlib.Core.Bool.{Bool, true, false, cond}
 use mathlib.Core.List.{List, [], _∷_, _++_}
 use lib.ListN.{length}
 use lib.Dec.{eqb}
 use Rattle.format.specs.Slots.{written}
 use Rattle.format.specs.Records.{Record, elementOf}
 use Rattle.format.specs.Layout.{optionalByte, idOf, part, layout}
+use Rattle.format.specs.Rules.{inUse}
 use Rattle.format.specs.Verdict.{Accepts, Verdict}
 use Rattle.format.specs.declared.records.Description.{Description}
 use Rattle.format.specs.declared.records.Element.{Element}
@@ -16,6 +17,7 @@ use Rattle.spelling.specs.Spelling.{decimal, hexPair, dash, pinOrDash, joined, 
 use Rattle.elements.specs.Own.{ownPins, zoneOf}
 use Rattle.elements.specs.declared.OwnPins.{OwnPins}
 use Rattle.format.specs.declared.settings.Settings.{Settings}
+use Rattle.format.specs.declared.settings.Rules.the-variants.{Ordinary}
 
 -- fields parted by tabs, and one line feed at the end
 abbrev pub line : List (List ℕ) → List ℕ
@@ -47,9 +49,16 @@ pinsText p = joined (used (p .one) ++ used (p .two) ++ used (p .three))
 abbrev pub zoneText : ℕ → List ℕ
 zoneText z = cond (eqb z 256) dash (decimal z)
 
+-- 12/14: 'lists such elements with a last field `retired`': those that the ordinary rules have not in use, which the archive's
+-- reader alone accepts
+abbrev pub lastField : Bool → List (List ℕ)
+lastField true = []
+lastField false = (114 ∷ 101 ∷ 116 ∷ 105 ∷ 114 ∷ 101 ∷ 100 ∷ []) ∷ []
+
 -- 'Then per element `E`, offset, identifier .., zone .., its own used pins ..': of an element and its variable part
 unfoldable pub elementLine : ℕ → Element → List ℕ → List ℕ
-elementLine at e p = line ((69 ∷ []) ∷ decimal at ∷ hexPair (idOf e) ∷ zoneText (zoneOf e p) ∷ pinsText (ownPins e) ∷ [])
+elementLine at e p =
+    line ((69 ∷ []) ∷ decimal at ∷ hexPair (idOf e) ∷ zoneText (zoneOf e p) ∷ pinsText (ownPins e) ∷ lastField (inUse Ordinary e))
 
 -- 'A refused table prints only `R`, number, place'
 unfoldable pub refusedLine : ℕ → ℕ → List ℕ

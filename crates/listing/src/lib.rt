@@ -1,10 +1,14 @@
 // The listing of a table, as text in a lent buffer: one record a line, fields parted by tabs.
 ghost use mathlib.Core.Path.{_≡_};
+ghost use mathlib.Core.Bool.{Bool, false};
 ghost use mathlib.Core.List.{[], _∷_, _++_};
 ghost use Prim.Native.Nat.{_+_, _*_, _≤_};
 ghost use lib.ListN.{length};
+ghost use Rattle.format.specs.Rules.{inUse};
+ghost use Rattle.format.specs.declared.settings.Rules.the-variants.{Ordinary};
+ghost use Rattle.elements.specs.Own.{ownPins, noPins};
 ghost use Rattle.spelling.specs.Spelling.{Put, decimal, hexPair, pinOrDash};
-ghost use Rattle.listing.specs.Lines.{line, supply, hardwarePins, afterType, tableLine, pinsText, zoneText, elementLine, refusedLine, Listed};
+ghost use Rattle.listing.specs.Lines.{line, supply, hardwarePins, afterType, tableLine, pinsText, lastField, zoneText, elementLine, refusedLine, Listed};
 use elements::OwnPins;
 use elements::byte_of;
 use elements::id_of;
@@ -127,9 +131,10 @@ fn put_pin(out: &mut [u8], at: usize, p: u8, end: u8) -> usize
     put(out, a, &[end])
 }
 
-// The line of an element at a place of the table, with its part.
+// The line of an element at a place of the table, with its part. What is not in use has no pin of its own, and so its line is no
+// longer than another.
 fn put_element(out: &mut [u8], at: usize, place: usize, e: Element, part: &[u8]) -> usize
-    requires { ⌜ at + 38 ≤ length (now out) ⌝ }
+    requires { ⌜ (at + 38 ≤ length (now out)) × (inUse Ordinary e ≡ false → ownPins e ≡ noPins) ⌝ }
     ensures { λ r. ⌜ Put (now (out .entry)) at (elementLine place e (now (part .entry))) r (now (out .exit)) × (r ≤ at + 38) ⌝ }
 {
     let w = shown(e, part);
@@ -138,7 +143,7 @@ fn put_element(out: &mut [u8], at: usize, place: usize, e: Element, part: &[u8])
     let c = put_id(out, b, id_of(e));
     let d = put_zone(out, c, w.zone);
     let p = w.pins;
-    put_own(out, d, p)
+    put_own(out, d, p, w.used)
 }
 
 // The identifier, and a tab.
@@ -161,13 +166,16 @@ fn put_zone(out: &mut [u8], at: usize, z: usize) -> usize
     put_number(out, at, z)
 }
 
-// The own pins, and the end of the line.
-fn put_own(out: &mut [u8], at: usize, p: OwnPins) -> usize
-    requires { ⌜ at + 15 ≤ length (now out) ⌝ }
-    ensures { λ r. ⌜ Put (now (out .entry)) at (pinsText p ++ 10 ∷ []) r (now (out .exit)) × (r ≤ at + 15) ⌝ }
+// The own pins, `retired` of what is not in use, and the end of the line.
+fn put_own(out: &mut [u8], at: usize, p: OwnPins, used: bool) -> usize
+    requires { ⌜ (at + 15 ≤ length (now out)) × (used ≡ false → p ≡ noPins) ⌝ }
+    ensures { λ r. ⌜ Put (now (out .entry)) at (line (pinsText p ∷ lastField used)) r (now (out .exit)) × (r ≤ at + 15) ⌝ }
 {
     let a = put_pins(out, at, p.one, p.two, p.three);
-    put(out, a, &[10])
+    if used {
+        return put(out, a, &[10]);
+    }
+    put(out, a, &[9, 114, 101, 116, 105, 114, 101, 100, 10])
 }
 
 // A number and a tab.

@@ -7,7 +7,7 @@ use lib.Dec.{eqb}
 use Rattle.format.specs.Slots.{byte}
 use Rattle.format.specs.declared.pins.Chip.the-variants.{C8051F320, C8051F321}
 use Rattle.options.specs.declared.Word.{Word}
-use Rattle.options.specs.declared.Word.the-variants.{Chip, End, Dashed, Plain}
+use Rattle.options.specs.declared.Word.the-variants.{Chip, Archive, End, Dashed, Plain}
 use Rattle.options.specs.declared.NamedChip.{NamedChip}
 use Rattle.options.specs.declared.NamedChip.the-variants.{Unnamed, Named}
 
@@ -18,9 +18,12 @@ sameWord [] (y ∷ ys) = false
 sameWord (x ∷ xs) [] = false
 sameWord (x ∷ xs) (y ∷ ys) = eqb x y && sameWord xs ys
 
--- '--chip', '--', '320', '321'
+-- '--chip', '--archive', '--', '320', '321'
 abbrev pub chipWord : List ℕ
 chipWord = 45 ∷ 45 ∷ 99 ∷ 104 ∷ 105 ∷ 112 ∷ []
+
+abbrev pub archiveWord : List ℕ
+archiveWord = 45 ∷ 45 ∷ 97 ∷ 114 ∷ 99 ∷ 104 ∷ 105 ∷ 118 ∷ 101 ∷ []
 
 abbrev pub endWord : List ℕ
 endWord = 45 ∷ 45 ∷ []
@@ -37,7 +40,11 @@ pickWord false a b = b
 
 -- where an option may stand; a dash is 45
 abbrev pub wordOf : List ℕ → Word
-wordOf w = pickWord (sameWord w chipWord) Chip (pickWord (sameWord w endWord) End (pickWord (eqb (byte w 0) 45) Dashed Plain))
+wordOf w =
+    pickWord
+    (sameWord w chipWord)
+    Chip
+    (pickWord (sameWord w archiveWord) Archive (pickWord (sameWord w endWord) End (pickWord (eqb (byte w 0) 45) Dashed Plain)))
 
 abbrev pub pickChip : Bool → NamedChip → NamedChip → NamedChip
 pickChip true a b = a

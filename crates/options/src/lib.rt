@@ -1,8 +1,10 @@
-// The options of a program, which stand first among its words: `--chip 320` or `--chip 321`, the 320 if no chip is named; `--` ends
-// them. What a word is and what it changes is proved; where the words come from is the system's affair.
+// The options of a program, which stand first among its words: `--chip 320` or `--chip 321`, the 320 if no chip is named; `--archive`
+// for the archive's rules, else the ordinary ones; `--` ends them. What a word is and what it changes is proved; where the words come
+// from is the system's affair.
 ghost use mathlib.Core.Path.{_≡_};
-ghost use Rattle.options.specs.Steps.{wanted, optionOf, numberOf, stepOf, lastOf, settingsOf};
+ghost use Rattle.options.specs.Steps.{wanted, archivedOf, optionOf, numberOf, stepOf, lastOf, settingsOf, ordinaryOf};
 use format::pins::Chip;
+use format::settings::Rules;
 use format::settings::Settings;
 use libc::STDERR_FILENO;
 
@@ -12,6 +14,7 @@ mod words;
 pub enum Word {
     // its number comes next
     Chip,
+    Archive,
     // the end of the options
     End,
     // no option, and it starts with a dash
@@ -27,6 +30,7 @@ pub enum NamedChip {
 // What the options so far have chosen.
 pub struct Choice {
     pub chip: NamedChip,
+    pub rules: Rules,
 }
 
 // What is wrong with the words.
@@ -34,6 +38,9 @@ pub enum Misuse {
     Unknown,
     NoChip,
     ChipTwice,
+    ArchiveTwice,
+    // --archive, to a program that has the ordinary rules alone
+    NoArchive,
     // a word more behind the options of a program that takes none
     Extra,
 }
@@ -68,12 +75,28 @@ fn wants_chip(c: Choice) -> State
     }
 }
 
+// --archive stands once.
+fn archived(c: Choice) -> State
+    ensures { λ r. ⌜ r ≡ archivedOf c ⌝ }
+{
+    let chip = c.chip;
+    let rules = c.rules;
+    match rules {
+        Rules::Ordinary => State::Open(Choice {
+            chip,
+            rules: Rules::Archive,
+        }),
+        Rules::Archive => State::Misused(Misuse::ArchiveTwice),
+    }
+}
+
 // A word where an option may stand.
 fn option(c: Choice, word: Word) -> State
     ensures { λ r. ⌜ r ≡ optionOf c word ⌝ }
 {
     match word {
         Word::Chip => wants_chip(c),
+        Word::Archive => archived(c),
         Word::End => State::Ended(c),
         Word::Dashed => State::Misused(Misuse::Unknown),
         Word::Plain => State::Others(c),
@@ -81,12 +104,13 @@ fn option(c: Choice, word: Word) -> State
 }
 
 // The word behind --chip.
-fn number(chip: NamedChip) -> State
-    ensures { λ r. ⌜ r ≡ numberOf chip ⌝ }
+fn number(c: Choice, chip: NamedChip) -> State
+    ensures { λ r. ⌜ r ≡ numberOf c chip ⌝ }
 {
+    let rules = c.rules;
     match chip {
         NamedChip::Unnamed => State::Misused(Misuse::NoChip),
-        NamedChip::Named(_) => State::Open(Choice { chip }),
+        NamedChip::Named(_) => State::Open(Choice { chip, rules }),
     }
 }
 
@@ -96,7 +120,7 @@ pub fn step(s: State, word: &[u8]) -> State
 {
     match s {
         State::Open(c) => option(c, words::word_of(word)),
-        State::Wants(_) => number(words::chip_of(word)),
+        State::Wants(c) => number(c, words::chip_of(word)),
         State::Ended(c) => State::Others(c),
         State::Others(c) => State::Others(c),
         State::Misused(m) => State::Misused(m),
@@ -108,11 +132,13 @@ fn settings_of(c: Choice) -> Settings
     ensures { λ r. ⌜ r ≡ settingsOf c ⌝ }
 {
     let named = c.chip;
+    let rules = c.rules;
     match named {
         NamedChip::Unnamed => Settings {
             chip: Chip::C8051F320,
+            rules,
         },
-        NamedChip::Named(chip) => Settings { chip },
+        NamedChip::Named(chip) => Settings { chip, rules },
     }
 }
 
@@ -129,6 +155,22 @@ pub fn last(s: State, i: usize) -> Options
     }
 }
 
+// The same for a program that has the ordinary rules alone.
+pub fn ordinary(o: Options) -> Options
+    ensures { λ r. ⌜ r ≡ ordinaryOf o ⌝ }
+{
+    match o {
+        Options::Chosen(s, i) => {
+            let rules = s.rules;
+            match rules {
+                Rules::Ordinary => Options::Chosen(s, i),
+                Rules::Archive => Options::Misused(Misuse::NoArchive),
+            }
+        }
+        Options::Misused(m) => Options::Misused(m),
+    }
+}
+
 fn step_at(s: State, i: usize) -> State {
     let mut word = io::buffer();
     let length = os::arg(i, &mut word);
@@ -140,6 +182,7 @@ pub fn read() -> Options {
     let n = os::arg_count();
     let mut state = State::Open(Choice {
         chip: NamedChip::Unnamed,
+        rules: Rules::Ordinary,
     });
     let mut i: usize = 1;
     while i < n {
@@ -169,26 +212,30 @@ pub fn read_alone() -> Options {
     }
 }
 
+fn say(sentence: &[u8]) {
+    io::write_all(STDERR_FILENO, sentence);
+}
+
 // The sentence of a misuse, to standard error.
 pub fn complain(m: Misuse) {
     match m {
         Misuse::Unknown => {
-            io::write_all(
-                STDERR_FILENO,
-                b"A word is no option: there are --chip 320 and --chip 321, and -- ends the options.\n",
-            );
+            say(
+                b"A word is no option: there are --chip 320, --chip 321 and --archive, and -- ends the options.\n",
+            )
         }
-        Misuse::NoChip => {
-            io::write_all(STDERR_FILENO, b"Behind --chip stands 320 or 321.\n");
-        }
-        Misuse::ChipTwice => {
-            io::write_all(STDERR_FILENO, b"The option --chip stands more than once.\n");
+        Misuse::NoChip => say(b"Behind --chip stands 320 or 321.\n"),
+        Misuse::ChipTwice => say(b"The option --chip stands more than once.\n"),
+        Misuse::ArchiveTwice => say(b"The option --archive stands more than once.\n"),
+        Misuse::NoArchive => {
+            say(
+                b"The option --archive is not taken here: this program has the ordinary rules alone.\n",
+            )
         }
         Misuse::Extra => {
-            io::write_all(
-                STDERR_FILENO,
+            say(
                 b"A word stands behind the options, and none is taken: the table comes on standard input.\n",
-            );
+            )
         }
     }
 }

@@ -40,6 +40,9 @@ pub fn word_of(word: &[u8]) -> Word
     if same(word, b"--chip") {
         return Word::Chip;
     }
+    if same(word, b"--archive") {
+        return Word::Archive;
+    }
     if same(word, b"--") {
         return Word::End;
     }

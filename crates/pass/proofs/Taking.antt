@@ -22,6 +22,7 @@ use Rattle.format.specs.Verdict.{known}
 use Rattle.format.specs.Decode.{readPlacement, readDevice, guard, bind, pick, decode, cutBlocks, cutTwo}
 use Rattle.format.specs.Reader.{unlessBroken, judge}
 use Rattle.format.specs.declared.settings.Settings.{Settings}
+use Rattle.format.specs.declared.settings.Rules.the-variants.{Ordinary}
 use Rattle.format.specs.declared.pins.Chip.{Chip}
 use Rattle.format.specs.declared.pins.Chip.the-variants.{C8051F320}
 use Rattle.format.specs.declared.records.Description.{Description}
@@ -46,7 +47,7 @@ no-claims {ms} h k e i = rw (e, append-nil ms) i
 
 -- an element whose own rules are kept, whatever the settings, has the bytes that they ask for
 abbrev any : Settings
-any = record { chip = C8051F320 }
+any = record { chip = C8051F320; rules = Ordinary }
 
 pub zone-long : (c : List ℕ) {j : ℕ} → ((σ : Settings) → j ≡ numbered (firstBroken (ownRules σ (zone c)))) → j ≡ 0 → 3 + length c ≡ 30
 zone-long c e o = eqb-true (3 + length c) 30 (unfaulted any (zone c) (e any) o .shape-8)

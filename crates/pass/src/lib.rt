@@ -1,5 +1,5 @@
-// The pass over the elements from offset 16: 6, the 97th (11), 7, 8, 9, 10, the 13th zone (11), 12. Which numbers have been seen
-// and which are named is kept for all 256 numbers, in flags that are lent.
+// The pass over the elements from offset 16: 6, the 97th (11), 7, 8, 9, 23, 10, the 13th zone (11), 12. Which numbers have been
+// seen and which are named is kept for all 256 numbers, in flags that are lent.
 ghost use mathlib.Core.Path.{_≡_};
 ghost use mathlib.Core.Bool.{Bool, not};
 ghost use mathlib.Core.List.{List, []};

@@ -26,15 +26,16 @@ fn answer(written: Written, out: &[u8]) {
 
 // 4,097 bytes of input are enough: a longer table is refused by the first of them (2) or by its length (3).
 fn rewrite(settings: Settings) {
+    let chip = settings.chip;
     let mut input = [0u8; 4097];
     let n = io::read_full(STDIN_FILENO, &mut input);
     let mut out = io::buffer();
-    let written = rewriting::rewrite(&input[..n], &mut out, settings);
+    let written = rewriting::rewrite(&input[..n], &mut out, chip);
     answer(written, &out);
 }
 
 fn main() {
-    match options::read_alone() {
+    match options::ordinary(options::read_alone()) {
         Options::Chosen(settings, _) => rewrite(settings),
         Options::Misused(m) => options::complain(m),
     }

@@ -22,10 +22,10 @@ use Rattle.demands.specs.Runs.{Appends}
 use Rattle.demands.proofs.Demand2.{records-written-again}
 use Rattle.rewriting.specs.Again.{Rewritten, done as whole, no-room}
 use Rattle.format.specs.declared.pins.Chip.{Chip}
-use Rattle.format.specs.declared.settings.Settings.{Settings}
+use Rattle.format.specs.Writing.{writing}
 
-pub too-short : (σ : Settings) (b c : List ℕ) {n : ℕ} → Verdict σ b (Accepted n) → length c < length b → Rewritten σ b c (Refused 16 0) c
-too-short σ b c (accepted d rs a) h = no-room d rs a h
+pub too-short : (chip : Chip) (b c : List ℕ) {n : ℕ} → Verdict (writing chip) b (Accepted n) → length c < length b → Rewritten chip b c (Refused 16 0) c
+too-short chip b c (accepted d rs a) h = no-room d rs a h
 
 -- one append more
 appends-more :
@@ -43,33 +43,33 @@ appends-more chip b (x ∷ rs) (v ∷ ws) mid r w after h a = (h .0, h .1, appen
 abbrev pub Ran : Chip → List ℕ → List ℕ → List Record → List Record → Type 0
 Ran chip c out done left = (ws : List Written) × Appends chip c done ws out
 
-pub begun : (σ : Settings) (b c : List ℕ) {n : ℕ} → Verdict σ b (Accepted n) → Walk σ b 16 (Ran (σ .chip) c c)
-begun σ b c v = begin σ b (Ran (σ .chip) c c) v (λ rs e. ([], refl))
+pub begun : (chip : Chip) (b c : List ℕ) {n : ℕ} → Verdict (writing chip) b (Accepted n) → Walk (writing chip) b 16 (Ran chip c c)
+begun chip b c v = begin (writing chip) b (Ran chip c c) v (λ rs e. ([], refl))
 
-module _ (σ : Settings) (b c : List ℕ) (at : ℕ) (out : List ℕ) (w : Walk σ b at (Ran (σ .chip) c out)) where
+module _ (chip : Chip) (b c : List ℕ) (at : ℕ) (out : List ℕ) (w : Walk (writing chip) b at (Ran chip c out)) where
   pub turned :
       {n : ℕ} (e : Element) (p : List ℕ) (v : Written) (after : List ℕ)
       → at < length b
       → n ≡ stated (drop at b)
-      → ((x : Record) → Here (σ .chip) b at x → e ≡ elementOf x)
+      → ((x : Record) → Here chip b at x → e ≡ elementOf x)
       → ((k : Chip) (x : Record) → Here k b at x → p ≡ written (part x))
-      → Appended (σ .chip) out e p v after
-      → Walk σ b (at + n) (Ran (σ .chip) c after)
+      → Appended chip out e p v after
+      → Walk (writing chip) b (at + n) (Ran chip c after)
   turned e p v after h l es ps a =
-      onward σ b at (Ran (σ .chip) c out) w (Ran (σ .chip) c after) h l (λ g. (
+      onward (writing chip) b at (Ran chip c out) w (Ran chip c after) h l (λ g. (
         w .state .0 ++ v ∷ [],
-        appends-more (σ .chip) c (w .done) (w .state .0) out (g .r) v after (w .state .1) (rw (es (g .r) (g .here), ps (σ .chip) (g .r) (g .here)) at a),
+        appends-more chip c (w .done) (w .state .0) out (g .r) v after (w .state .1) (rw (es (g .r) (g .here), ps chip (g .r) (g .here)) at a),
       ))
 
   pub ran :
       (c₀ : List ℕ) (d : Description) (v : Written)
       → length b ≤ at
       → length b ≤ length c₀
-      → d ≡ readDescription (σ .chip) (byte b)
-      → Started (σ .chip) c₀ d v c
-      → Rewritten σ b c₀ (Length (length b)) out
+      → d ≡ readDescription chip (byte b)
+      → Started chip c₀ d v c
+      → Rewritten chip b c₀ (Length (length b)) out
   ran c₀ d v h long e st =
-      let z = ended σ b at (Ran (σ .chip) c out) w h in
-      let call = subst (λ (x : Description). Started (σ .chip) c₀ x v c) (e ∙ sym (reads σ b (z .d) (z .rs) (z .accepts) .1)) st in
-      let again = records-written-again (σ .chip) b c₀ (z .d) (z .rs) v (z .state .0) c out (z .accepts) long call (z .state .1) in
-      subst (λ (l : List ℕ). Rewritten σ b c₀ (Length (length b)) l) (sym (again .bytes)) (whole (z .d) (z .rs) (z .accepts) long)
+      let z = ended (writing chip) b at (Ran chip c out) w h in
+      let call = subst (λ (x : Description). Started chip c₀ x v c) (e ∙ sym (reads (writing chip) b (z .d) (z .rs) (z .accepts) .1)) st in
+      let again = records-written-again chip b c₀ (z .d) (z .rs) v (z .state .0) c out (z .accepts) long call (z .state .1) in
+      subst (λ (l : List ℕ). Rewritten chip b c₀ (Length (length b)) l) (sym (again .bytes)) (whole (z .d) (z .rs) (z .accepts) long)

@@ -12,15 +12,16 @@ use Rattle.format.specs.declared.records.Description.{Description}
 use Rattle.format.specs.declared.answers.Answer.the-variants.{Refused as RefusedTable}
 use Rattle.format.specs.declared.answers.Written.{Written}
 use Rattle.format.specs.declared.answers.Written.the-variants.{Length, Refused}
-use Rattle.format.specs.declared.settings.Settings.{Settings}
+use Rattle.format.specs.declared.pins.Chip.{Chip}
+use Rattle.format.specs.Writing.{writing}
 
--- under settings σ, of the table's bytes and the buffer's: the answer, and the buffer's bytes afterwards
-pub data Rewritten (σ : Settings) (b c : List ℕ) : Written → List ℕ → Type 0 where
+-- with this chip named and by the writer's rules, of the table's bytes and the buffer's: the answer, and the buffer's bytes afterwards
+pub data Rewritten (chip : Chip) (b c : List ℕ) : Written → List ℕ → Type 0 where
   done :
       (d : Description) (rs : List Record)
-      → Accepts σ b d rs
+      → Accepts (writing chip) b d rs
       → length b ≤ length c
-      → Rewritten σ b c (Length (length b)) (cleared b (table d rs) ++ drop (length b) c)
+      → Rewritten chip b c (Length (length b)) (cleared b (table d rs) ++ drop (length b) c)
   -- 16: 'no room'
-  no-room : (d : Description) (rs : List Record) → Accepts σ b d rs → length c < length b → Rewritten σ b c (Refused 16 0) c
-  refused : {k p : ℕ} → Verdict σ b (RefusedTable k p) → Rewritten σ b c (Refused k p) c
+  no-room : (d : Description) (rs : List Record) → Accepts (writing chip) b d rs → length c < length b → Rewritten chip b c (Refused 16 0) c
+  refused : {k p : ℕ} → Verdict (writing chip) b (RefusedTable k p) → Rewritten chip b c (Refused k p) c

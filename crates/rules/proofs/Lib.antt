@@ -1,3 +1,4 @@
+pub mod Use
 pub mod Runs
 pub mod Numbering
 pub mod Contents

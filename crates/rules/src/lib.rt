@@ -1,9 +1,9 @@
-// What a record breaks by itself: 4, 5, 10 of the description, 8, 9 and 10 of each kind of element (8 of 09h and 0Ah is found
-// in `blocks`). One place for the reader and the writer. A rule's number, or 0.
+// What a record breaks by itself: 4, 5, 10 of the description, 8, 9, 23 and 10 of each kind of element (8 of 09h and 0Ah is
+// found in `blocks`). One place for the reader and the writer. A rule's number, or 0.
 ghost use mathlib.Core.Path.{_≡_};
-ghost use Rattle.format.specs.Records.{Record, digital, analogue, fan, led, current, zone, string, rgb};
-ghost use Rattle.format.specs.Rules.{numbered, firstBroken, ownRules, typed, powered, strapped, addressed, selected, scaled, shaped, coded, pinned, rises, coloured};
-ghost use Rattle.format.specs.Pins.{unused};
+ghost use Rattle.format.specs.Records.{Record, digital, analogue, fan, led, current, zone, string, rgb, elementOf};
+ghost use Rattle.format.specs.Rules.{numbered, firstBroken, ownRules, typed, powered, strapped, addressed, selected, scaled, shaped, coded, typeInUse, inUse, pinned, rises, coloured};
+ghost use Rattle.format.specs.Pins.{among, unused};
 ghost use Rattle.format.specs.declared.settings.Settings.{Settings};
 ghost use Rattle.format.specs.Table.{descriptionBreaks};
 ghost use Rattle.rules.specs.Broken.{orElse, DeviceBreaks};
@@ -21,6 +21,7 @@ use format::records::Lamp;
 use format::records::PwmFan;
 use format::records::RgbLed;
 use format::records::StatusLed;
+use format::settings::Rules;
 use format::settings::Settings;
 use format::units::Counts;
 use pinsets::allowed;
@@ -69,11 +70,15 @@ pub fn description_breaks(d: Description, chip: Chip) -> u8
     )
 }
 
-// 8, 9 and 10 of a record of any kind, in their order.
-fn own_breaks(shape: bool, codes: bool, pins: bool) -> u8
-    ensures { λ r. ⌜ ((s : Settings) (x : Record) → shape ≡ shaped x → codes ≡ coded x → pins ≡ pinned (s .chip) x → r ≡ numbered (firstBroken (ownRules s x))) ⌝ }
+// 8, 9, 23 and 10 of a record of any kind, in their order.
+fn own_breaks(shape: bool, codes: bool, used: bool, pins: bool) -> u8
+    ensures { λ r. ⌜ ((s : Settings) (x : Record) → shape ≡ shaped x → codes ≡ coded x → used ≡ inUse (s .rules) (elementOf x) → pins ≡ pinned (s .chip) x → r ≡ numbered (firstBroken (ownRules s x))) ⌝ }
 {
-    or_else(shape, 8, or_else(codes, 9, or_else(pins, 10, 0)))
+    or_else(
+        shape,
+        8,
+        or_else(codes, 9, or_else(used, 23, or_else(pins, 10, 0))),
+    )
 }
 
 // 9: the bus type has a code, and the address is of its kind.
@@ -83,6 +88,16 @@ fn addressed(bus: u8, a: Address) -> bool
     match a {
         Address::Bus(_) => bus < 3,
         Address::Select(_) => bus == 3,
+    }
+}
+
+// 23: the bus type is in use by the named rules: all but block mode, or all.
+pub fn in_use(bus: u8, rules: Rules) -> bool
+    ensures { λ r. ⌜ r ≡ typeInUse rules bus ⌝ }
+{
+    match rules {
+        Rules::Ordinary => bus != 2,
+        Rules::Archive => true,
     }
 }
 
@@ -101,8 +116,14 @@ pub fn digital_breaks(d: DigitalSensor, s: Settings) -> u8
     ensures { λ r. ⌜ r ≡ numbered (firstBroken (ownRules s (digital d))) ⌝ }
 {
     let chip = s.chip;
+    let rules = s.rules;
     let a = d.address;
-    own_breaks(true, addressed(d.bus, a), selected(a, chip))
+    own_breaks(
+        true,
+        addressed(d.bus, a),
+        in_use(d.bus, rules),
+        selected(a, chip),
+    )
 }
 
 fn scaled(c: Counts) -> bool
@@ -124,7 +145,12 @@ pub fn analogue_breaks(a: AnalogueSensor, s: Settings) -> u8
 {
     let chip = s.chip;
     let p = a.pin;
-    own_breaks(true, calibrated(a), allowed(chip, Use::AnaloguePin, p))
+    own_breaks(
+        true,
+        calibrated(a),
+        true,
+        allowed(chip, Use::AnaloguePin, p),
+    )
 }
 
 pub fn unused(p: OptionalPin) -> bool
@@ -155,7 +181,7 @@ pub fn fan_breaks(f: PwmFan, s: Settings) -> u8
     let coded = !unused(q) | (f.ppr == 0);
     let pinned = allowed(chip, Use::FanPin, p)
         & (allowed_or_unused(chip, Use::FanPin, q) & rises(p, q));
-    own_breaks(true, coded, pinned)
+    own_breaks(true, coded, true, pinned)
 }
 
 fn coloured(l: Lamp) -> bool
@@ -179,7 +205,7 @@ pub fn led_breaks(l: StatusLed, s: Settings) -> u8
     let coded = coloured(a) & (coloured(b) & coloured(c));
     let pinned = allowed_or_unused(chip, Use::StatusLed, p)
         & (allowed_or_unused(chip, Use::StatusLed, q) & allowed_or_unused(chip, Use::StatusLed, r));
-    own_breaks(true, coded, pinned)
+    own_breaks(true, coded, true, pinned)
 }
 
 // 08h
@@ -188,7 +214,7 @@ pub fn current_breaks(c: CurrentSensor, s: Settings) -> u8
 {
     let chip = s.chip;
     let p = c.pin;
-    own_breaks(true, true, allowed(chip, Use::AnaloguePin, p))
+    own_breaks(true, true, true, allowed(chip, Use::AnaloguePin, p))
 }
 
 // 09h, where `filled` says that each speed block has a pair; 0Ah, with true
@@ -196,15 +222,21 @@ pub fn device_breaks(d: BusDevice, filled: bool, s: Settings) -> u8
     ensures { λ r. ⌜ DeviceBreaks s d filled r ⌝ }
 {
     let chip = s.chip;
+    let rules = s.rules;
     let a = d.address;
-    own_breaks(true, addressed(d.bus, a) & filled, selected(a, chip))
+    own_breaks(
+        true,
+        addressed(d.bus, a) & filled,
+        in_use(d.bus, rules),
+        selected(a, chip),
+    )
 }
 
 // 0Bh, of all bytes after the header: 30 bytes with it.
 pub fn zone_breaks(part: &[u8]) -> u8
     ensures { λ r. ⌜ ((s : Settings) → r ≡ numbered (firstBroken (ownRules s (zone (now (part .entry)))))) ⌝ }
 {
-    own_breaks(part.len() == 27, true, true)
+    own_breaks(part.len() == 27, true, true, true)
 }
 
 // 0Ch, of all bytes after the header: its number and two bytes more, and the number not 0.
@@ -214,7 +246,7 @@ pub fn text_breaks(part: &[u8]) -> u8
     if part.len() < 3 {
         return 8;
     }
-    own_breaks(true, part[0] != 0, true)
+    own_breaks(true, part[0] != 0, true, true)
 }
 
 // 0Eh
@@ -228,5 +260,5 @@ pub fn rgb_breaks(c: RgbLed, s: Settings) -> u8
     let pinned = allowed(chip, Use::FanPin, r)
         & (allowed(chip, Use::FanPin, g)
             & (allowed(chip, Use::FanPin, b) & ((r.0 < g.0) & (g.0 < b.0))));
-    own_breaks(true, true, pinned)
+    own_breaks(true, true, true, pinned)
 }

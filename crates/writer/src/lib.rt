@@ -1,5 +1,6 @@
 // Writing a table into a lent buffer: start it, append an element. A refusal leaves every byte as it was: everything is decided
-// before a byte is written. The caller names the chip, and a pin of the other one is 10.
+// before a byte is written. The caller names the chip; a pin of the other one is 10. The rules are the ordinary ones: what
+// is retired is written into no table.
 ghost use mathlib.Core.Path.{_≡_};
 ghost use Prim.Native.Nat.{_<_, _≤_};
 ghost use lib.ListN.{length};
@@ -10,6 +11,7 @@ use format::answers::Written;
 use format::pins::Chip;
 use format::records::Description;
 use format::records::Element;
+use format::settings::Rules;
 use format::settings::Settings;
 use words::wide;
 
@@ -82,7 +84,11 @@ fn append_verdict(buffer: &[u8], e: Element, part: &[u8], chip: Chip) -> Written
     if !checks::element_roomy(e) {
         return Written::Refused(25, 0);
     }
-    let fault = checks::part_breaks(e, part, Settings { chip });
+    let settings = Settings {
+        chip,
+        rules: Rules::Ordinary,
+    };
+    let fault = checks::part_breaks(e, part, settings);
     if fault != 0 {
         return Written::Refused(fault, n);
     }
@@ -90,7 +96,7 @@ fn append_verdict(buffer: &[u8], e: Element, part: &[u8], chip: Chip) -> Written
 }
 
 // Appends one element, with its variable part, to a table whose length so far stands in bytes 1-2. Answers 0 with the new
-// length, or 1, 3, 25, 8, 9, 10, 16.
+// length, or 1, 3, 25, 8, 9, 23, 10, 16.
 pub fn append(buffer: &mut [u8], e: Element, part: &[u8], chip: Chip) -> Written
     ensures { λ r. ⌜ Appended chip (now (buffer .entry)) e (now (part .entry)) r (now (buffer .exit)) ⌝ }
 {

@@ -3,7 +3,7 @@
 use super::End;
 use second::generator::{self, raw::TABLE_A};
 use second::random::Random;
-use second::{Chip, Settings};
+use second::Settings;
 use std::hint::black_box;
 use std::time::Instant;
 
@@ -15,10 +15,8 @@ pub fn bench(settings: Settings, arguments: &[String]) -> End {
         return End::Misused(format!("'{other}' is one argument too many"));
     }
     let mut random = Random::new(1);
-    let mut many = |count: usize, make: fn(&mut Random, Chip) -> Vec<u8>| -> Vec<Vec<u8>> {
-        (0..count)
-            .map(|_| make(&mut random, settings.chip))
-            .collect()
+    let mut many = |count: usize, make: fn(&mut Random, Settings) -> Vec<u8>| -> Vec<Vec<u8>> {
+        (0..count).map(|_| make(&mut random, settings)).collect()
     };
     let report = |name, tables: &[Vec<u8>]| report(name, tables, settings);
     report("table A", &vec![TABLE_A.to_vec(); 1000]);

@@ -4,7 +4,7 @@ use super::options::Options;
 use super::End;
 use second::generator;
 use second::random::Random;
-use second::{Chip, Settings};
+use second::Settings;
 use std::path::Path;
 
 /// One line for each file: number, place or count, file.
@@ -28,7 +28,7 @@ pub fn check(settings: Settings, files: &[String]) -> End {
     end
 }
 
-type Make = fn(&mut Random, Chip) -> Vec<u8>;
+type Make = fn(&mut Random, Settings) -> Vec<u8>;
 
 fn maker(kind: &str) -> Result<Make, String> {
     match kind {
@@ -41,9 +41,9 @@ fn maker(kind: &str) -> Result<Make, String> {
     }
 }
 
-/// Writes tables generated for the chip as files `KIND-000000.bin` and so on.
+/// Writes tables generated for the settings as files `KIND-000000.bin` and so on.
 pub fn make(settings: Settings, arguments: &[String]) -> End {
-    match try_make(settings.chip, arguments) {
+    match try_make(settings, arguments) {
         Ok(Ok(())) => End::Good,
         Ok(Err(why)) => {
             eprintln!("second: cannot write: {why}");
@@ -53,7 +53,7 @@ pub fn make(settings: Settings, arguments: &[String]) -> End {
     }
 }
 
-fn try_make(chip: Chip, arguments: &[String]) -> Result<std::io::Result<()>, String> {
+fn try_make(settings: Settings, arguments: &[String]) -> Result<std::io::Result<()>, String> {
     let options = Options::read(arguments, &["seed", "count"])?;
     let [kind, directory] = options.others.as_slice() else {
         return Err("name a kind and a directory".into());
@@ -62,7 +62,7 @@ fn try_make(chip: Chip, arguments: &[String]) -> Result<std::io::Result<()>, Str
     let mut random = Random::new(options.number("seed")?);
     let count = options.number("count")?;
     Ok(write_all(kind, Path::new(directory), count, || {
-        make(&mut random, chip)
+        make(&mut random, settings)
     }))
 }
 

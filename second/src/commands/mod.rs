@@ -7,11 +7,11 @@ mod own;
 mod rows;
 mod stream;
 
-use second::Settings;
+use second::{Rules, Settings};
 use std::process::ExitCode;
 
 const USAGE: &str = "\
-use: second COMMAND [--chip 320|321] ...
+use: second COMMAND [--chip 320|321] [--archive] ...
   list                                       list the table on standard input
   rewrite                                    write the table on standard input again
   check FILE...                              number, place or count, and file, one line each
@@ -20,7 +20,8 @@ use: second COMMAND [--chip 320|321] ...
                                              damaged or any
   self --seed S --count N                    hold the program's own parts against each other
   bench                                      time the reader
-The chip is the 320 if none is named. Tables are made, read and written for it.
+The chip is the 320 if none is named, and the rules are the ordinary ones without --archive. Tables are
+made, read and written for them; rewrite has the ordinary rules alone.
 ";
 
 /// A command's end: good, a failure already told, or a misuse to be told with the usage.
@@ -52,7 +53,10 @@ pub fn run(arguments: &[String]) -> ExitCode {
 fn dispatch(command: &str, settings: Settings, rest: &[String]) -> End {
     match command {
         "list" => stream::list(settings, rest),
-        "rewrite" => stream::rewrite(settings, rest),
+        "rewrite" if settings.rules == Rules::Archive => {
+            End::Misused("there is no '--archive' for rewrite: nothing writes block mode".into())
+        }
+        "rewrite" => stream::rewrite(settings.chip, rest),
         "check" => files::check(settings, rest),
         "rows" => rows::rows(settings, rest),
         "make" => files::make(settings, rest),

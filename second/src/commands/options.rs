@@ -1,24 +1,44 @@
-//! The chip, options of the form `--name number`, and the other arguments.
+//! The settings, options of the form `--name number`, and the other arguments.
 
-use second::{Chip, Settings};
+use second::{Chip, Rules, Settings};
 
-/// Takes `--chip 320` or `--chip 321` off the front; the 320 if none is named. Elsewhere it may not stand.
+/// Takes `--chip 320` or `--chip 321`, and `--archive`, off the front, each at most once; the 320 and the
+/// ordinary rules are meant if none is named. Elsewhere they may not stand.
 pub fn settings(arguments: &[String]) -> Result<(Settings, &[String]), String> {
-    let (settings, rest) = match arguments {
-        [option, rest @ ..] if option == "--chip" => {
-            let (word, rest) = rest
-                .split_first()
-                .ok_or("'--chip' wants 320 or 321 after it")?;
-            let named = Chip::BOTH.into_iter().find(|chip| word == chip.digits());
-            let chip = named.ok_or(format!("there is no chip '{word}', only 320 and 321"))?;
-            (Settings::from(chip), rest)
+    let mut chip = None;
+    let mut rules = None;
+    let mut rest = arguments;
+    while let Some((option, after)) = rest.split_first() {
+        let once = match option.as_str() {
+            "--chip" => chip.is_none(),
+            "--archive" => rules.is_none(),
+            _ => break,
+        };
+        if !once {
+            break;
         }
-        _ => (Settings::default(), arguments),
-    };
-    match rest.iter().any(|argument| argument == "--chip") {
-        true => Err("'--chip' stands once, right behind the command".into()),
-        false => Ok((settings, rest)),
+        rest = after;
+        if option == "--chip" {
+            chip = Some(named(rest.first())?);
+            rest = &rest[1..];
+        } else {
+            rules = Some(Rules::Archive);
+        }
     }
+    let ours = |argument: &&String| ["--chip", "--archive"].contains(&argument.as_str());
+    match rest.iter().find(ours) {
+        Some(option) => Err(format!("'{option}' stands once, right behind the command")),
+        None => Ok((
+            Settings::new(chip.unwrap_or_default(), rules.unwrap_or_default()),
+            rest,
+        )),
+    }
+}
+
+fn named(word: Option<&String>) -> Result<Chip, String> {
+    let word = word.ok_or("'--chip' wants 320 or 321 after it")?;
+    let named = Chip::BOTH.into_iter().find(|chip| word == chip.digits());
+    named.ok_or(format!("there is no chip '{word}', only 320 and 321"))
 }
 
 /// The arguments of a command, taken apart.

@@ -2,10 +2,11 @@
 
 use super::options::Options;
 use super::End;
+use second::answer::number;
 use second::generator;
 use second::histogram::Histogram;
 use second::random::Random;
-use second::{plain, Settings, Verdict};
+use second::{plain, Chip, Rules, Settings, Verdict};
 
 pub fn own(settings: Settings, arguments: &[String]) -> End {
     let (seed, count) = match read(arguments) {
@@ -16,7 +17,7 @@ pub fn own(settings: Settings, arguments: &[String]) -> End {
     let mut histogram = Histogram::new();
     let mut differences = 0;
     for _ in 0..count {
-        let table = generator::any(&mut random, settings.chip);
+        let table = generator::any(&mut random, settings);
         let verdict = second::check(&table, settings);
         histogram.add(verdict.number());
         if let Err(what) = compare(&table, settings, verdict) {
@@ -39,19 +40,19 @@ fn read(arguments: &[String]) -> Result<(u64, u64), String> {
     Ok((options.number("seed")?, options.number("count")?))
 }
 
-/// Fast against plain, of readers and listings; rewritten against written from its records, and once
-/// more; the listing's shape.
+/// Fast against plain, of readers and listings; the two rules against each other; what is rewritten; the
+/// listing's shape.
 fn compare(table: &[u8], settings: Settings, fast: Verdict) -> Result<(), &'static str> {
     if plain::check(table, settings) != fast {
         return Err("the fast and the plain reader differ");
     }
-    let mut out = vec![0xA5; table.len()];
-    match (second::rewrite(table, settings, &mut out), fast) {
-        (Ok(length), Verdict::Accepted(_)) if length == table.len() => (),
-        (Err(refusal), Verdict::Refused { number, place })
-            if (refusal.number, refusal.place) == (number, place) => {}
-        _ => return Err("reader and rewriter differ"),
+    let ordinary = Settings::from(settings.chip);
+    let strict = second::check(table, ordinary);
+    let old = second::check(table, ordinary.other_rules());
+    if strict.number() != number::RETIRED && strict != old {
+        return Err("the ordinary and the archive's reader differ");
     }
+    rewritten(table, settings.chip, strict)?;
     let text = second::listing(table, settings);
     if text != plain::listing(table, settings) {
         return Err("the fast and the plain listing differ");
@@ -61,19 +62,32 @@ fn compare(table: &[u8], settings: Settings, fast: Verdict) -> Result<(), &'stat
         let only = format!("R\t{}\t{}\n", fast.number(), fast.beside());
         return (text == only).then_some(()).ok_or("the R line is wrong");
     };
+    shape(&text, count, settings.rules)
+}
+
+/// Rewritten as the ordinary reader says, against written from its records, and once more.
+fn rewritten(table: &[u8], chip: Chip, strict: Verdict) -> Result<(), &'static str> {
+    let mut out = vec![0xA5; table.len()];
+    let answer = second::rewrite(table, chip, &mut out);
+    if answer != strict.into_result().map(|_| table.len()) {
+        return Err("reader and rewriter differ");
+    }
+    if answer.is_err() {
+        return Ok(());
+    }
     let mut records = vec![0x5A; out.len()];
-    if second::rewrite_by_records(table, settings, &mut records).is_err() || records != out {
+    if second::rewrite_by_records(table, chip, &mut records).is_err() || records != out {
         return Err("rewritten and written from its records differ");
     }
     let mut again = vec![0x5A; out.len()];
-    if second::rewrite(&out, settings, &mut again).is_err() || again != out {
+    if second::rewrite(&out, chip, &mut again).is_err() || again != out {
         return Err("rewriting twice changes something");
     }
-    shape(&text, count)
+    Ok(())
 }
 
-/// One `T` line of ten fields, then one `E` line of five fields for each element.
-fn shape(text: &str, count: usize) -> Result<(), &'static str> {
+/// One `T` line of ten fields, then one `E` line of five fields for each element, or of six in the archive.
+fn shape(text: &str, count: usize, rules: Rules) -> Result<(), &'static str> {
     let mut lines = text.split_terminator('\n');
     let good = |line: Option<&str>, letter: &str, fields: usize| {
         line.is_some_and(|line| {
@@ -87,7 +101,12 @@ fn shape(text: &str, count: usize) -> Result<(), &'static str> {
     };
     let first = good(lines.next(), "T", 10);
     let elements: Vec<&str> = lines.collect();
-    let rest = elements.iter().all(|&line| good(Some(line), "E", 5));
+    let rest = elements
+        .iter()
+        .all(|&line| match line.strip_suffix("\tretired") {
+            Some(front) => rules == Rules::Archive && good(Some(front), "E", 5),
+            None => good(Some(line), "E", 5),
+        });
     let closed = text.ends_with('\n');
     (first && rest && closed && elements.len() == count)
         .then_some(())

@@ -2,6 +2,7 @@
 
 use super::options::Options;
 use super::End;
+use second::answer::number;
 use second::generator;
 use second::random::Random;
 use second::{Settings, Verdict};
@@ -81,7 +82,7 @@ impl Rows {
 
     /// The shortest targeted table for each answer, so that each is there if it can be.
     fn smallest_of_each(&mut self) {
-        for number in 0..=15 {
+        for number in number::of_a_table(self.settings.rules) {
             if let Some(table) = smallest(number, self.settings) {
                 self.take(table);
             }
@@ -90,7 +91,7 @@ impl Rows {
 
     /// Half of the rows from the targeted tables, taking the answers in turn.
     fn targeted(&mut self, random: &mut Random) {
-        let mut piles: Vec<Vec<&[u8]>> = vec![Vec::new(); 16];
+        let mut piles: Vec<Vec<&[u8]>> = vec![Vec::new(); 26];
         for (_, table) in generator::targeted() {
             let verdict = second::check(table, self.settings);
             piles[usize::from(verdict.number())].push(table);
@@ -113,7 +114,7 @@ impl Rows {
         // Small bounds leave few different tables; a long run without a new one is the end.
         while !self.full() && idle < 100_000 {
             idle += 1;
-            let table = generator::any(random, self.settings.chip);
+            let table = generator::any(random, self.settings);
             if self.take(&table) {
                 idle = 0;
             }
@@ -129,7 +130,7 @@ impl Rows {
 
     /// An answer can be missing because its shortest table is too long, or for want of rows.
     fn say_missing(&self) {
-        for number in 0..=15 {
+        for number in number::of_a_table(self.settings.rules) {
             let there = |row: &Row| row.1.number() == number;
             if self.rows.iter().any(there) {
                 continue;

@@ -1,7 +1,7 @@
 //! `list` and `rewrite`: a table from standard input.
 
 use super::End;
-use second::Settings;
+use second::{Chip, Settings};
 use std::io::{Read, Write};
 
 /// Standard input up to 4,097 bytes. No more is needed: a table over 4,096 bytes answers 2 or 3 by
@@ -35,10 +35,10 @@ pub fn list(settings: Settings, arguments: &[String]) -> End {
 }
 
 /// The rewritten bytes, or the `R` line.
-pub fn rewrite(settings: Settings, arguments: &[String]) -> End {
+pub fn rewrite(chip: Chip, arguments: &[String]) -> End {
     transform(arguments, |table| {
         let mut out = vec![0; table.len()];
-        match second::rewrite(table, settings, &mut out) {
+        match second::rewrite(table, chip, &mut out) {
             Ok(length) => out[..length].to_vec(),
             Err(refusal) => format!("R\t{}\t{}\n", refusal.number, refusal.place).into_bytes(),
         }

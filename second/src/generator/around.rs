@@ -1,17 +1,19 @@
 //! Tables around the four pins that one chip has and the other lacks.
 
+use super::raw;
 use super::valid::valid_near;
 use crate::element::id;
 use crate::pins::ONLY_320;
 use crate::random::Random;
+use crate::settings::Rules;
 
 /// The ends of the four, and the pins beside them that both chips have: P2.3, P2.4, P2.7, P3.0.
 pub const AROUND: [u8; 4] = [0x23, 0x24, 0x27, 0x30];
 
-/// A table that the 320 takes and the 321 refuses.
-pub fn only_on_the_320(random: &mut Random) -> Vec<u8> {
+/// A table that the 320 takes by these rules and the 321 refuses.
+pub fn only_on_the_320(random: &mut Random, rules: Rules) -> Vec<u8> {
     loop {
-        let table = valid_near(random);
+        let table = valid_near(random, rules);
         if touches_the_four(&table) {
             return table;
         }
@@ -20,20 +22,15 @@ pub fn only_on_the_320(random: &mut Random) -> Vec<u8> {
 
 /// Is one of the four in a pin place of these bytes, good or bad, as far as their elements can be cut?
 pub fn touches_the_four(table: &[u8]) -> bool {
-    let Some((head, mut rest)) = table.split_first_chunk::<16>() else {
+    let Some(hardware) = table.get(9..12) else {
         return false;
     };
-    let mut found = head[9..12].iter().any(|pin| ONLY_320.contains(pin));
-    while let Some(&[_, low, high]) = rest.first_chunk() {
-        let length = usize::from(u16::from_le_bytes([low, high]));
-        let Some((element, after)) = rest.split_at_checked(length.max(3)) else {
-            break;
-        };
-        let stands = |at: &usize| element.get(*at).is_some_and(|pin| ONLY_320.contains(pin));
-        found |= places(element).iter().any(stands);
-        rest = after;
-    }
-    found
+    let one_of_them = |pin: &u8| ONLY_320.contains(pin);
+    hardware.iter().any(one_of_them)
+        || raw::cut(table).any(|element| {
+            let pins = places(element).iter().filter_map(|&at| element.get(at));
+            pins.into_iter().any(one_of_them)
+        })
 }
 
 /// Where an element has its pins.

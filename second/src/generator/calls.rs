@@ -61,7 +61,7 @@ fn start_call(random: &mut Random, pins: Chip) -> (Vec<u8>, What) {
 
 /// A good element onto an accepted table with room enough, or not quite.
 fn onto_a_table(random: &mut Random, pins: Chip) -> (Vec<u8>, What) {
-    let mut buffer = valid(random, pins);
+    let mut buffer = valid(random, pins.into());
     let (element, part) = if random.chance(50) {
         good_element(random, pins)
     } else {

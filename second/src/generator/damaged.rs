@@ -3,16 +3,16 @@
 use super::raw::{self, Parts};
 use super::valid::valid_parts;
 use crate::random::Random;
-use crate::settings::Chip;
+use crate::settings::Settings;
 
-/// Codes, and pins of every use and around the four.
-const TELLING: [u8; 14] = [
-    0, 1, 3, 5, 6, 0x10, 0x11, 0x14, 0x22, 0x23, 0x24, 0x27, 0x30, 0xEE,
+/// Codes, block mode with its reserved bits clear and set, and pins of every use and around the four.
+const TELLING: [u8; 16] = [
+    0, 1, 2, 3, 5, 6, 0x10, 0x11, 0x14, 0x22, 0x23, 0x24, 0x27, 0x30, 0xEE, 0xF2,
 ];
 
 /// A good table after one to four changes.
-pub fn mutated(random: &mut Random, chip: Chip) -> Vec<u8> {
-    let mut parts = valid_parts(random, chip);
+pub fn mutated(random: &mut Random, settings: Settings) -> Vec<u8> {
+    let mut parts = valid_parts(random, settings);
     if random.chance(30) {
         rearranged(random, &mut parts);
     }
@@ -79,8 +79,8 @@ fn change(random: &mut Random, table: &mut Vec<u8>, starts: &[usize]) {
 }
 
 /// A good table cut short, with and without its length mended.
-pub fn truncated(random: &mut Random, chip: Chip) -> Vec<u8> {
-    let mut table = valid_parts(random, chip).bytes();
+pub fn truncated(random: &mut Random, settings: Settings) -> Vec<u8> {
+    let mut table = valid_parts(random, settings).bytes();
     let length = if random.chance(30) {
         random.below(18.min(table.len()))
     } else {

@@ -5,11 +5,11 @@ use super::raw::{self, Parts};
 use super::valid::valid_parts;
 use crate::element::id;
 use crate::random::Random;
-use crate::settings::Chip;
+use crate::settings::Settings;
 
 type Fault = fn(&mut Random, &mut Parts);
 
-const FAULTS: [Fault; 26] = [
+const FAULTS: [Fault; 28] = [
     wrong_type,
     wrong_power,
     wrong_hardware_pin,
@@ -25,6 +25,8 @@ const FAULTS: [Fault; 26] = [
     bytes_left,
     wrong_code,
     wrong_code,
+    block_mode,
+    block_mode,
     wrong_pin,
     wrong_pin,
     pin_around_the_four,
@@ -39,8 +41,8 @@ const FAULTS: [Fault; 26] = [
 ];
 
 /// A table with two or three faults, some of which may cancel or hide each other.
-pub fn double_faults(random: &mut Random, chip: Chip) -> Vec<u8> {
-    let mut parts = valid_parts(random, chip);
+pub fn double_faults(random: &mut Random, settings: Settings) -> Vec<u8> {
+    let mut parts = valid_parts(random, settings);
     for _ in 0..random.between(2, 3) {
         let fault = *random.pick(&FAULTS);
         fault(random, &mut parts);
@@ -166,6 +168,14 @@ fn wrong_code(random: &mut Random, parts: &mut Parts) {
         id::STATUS_LED => e[9] = byte | 8,
         id::CONTROLLER if byte & 1 == 0 => e[12] = 0,
         _ => e[8] = high,
+    }
+}
+
+/// Alone this is a fault for the ordinary reader only.
+fn block_mode(random: &mut Random, parts: &mut Parts) {
+    let bus = *random.pick(&[0x02, 0x12, 0xF2]);
+    if let Some(e) = one_of(random, parts, |e| matches!(e[0], 1 | 9 | 10) && e.len() > 9) {
+        e[8] = bus;
     }
 }
 

@@ -30,8 +30,9 @@ impl Pool<'_> {
 
     /// Bytes 8 to 10 of 01h, 09h and 0Ah.
     fn attachment(&mut self) -> Option<Vec<u8>> {
-        let wanted = self.random.below(4) as u8;
-        for bus in [wanted, (wanted + 1) % 4, 3] {
+        let wanted = *self.random.pick(self.buses);
+        let instead = if wanted == 3 { 0 } else { 3 };
+        for bus in [wanted, instead] {
             let address = if bus == 3 {
                 self.spi_address()
             } else {

@@ -5,7 +5,7 @@ use super::raw;
 use crate::element::id;
 use crate::pins::{ALL, CHIP_SELECT, FAULT_LED};
 use crate::random::Random;
-use crate::settings::Chip;
+use crate::settings::Settings;
 
 /// How a pin has been given out so far.
 #[derive(Clone, Copy, PartialEq, Eq)]
@@ -21,6 +21,8 @@ pub struct Pool<'r> {
     zones: Vec<u8>,
     strings: Vec<u8>,
     pub(super) pins: [Given; 256],
+    /// The bus types in use.
+    pub(super) buses: &'static [u8],
     /// Junk in reserved places, or zeros as they should be.
     junk: bool,
     /// Rather pins around the four than others.
@@ -36,14 +38,19 @@ fn distinct(random: &mut Random, low: u8, count: usize) -> Vec<u8> {
 }
 
 impl<'r> Pool<'r> {
-    /// Pins that the chip lacks are not given out.
-    pub fn new(random: &'r mut Random, chip: Chip, zones: usize, strings: usize) -> Pool<'r> {
+    /// Pins that the chip lacks are not given out, nor bus types that are retired.
+    pub fn new(
+        random: &'r mut Random,
+        settings: Settings,
+        zones: usize,
+        strings: usize,
+    ) -> Pool<'r> {
         let zones = distinct(random, 0, zones);
         let strings = distinct(random, 1, strings);
         let junk = random.chance(60);
         let near = random.chance(20);
         let mut pins = [Given::Alone; 256];
-        for pin in ALL.into_iter().filter(|&pin| chip.has(pin)) {
+        for pin in ALL.into_iter().filter(|&pin| settings.chip.has(pin)) {
             pins[usize::from(pin)] = Given::Free;
         }
         pins[usize::from(FAULT_LED)] = Given::Alone;
@@ -52,6 +59,7 @@ impl<'r> Pool<'r> {
             zones,
             strings,
             pins,
+            buses: settings.rules.buses(),
             junk,
             near,
         }

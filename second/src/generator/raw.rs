@@ -59,6 +59,18 @@ pub fn mend(table: &mut [u8]) {
     }
 }
 
+/// The elements of any bytes, as far as they can be cut; a length under 3 is taken for 3.
+pub fn cut(table: &[u8]) -> impl Iterator<Item = &[u8]> {
+    let mut rest = table.get(16..).unwrap_or(&[]);
+    std::iter::from_fn(move || {
+        let &[_, low, high] = rest.first_chunk()?;
+        let length = usize::from(u16::from_le_bytes([low, high]));
+        let (element, after) = rest.split_at_checked(length.max(3))?;
+        rest = after;
+        Some(element)
+    })
+}
+
 /// Header and body, the length right.
 pub fn element(identifier: u8, body: &[u8]) -> Vec<u8> {
     let length = (body.len() + 3) as u16;

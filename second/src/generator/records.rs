@@ -6,7 +6,7 @@ use crate::element::{read_description, read_element};
 use crate::pins::Pin;
 use crate::random::Random;
 use crate::record::*;
-use crate::settings::Chip;
+use crate::settings::{Chip, Rules, Settings};
 use crate::units::FourMilliamps;
 
 /// Values around the ends of the fields of 3, 4 and 7 bits.
@@ -14,7 +14,7 @@ const EDGES: [u8; 14] = [0, 1, 2, 3, 4, 5, 6, 7, 15, 16, 127, 128, 254, 255];
 
 /// The description of an accepted table, at times bent; its pins are of this chip.
 pub fn some_description(random: &mut Random, pins: Chip) -> Description {
-    let mut description = read_description(&valid(random, pins), pins);
+    let mut description = read_description(&valid(random, pins.into()), pins);
     for _ in 0..random.below(3) {
         bend_description(random, pins, &mut description);
     }
@@ -34,7 +34,7 @@ fn bend_description(random: &mut Random, pins: Chip, description: &mut Descripti
     }
 }
 
-/// An element of an accepted table with its part, at times bent; its pins are of this chip.
+/// An element of a table of the archive with its part, at times bent; its pins are of this chip.
 pub fn some_element(random: &mut Random, pins: Chip) -> (Element, Vec<u8>) {
     let (mut element, mut part) = good_element(random, pins);
     for _ in 0..*random.pick(&[0, 0, 1, 1, 2]) {
@@ -46,9 +46,10 @@ pub fn some_element(random: &mut Random, pins: Chip) -> (Element, Vec<u8>) {
     (element, part)
 }
 
+/// An element of a table of the archive, so that a bus device may be in block mode.
 pub fn good_element(random: &mut Random, pins: Chip) -> (Element, Vec<u8>) {
     loop {
-        let table = valid(random, pins);
+        let table = valid(random, Settings::new(pins, Rules::Archive));
         let elements: Vec<&[u8]> = walk(&table).map(|(_, bytes)| bytes).collect();
         if elements.is_empty() {
             continue;

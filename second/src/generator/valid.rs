@@ -5,7 +5,7 @@ use super::raw::{self, Parts};
 use crate::answer::LARGEST_TABLE;
 use crate::element::id;
 use crate::random::Random;
-use crate::settings::Chip;
+use crate::settings::{Chip, Rules, Settings};
 
 /// The eight kinds that stand in a zone.
 pub const DEVICES: [u8; 8] = [
@@ -51,26 +51,26 @@ struct Plan {
     near: bool,
 }
 
-/// A table that this chip accepts, as its parts.
-pub fn valid_parts(random: &mut Random, chip: Chip) -> Parts {
+/// A table that is accepted with these settings, as its parts.
+pub fn valid_parts(random: &mut Random, settings: Settings) -> Parts {
     let plan = plan(random);
-    build(random, chip, &plan)
+    build(random, settings, &plan)
 }
 
-/// A table that the 320 accepts, rather with pins around the four that the 321 lacks.
-pub fn valid_near(random: &mut Random) -> Vec<u8> {
+/// A table that the 320 accepts by these rules, rather with pins around the four that the 321 lacks.
+pub fn valid_near(random: &mut Random, rules: Rules) -> Vec<u8> {
     let mut plan = plan(random);
     plan.near = true;
-    build(random, Chip::F320, &plan).bytes()
+    build(random, Settings::new(Chip::F320, rules), &plan).bytes()
 }
 
-/// A table that this chip accepts.
-pub fn valid(random: &mut Random, chip: Chip) -> Vec<u8> {
-    valid_parts(random, chip).bytes()
+/// A table that is accepted with these settings.
+pub fn valid(random: &mut Random, settings: Settings) -> Vec<u8> {
+    valid_parts(random, settings).bytes()
 }
 
-/// A table of exactly 4,096 bytes with all ten kinds that this chip accepts.
-pub fn mixed(random: &mut Random, chip: Chip) -> Vec<u8> {
+/// A table of exactly 4,096 bytes with all ten kinds that is accepted with these settings.
+pub fn mixed(random: &mut Random, settings: Settings) -> Vec<u8> {
     let zones = random.between(1, 12);
     let strings = random.between(4, 20);
     let plan = Plan {
@@ -83,12 +83,12 @@ pub fn mixed(random: &mut Random, chip: Chip) -> Vec<u8> {
         exact: true,
         near: false,
     };
-    build(random, chip, &plan).bytes()
+    build(random, settings, &plan).bytes()
 }
 
-/// A table of so many elements, 1 to 96, that this chip accepts: all kinds from 10 on, some 42 bytes to
-/// each.
-pub fn mixed_of(random: &mut Random, elements: usize, chip: Chip) -> Vec<u8> {
+/// A table of so many elements, 1 to 96, that is accepted with these settings: all kinds from 10 on, some 42
+/// bytes to each.
+pub fn mixed_of(random: &mut Random, elements: usize, settings: Settings) -> Vec<u8> {
     let zones = 1 + (elements - 1) / 12;
     let strings = elements / 8;
     let plan = Plan {
@@ -101,7 +101,7 @@ pub fn mixed_of(random: &mut Random, elements: usize, chip: Chip) -> Vec<u8> {
         exact: strings > 0,
         near: false,
     };
-    build(random, chip, &plan).bytes()
+    build(random, settings, &plan).bytes()
 }
 
 fn plan(random: &mut Random) -> Plan {
@@ -151,8 +151,8 @@ fn kinds(random: &mut Random) -> Vec<u8> {
         .collect()
 }
 
-fn build(random: &mut Random, chip: Chip, plan: &Plan) -> Parts {
-    let mut pool = Pool::new(random, chip, plan.zones, plan.strings);
+fn build(random: &mut Random, settings: Settings, plan: &Plan) -> Parts {
+    let mut pool = Pool::new(random, settings, plan.zones, plan.strings);
     if plan.near {
         pool.stay_near();
     }
@@ -180,10 +180,11 @@ fn build(random: &mut Random, chip: Chip, plan: &Plan) -> Parts {
     }
 }
 
-/// A table of exactly 4,096 bytes that this chip accepts: one zone descriptor and then 09h elements only.
-pub fn controllers(random: &mut Random, chip: Chip) -> Vec<u8> {
+/// A table of exactly 4,096 bytes that is accepted with these settings: one zone descriptor and then 09h
+/// elements only.
+pub fn controllers(random: &mut Random, settings: Settings) -> Vec<u8> {
     // The last pin of port 2.
-    let last_of_port = match chip {
+    let last_of_port = match settings.chip {
         Chip::F320 => 0x27,
         Chip::F321 => 0x23,
     };
@@ -200,7 +201,7 @@ pub fn controllers(random: &mut Random, chip: Chip) -> Vec<u8> {
     let zone = random.byte();
     let mut elements = vec![raw::zone(zone, 0)];
     for list in &blocks {
-        let bus = random.below(4) as u8;
+        let bus = *random.pick(settings.rules.buses());
         let address = if bus == 3 {
             *random.pick(&[0x14, 0x15, last_of_port, 0x30, 0x05])
         } else {

@@ -5,7 +5,8 @@ use crate::answer::Refusal;
 use crate::element::read_description;
 use crate::pins::{name, Pin};
 use crate::record::{Description, Element};
-use crate::settings::Settings;
+use crate::rules::bus_in_use;
+use crate::settings::{Rules, Settings};
 
 /// The text for a table, accepted or refused.
 pub fn listing(table: &[u8], settings: Settings) -> Vec<u8> {
@@ -40,12 +41,16 @@ fn description_line(length: usize, description: &Description) -> String {
     )
 }
 
-/// `E`, offset, identifier, zone, own used pins.
+/// `E`, offset, identifier, zone, own used pins; in the archive `retired` behind an element in block mode.
 fn element_line(place: usize, element: &Element, part: &[u8]) -> String {
     let identifier = element.identifier();
     let zone = zone(element, part);
     let pins = pins(&own_pins(element));
-    format!("E\t{place}\t{identifier:02X}\t{zone}\t{pins}\n")
+    let retired = match bus_in_use(element, Rules::Ordinary) {
+        true => "",
+        false => "\tretired",
+    };
+    format!("E\t{place}\t{identifier:02X}\t{zone}\t{pins}{retired}\n")
 }
 
 /// Of a zone descriptor its own number; only strings have none.

@@ -70,7 +70,7 @@ fn check_description(table: &[u8], chip: Chip) -> Result<(), Refusal> {
     Ok(())
 }
 
-/// Each element from offset 16 is taken through 6, the 97th, 7, 8, 9, 10, the 13th zone and 12
+/// Each element from offset 16 is taken through 6, the 97th, 7, 8, 9, 23, 10, the 13th zone and 12
 /// before the next is looked at.
 fn pass(table: &[u8], settings: Settings) -> Result<Vec<Found<'_>>, Refusal> {
     let mut found: Vec<Found> = Vec::new();
@@ -106,7 +106,7 @@ fn cut(rest: &[u8]) -> Option<&[u8]> {
     Some(&rest[..length])
 }
 
-/// 7, 8, 9, 10 for one element.
+/// 7, 8, 9, 23, 10 for one element.
 fn judge(bytes: &[u8], settings: Settings) -> Result<(Element, &[u8]), u8> {
     if !id::ALL.contains(&bytes[0]) {
         return Err(number::IDENTIFIER);
@@ -117,6 +117,9 @@ fn judge(bytes: &[u8], settings: Settings) -> Result<(Element, &[u8]), u8> {
     }
     if !rules::codes_good(&element, part) {
         return Err(number::CODE);
+    }
+    if !rules::bus_in_use(&element, settings.rules) {
+        return Err(number::RETIRED);
     }
     if !rules::pins_good(&element, settings.chip) {
         return Err(number::PIN);

@@ -1,9 +1,9 @@
-//! Rules 7 to 12 for one element of each kind, over its bytes.
+//! Rules 7 to 12 and 23 for one element of each kind, over its bytes.
 
 use super::blocks::{register_blocks, speed_blocks};
 use super::seen::{Claims, Numbers};
 use super::sets::{
-    Pins, ANALOGUE, CHIP_SELECT, FAN_LIST, I2C_BUS, NO_PIN, REFERENCE, SPI_BUS, STATUS_LED,
+    Chosen, Pins, ANALOGUE, CHIP_SELECT, FAN_LIST, I2C_BUS, NO_PIN, REFERENCE, SPI_BUS, STATUS_LED,
 };
 use crate::answer::{number, MOST_ZONES};
 use crate::element::id;
@@ -15,18 +15,19 @@ pub fn take(
     identifier: u8,
     element: &[u8],
     rest: &[u8],
-    pins: Pins,
+    chosen: Chosen,
     numbers: &mut Numbers,
     claims: &mut Claims,
 ) -> u8 {
+    let pins = chosen.pins;
     match identifier {
-        id::DIGITAL_SENSOR => digital_sensor(element, pins, claims),
+        id::DIGITAL_SENSOR => digital_sensor(element, chosen, claims),
         id::ANALOGUE_SENSOR => analogue_sensor(element, pins, claims),
         id::FAN => fan(element, pins, claims),
         id::STATUS_LED => status_led(element, pins, claims),
         id::CURRENT => current(element, pins, claims),
-        id::CONTROLLER => controller(element, rest, pins, claims),
-        id::TACHOMETER => tachometer(element, pins, claims),
+        id::CONTROLLER => controller(element, rest, chosen, claims),
+        id::TACHOMETER => tachometer(element, chosen, claims),
         id::ZONE => zone(element, numbers),
         id::TEXT => text(element, numbers),
         id::RGB_LED => rgb_led(element, pins, claims),
@@ -34,17 +35,21 @@ pub fn take(
     }
 }
 
-/// Bus type (9), chip select (10) and the claims of a serial device: bytes 8 and 9.
+/// Bus type (9, then 23), chip select (10) and the claims of a serial device: bytes 8 and 9.
 ///
 /// Both kinds of bus are worked out and one is chosen, as the choice is hard to foretell.
 #[inline(always)]
-fn attachment(bus: u8, address: u8, pins: Pins, claims: &mut Claims) -> u8 {
+fn attachment(bus: u8, address: u8, chosen: Chosen, claims: &mut Claims) -> u8 {
     let bus = bus & 0x0F;
     if bus > 3 {
         return number::CODE;
     }
+    if bus == chosen.retired {
+        return number::RETIRED;
+    }
     let spi = bus == 3;
-    let select = select_unpredictable(spi, pins.bit(address) & CHIP_SELECT, NO_PIN);
+    let select = chosen.pins.bit(address) & CHIP_SELECT;
+    let select = select_unpredictable(spi, select, NO_PIN);
     if select == 0 {
         return number::PIN;
     }
@@ -54,11 +59,11 @@ fn attachment(bus: u8, address: u8, pins: Pins, claims: &mut Claims) -> u8 {
 }
 
 #[inline(always)]
-pub fn digital_sensor(element: &[u8], pins: Pins, claims: &mut Claims) -> u8 {
+pub fn digital_sensor(element: &[u8], chosen: Chosen, claims: &mut Claims) -> u8 {
     let Ok(e) = <&[u8; 21]>::try_from(element) else {
         return number::LAYOUT;
     };
-    attachment(e[8], e[9], pins, claims)
+    attachment(e[8], e[9], chosen, claims)
 }
 
 #[inline(always)]
@@ -143,7 +148,7 @@ pub fn current(element: &[u8], pins: Pins, claims: &mut Claims) -> u8 {
 }
 
 #[inline(always)]
-pub fn controller(element: &[u8], rest: &[u8], pins: Pins, claims: &mut Claims) -> u8 {
+pub fn controller(element: &[u8], rest: &[u8], chosen: Chosen, claims: &mut Claims) -> u8 {
     let Some(e) = element.first_chunk::<12>() else {
         return number::LAYOUT;
     };
@@ -151,18 +156,18 @@ pub fn controller(element: &[u8], rest: &[u8], pins: Pins, claims: &mut Claims) 
     if refusal != 0 {
         return refusal;
     }
-    attachment(e[8], e[9], pins, claims)
+    attachment(e[8], e[9], chosen, claims)
 }
 
 #[inline(always)]
-pub fn tachometer(element: &[u8], pins: Pins, claims: &mut Claims) -> u8 {
+pub fn tachometer(element: &[u8], chosen: Chosen, claims: &mut Claims) -> u8 {
     let Some((e, blocks)) = element.split_first_chunk::<12>() else {
         return number::LAYOUT;
     };
     if !register_blocks(blocks) {
         return number::LAYOUT;
     }
-    attachment(e[8], e[9], pins, claims)
+    attachment(e[8], e[9], chosen, claims)
 }
 
 #[inline(always)]

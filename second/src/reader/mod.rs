@@ -1,6 +1,6 @@
 //! The fast reader: the lent bytes are gone through once, without heap and without a copy.
 //!
-//! The pass takes each element through rules 6 to 12 and gathers sets of bits: zones and strings
+//! The pass takes each element through rules 6 to 12 and 23 and gathers sets of bits: zones and strings
 //! declared and named, pins claimed. Rules 13 to 15 are then answered from the sets at once; only
 //! a refusal needs a second walk for its place (`places`).
 
@@ -13,12 +13,12 @@ mod sets;
 use crate::answer::{number, Verdict, LARGEST_TABLE, MOST_ELEMENTS};
 use crate::settings::Settings;
 use seen::{Claims, Numbers};
-use sets::Pins;
+use sets::Chosen;
 
 /// What the pass came to: the number of elements, or a refusal with its place.
 type Passed = Result<usize, (u8, usize)>;
 
-/// The verdict on a whole table: rules 1 to 15 in the paper's order.
+/// The verdict on a whole table: rules 1 to 15, and 23 behind 9, in the papers' order.
 ///
 /// An entry point for benchmarks; never inlined, so that it is the call that is timed.
 #[inline(never)]
@@ -32,15 +32,15 @@ pub fn check(table: &[u8], settings: Settings) -> Verdict {
     if refusal != 0 {
         return refused(refusal, 0);
     }
-    let pins = Pins::of(settings.chip);
-    let bad = |&pin: &u8| pin != 0xFF && pins.bit(pin) == 0;
+    let chosen = Chosen::of(settings);
+    let bad = |&pin: &u8| pin != 0xFF && chosen.pins.bit(pin) == 0;
     if strapped && hardware.iter().any(bad) {
         return refused(number::PIN, 0);
     }
     if !strapped && table.len() == 16 {
         return bare(head[4]);
     }
-    with_elements(table, head, pins)
+    with_elements(table, head, chosen)
 }
 
 #[inline(always)]
@@ -77,14 +77,14 @@ fn bare(string: u8) -> Verdict {
 
 /// The rest, for a table whose description is good.
 #[inline(never)]
-fn with_elements(table: &[u8], head: &[u8; 16], pins: Pins) -> Verdict {
+fn with_elements(table: &[u8], head: &[u8; 16], chosen: Chosen) -> Verdict {
     let mut claims = Claims::new();
     for pin in [head[9], head[10], head[11]] {
-        claims.alone(pins.bit(pin));
+        claims.alone(chosen.pins.bit(pin));
     }
     let mut numbers = Numbers::new();
     numbers.strings_named.add(head[4]);
-    match pass(table, pins, &mut numbers, claims) {
+    match pass(table, chosen, &mut numbers, claims) {
         (Ok(count), claims) => finish(table, count, &mut numbers, &claims),
         (Err((number, place)), _) => refused(number, place),
     }
@@ -102,7 +102,7 @@ fn header(rest: &[u8]) -> Option<(u8, usize)> {
 
 /// The pass from offset 16, element by element.
 #[inline(always)]
-fn pass(table: &[u8], pins: Pins, numbers: &mut Numbers, claims: Claims) -> (Passed, Claims) {
+fn pass(table: &[u8], chosen: Chosen, numbers: &mut Numbers, claims: Claims) -> (Passed, Claims) {
     let mut claims = claims;
     let mut place = 16;
     let mut count = 0;
@@ -119,7 +119,7 @@ fn pass(table: &[u8], pins: Pins, numbers: &mut Numbers, claims: Claims) -> (Pas
             identifier,
             &rest[..length],
             rest,
-            pins,
+            chosen,
             numbers,
             &mut claims,
         );

@@ -1,6 +1,6 @@
-//! Sets of bits: which of 256 numbers, and which of 25 pins.
+//! Sets of bits: which of 256 numbers, and which of 25 pins; and what the settings come to.
 
-use crate::settings::Chip;
+use crate::settings::{Chip, Rules, Settings, BLOCK_MODE};
 
 /// A set of numbers 0 to 255.
 #[derive(Clone, Copy)]
@@ -64,6 +64,27 @@ impl Pins {
     #[inline(always)]
     pub fn bit(self, pin: u8) -> PinSet {
         self.0[usize::from(pin)]
+    }
+}
+
+/// What the settings come to.
+#[derive(Clone, Copy)]
+pub struct Chosen {
+    pub pins: Pins,
+    /// The bus type that is no longer in use, or one that no byte gives.
+    pub retired: u8,
+}
+
+impl Chosen {
+    #[inline(always)]
+    pub fn of(settings: Settings) -> Chosen {
+        Chosen {
+            pins: Pins::of(settings.chip),
+            retired: match settings.rules {
+                Rules::Ordinary => BLOCK_MODE,
+                Rules::Archive => 0xFF,
+            },
+        }
     }
 }
 

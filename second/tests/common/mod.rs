@@ -2,12 +2,13 @@
 #![allow(dead_code)]
 
 use second::generator::raw::{self, TABLE_A};
-use second::{plain, Chip, Settings, Verdict};
+use second::{plain, Chip, Rules, Settings, Verdict};
 
-pub const ON_320: Settings = Settings { chip: Chip::F320 };
-pub const ON_321: Settings = Settings { chip: Chip::F321 };
+pub const ON_320: Settings = Settings::new(Chip::F320, Rules::Ordinary);
+pub const ON_321: Settings = Settings::new(Chip::F321, Rules::Ordinary);
+pub const ARCHIVE: Settings = Settings::new(Chip::F320, Rules::Archive);
 
-/// Both readers answer this number with this place, or count beside 0, on both chips.
+/// Both readers answer this number with this place, or count beside 0, with all settings.
 #[track_caller]
 pub fn gives(table: &[u8], number: u8, beside: usize) {
     for chip in Chip::BOTH {
@@ -15,9 +16,24 @@ pub fn gives(table: &[u8], number: u8, beside: usize) {
     }
 }
 
-/// The same on one chip.
+/// The same on one chip, by both rules.
 #[track_caller]
 pub fn gives_on(chip: Chip, table: &[u8], number: u8, beside: usize) {
+    for rules in Rules::BOTH {
+        gives_with(Settings::new(chip, rules), table, number, beside);
+    }
+}
+
+/// The same by one of the rules, on both chips.
+#[track_caller]
+pub fn gives_by(rules: Rules, table: &[u8], number: u8, beside: usize) {
+    for chip in Chip::BOTH {
+        gives_with(Settings::new(chip, rules), table, number, beside);
+    }
+}
+
+#[track_caller]
+fn gives_with(settings: Settings, table: &[u8], number: u8, beside: usize) {
     let wanted = match number {
         0 => Verdict::Accepted(beside),
         _ => Verdict::Refused {
@@ -25,16 +41,15 @@ pub fn gives_on(chip: Chip, table: &[u8], number: u8, beside: usize) {
             place: beside,
         },
     };
-    let settings = Settings::from(chip);
     assert_eq!(
         second::check(table, settings),
         wanted,
-        "fast, {chip:?}: {table:02X?}"
+        "fast, {settings}: {table:02X?}"
     );
     assert_eq!(
         plain::check(table, settings),
         wanted,
-        "plain, {chip:?}: {table:02X?}"
+        "plain, {settings}: {table:02X?}"
     );
 }
 

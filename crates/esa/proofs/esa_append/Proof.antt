@@ -1,7 +1,5 @@
 -- `esa_append` meets its contract: the element is the one in the numbers, or none, and no value is too large.
 -- Assumes nothing.
-use mathlib.Core.Path.{ap}
-use Rattle.format.specs.declared.settings.Settings.{Settings}
 use Rattle.esa.proofs.Joining.{append-bound, appended-for, unknown-for}
 use borrow.Author.Needs.{needs}
 use Rattle.esa.proofs.esa_append.Statement.{statement}
@@ -14,12 +12,12 @@ returns : tie.Need-returns
 returns c =
     let a = c .before .before .before in
     let e = a .before .before .before in
-    rw (← (ap (λ (s : Settings). s .chip) (c .before .before .before .before .before .before .before .before .before .settings-of .ensures)))
+    rw (← (e .before .before .before .chip-of .ensures))
     (appended-for _ _ _ _ _ _ (e .before .before .element .ensures) _ _ _ _ (e .e .given .1) (a .append .ensures) (c .written .ensures))
 
 returns-2 : tie.Need-returns-2
 returns-2 c =
-    rw (← (ap (λ (s : Settings). s .chip) (c .before .before .before .settings-of .ensures)))
+    rw (← (c .before .before .before .chip-of .ensures))
     (unknown-for _ _ _ _ _ _ (c .before .before .element .ensures) (c .enum-told .given .1))
 
 pub esa-append-spec : {M : Type 1} → statement M

@@ -11,7 +11,7 @@ written-requires c κs = rewrite-bound _ _ _ _ _ (c .before .before .rewrite .en
 returns : tie.Need-returns
 returns c =
     let w = c .before .before .before in
-    rw (← (w .before .settings-of .ensures))
+    rw (← (w .before .chip-of .ensures))
     (record { answer = w .rewrite .result; rewritten = w .rewrite .ensures; number = c .written .ensures })
 
 pub esa-rewrite-spec : {M : Type 1} → statement M

@@ -1,7 +1,5 @@
 -- `esa_start` meets its contract: the description is the one in the numbers, and no value is too large.
 -- Assumes nothing.
-use mathlib.Core.Path.{ap}
-use Rattle.format.specs.declared.settings.Settings.{Settings}
 use Rattle.esa.proofs.Joining.{start-bound, started-for}
 use borrow.Author.Needs.{needs}
 use Rattle.esa.proofs.esa_start.Statement.{statement}
@@ -13,7 +11,7 @@ written-requires c κs = start-bound _ _ _ _ _ (c .before .before .start .ensure
 returns : tie.Need-returns
 returns c =
     let s = c .before .before .before in
-    rw (← (ap (λ (s : Settings). s .chip) (c .before .before .before .before .before .before .settings-of .ensures)))
+    rw (← (s .before .before .before .chip-of .ensures))
     (started-for _ _ _ _ _ _ _ (s .before .description .ensures) (s .start .ensures) (c .written .ensures))
 
 pub esa-start-spec : {M : Type 1} → statement M

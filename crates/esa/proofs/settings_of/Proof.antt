@@ -1,15 +1,11 @@
--- `settings_of` meets its contract: the branch taken tells the test.
+-- `settings_of` meets its contract: the chip and the rules that the number says.
 -- Assumes nothing.
-use borrow.Author.Tests.{eq-eqb, ne-eqb}
 use borrow.Author.Needs.{needs}
 use Rattle.esa.proofs.settings_of.Statement.{statement}
 use Rattle.esa.proofs.settings_of.Tie as tie
 
 returns : tie.Need-returns
-returns c = rw (eq-eqb _ _ (c .if1 .taken))
-
-returns-2 : tie.Need-returns-2
-returns-2 c = rw (ne-eqb _ _ (c .if1 .left))
+returns c = rw (c .before .chip-of .ensures, c .rules-of .ensures)
 
 pub settings-of-spec : {M : Type 1} → statement M
-settings-of-spec = tie.close (tie.spec returns returns-2)
+settings-of-spec = tie.close (tie.spec (λ c κs. search needs) (λ c κs. search needs) returns)

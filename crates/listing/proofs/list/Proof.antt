@@ -7,7 +7,7 @@ use borrow.Author.Needs.{needs}
 use Rattle.reader.proofs.Asking.{handed, long}
 use Rattle.walking.specs.Walk.{Walk}
 use Rattle.walking.proofs.Left.{top, here}
-use Rattle.listing.proofs.Turn.{Lined, refusal, begun, room, turned, whole}
+use Rattle.listing.proofs.Turn.{Lined, refusal, begun, room, unpinned, turned, whole}
 use Rattle.listing.proofs.list.Statement.{statement}
 use Rattle.listing.proofs.list.Tie as tie
 
@@ -43,8 +43,10 @@ part-at-requires c κs =
 put-element-requires : tie.Need-put-element-requires Inv-loop μ-loop
 put-element-requires c κs =
     let t = c .before .before .before in
-    let l = t .before in
-    omega (arith, room _ _ _ _ _ _ _ (l .loop .inv) (t .loop-test .taken) (l .before .put-table .ensures .1), c .before .put-element-arg .given)
+    let l = t .before in (
+      omega (arith, room _ _ _ _ _ _ _ (l .loop .inv) (t .loop-test .taken) (l .before .put-table .ensures .1), c .before .put-element-arg .given),
+      unpinned _ _ _ _ _ _ _ (l .loop .inv) _ (t .loop-test .taken) (c .before .before .element-at .ensures),
+    )
 
 length-at-requires : tie.Need-length-at-requires Inv-loop μ-loop
 length-at-requires c κs =

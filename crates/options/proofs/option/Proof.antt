@@ -9,13 +9,16 @@ returns : tie.Need-returns
 returns c = rw (c .before .enum-told .given .1, c .wants-chip .ensures) refl
 
 returns-2 : tie.Need-returns-2
-returns-2 c = rw (c .enum-told2 .given .1) refl
+returns-2 c = rw (c .before .enum-told2 .given .1, c .archived .ensures) refl
 
 returns-3 : tie.Need-returns-3
 returns-3 c = rw (c .enum-told3 .given .1) refl
 
 returns-4 : tie.Need-returns-4
 returns-4 c = rw (c .enum-told4 .given .1) refl
+
+returns-5 : tie.Need-returns-5
+returns-5 c = rw (c .enum-told5 .given .1) refl
 
 pub option-spec : {M : Type 1} → statement M
 option-spec =
@@ -24,9 +27,12 @@ option-spec =
     (λ c. search needs)
     (λ c κs. search needs)
     (λ c. search needs)
+    (λ c κs. search needs)
+    (λ c. search needs)
     (λ c. search needs)
     (λ c. search needs)
     returns
     returns-2
     returns-3
-    returns-4)
+    returns-4
+    returns-5)

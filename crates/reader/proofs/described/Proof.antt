@@ -17,7 +17,7 @@ elements-requires : tie.Need-elements-requires
 elements-requires c κs =
     let d = c .before .before .before in
     let p = d .before .before .pre in
-    let s = good-strapped _ (now (d .before .before .args .t)) _ _ (d .description .ensures) (c .before .before .description-breaks .ensures) (c .before .if1 .left) in
+    let s = good-strapped (d .before .before .args .settings) (now (d .before .before .args .t)) _ _ (d .description .ensures) (c .before .before .description-breaks .ensures) (c .before .if1 .left) in
     (p .0, p .1, p .2, rw (d .description .ensures) at (c .first-claims .ensures _ s))
 
 returns-2 : tie.Need-returns-2

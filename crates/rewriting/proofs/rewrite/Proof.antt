@@ -6,6 +6,7 @@ use mathlib.Core.Path.{_≡_, refl}
 use lib.ListN.{length}
 use borrow.Author.Needs.{needs}
 use Rattle.reader.proofs.Asking.{handed, long}
+use Rattle.format.specs.Writing.{writing}
 use Rattle.walking.specs.Walk.{Walk}
 use Rattle.walking.proofs.Left.{top, here}
 use Rattle.rewriting.specs.Again.{refused}
@@ -14,10 +15,10 @@ use Rattle.rewriting.proofs.rewrite.Statement.{statement}
 use Rattle.rewriting.proofs.rewrite.Tie as tie
 
 abbrev Inv-loop : tie.InvT-loop
-Inv-loop table out₀ σ at₀ out at = (length out ≡ length out₀) × Walk σ table at (Ran (σ .chip) out₀ out)
+Inv-loop table out₀ chip at₀ out at = (length out ≡ length out₀) × Walk (writing chip) table at (Ran chip out₀ out)
 
 abbrev μ-loop : tie.MeasureT-loop
-μ-loop table out₀ σ at₀ out at = length table - at
+μ-loop table out₀ chip at₀ out at = length table - at
 
 returns : tie.Need-returns Inv-loop μ-loop
 returns c = refused (handed _ _ _ (c .before .before .before .check .ensures) (c .before .enum-told2 .given .1) (c .handed-on .ensures))

@@ -10,11 +10,12 @@ use Rattle.rules.proofs.device_breaks.Tie as tie
 returns : tie.Need-returns
 returns c =
     let select = c .before .selected .ensures in
-    let bus = c .before .before .addressed in
+    let used = c .before .before .in-use .ensures in
+    let bus = c .before .before .before .addressed in
     record {
-      of-controller = λ bs s f. c .own-breaks .ensures _ (controller _ bs) (sym s) (rw (bus .ensures, f) refl) select;
-      of-tachometer = λ a b e. c .own-breaks .ensures _ (tachometer _ a b) refl (rw (e, and-true (bus .result)) (bus .ensures)) select;
+      of-controller = λ bs s f. c .own-breaks .ensures _ (controller _ bs) (sym s) (rw (bus .ensures, f) refl) used select;
+      of-tachometer = λ a b e. c .own-breaks .ensures _ (tachometer _ a b) refl (rw (e, and-true (bus .result)) (bus .ensures)) used select;
     }
 
 pub device-breaks-spec : {M : Type 1} → statement M
-device-breaks-spec = tie.close (tie.spec (search needs) (search needs) (search needs) returns)
+device-breaks-spec = tie.close (tie.spec (search needs) (search needs) (search needs) (search needs) returns)

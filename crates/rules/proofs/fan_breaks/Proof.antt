@@ -11,6 +11,7 @@ returns c =
     let tested = c .before in
     c .own-breaks .ensures _ (fan _) refl
     (rw (tested .before .before .before .before .unused .ensures) refl)
+    refl
     (rw (tested .rises .ensures, tested .before .allowed-or-unused .ensures, tested .before .before .allowed .ensures) refl)
 
 pub fan-breaks-spec : {M : Type 1} → statement M

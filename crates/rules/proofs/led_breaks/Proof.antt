@@ -12,6 +12,7 @@ returns c =
     let lit = tested .before .before .before in
     c .own-breaks .ensures _ (led _) refl
     (rw (lit .coloured3 .ensures, lit .before .coloured2 .ensures, lit .before .before .coloured .ensures) refl)
+    refl
     (rw (tested .allowed-or-unused3 .ensures, tested .before .allowed-or-unused2 .ensures, tested .before .before .allowed-or-unused .ensures) refl)
 
 pub led-breaks-spec : {M : Type 1} → statement M

@@ -9,8 +9,9 @@ use Rattle.rules.proofs.own_breaks.Tie as tie
 returns : tie.Need-returns
 unfolding ownRules
 returns c =
-    λ t x s d p.
-    rw (c .or-else3 .ensures, c .before .or-else2 .ensures, c .before .before .or-else .ensures, s, d, p) (simp numbering)
+    λ t x s d u p.
+    rw (c .or-else4 .ensures, c .before .or-else3 .ensures, c .before .before .or-else2 .ensures, c .before .before .before .or-else .ensures, s, d, u, p)
+    (simp numbering)
 
 pub own-breaks-spec : {M : Type 1} → statement M
-own-breaks-spec = tie.close (tie.spec (search needs) (search needs) (search needs) returns)
+own-breaks-spec = tie.close (tie.spec (search needs) (search needs) (search needs) (search needs) returns)

@@ -9,7 +9,7 @@ use Rattle.rules.proofs.rgb_breaks.Tie as tie
 returns : tie.Need-returns
 returns c =
     let third = c .before .before .before .before .before in
-    c .own-breaks .ensures _ (rgb _) refl refl
+    c .own-breaks .ensures _ (rgb _) refl refl refl
     (rw (third .allowed3 .ensures, third .before .allowed2 .ensures, third .before .before .allowed .ensures) refl)
 
 pub rgb-breaks-spec : {M : Type 1} → statement M

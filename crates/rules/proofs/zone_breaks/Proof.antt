@@ -10,7 +10,7 @@ use Rattle.rules.proofs.zone_breaks.Statement.{statement}
 use Rattle.rules.proofs.zone_breaks.Tie as tie
 
 returns : tie.Need-returns
-returns c = λ s. c .own-breaks .ensures s (zone _) (zone-size (length (now (c .before .before .args .part)))) refl refl
+returns c = λ s. c .own-breaks .ensures s (zone _) (zone-size (length (now (c .before .before .args .part)))) refl refl refl
 
 pub zone-breaks-spec : {M : Type 1} → statement M
 zone-breaks-spec = tie.close (tie.spec (search needs) returns)

@@ -1,4 +1,4 @@
--- `append_verdict` meets its contract: 1, 3, 25, 8, 9, 10, 16 in that order.
+-- `append_verdict` meets its contract: 1, 3, 25, 8, 9, 23, 10, 16 in that order.
 -- Assumes nothing.
 use mathlib.Core.Path.{sym, _∙_}
 use borrow.Author.Needs.{needs}

@@ -94,7 +94,7 @@ fn reserved_places(cases: &mut Vec<Case>) {
     analogue[8] = 0xF1;
     let mut current = raw::current(1, 0x23);
     current[9] = 0xFF;
-    let mut controller = raw::controller(1, 0xF2, 0x41, &[1]);
+    let mut controller = raw::controller(1, 0xF1, 0x41, &[1]);
     controller[10] = 0xFF;
     let mut tachometer = raw::tachometer(1, 0xF3, 0x24, 1, 1);
     tachometer[10..12].fill(0xFF);

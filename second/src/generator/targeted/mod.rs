@@ -9,6 +9,7 @@ mod description;
 mod layouts;
 mod names;
 mod pins;
+mod retired;
 
 use super::raw;
 use std::sync::OnceLock;
@@ -29,6 +30,7 @@ pub fn targeted() -> &'static [Case] {
         names::cases(&mut cases);
         claims::cases(&mut cases);
         chips::cases(&mut cases);
+        retired::cases(&mut cases);
         cases
     })
 }
@@ -57,7 +59,7 @@ fn devices() -> Vec<(&'static str, Vec<u8>)> {
         ("controller", raw::controller(1, 1, 0x40, &[1])),
         (
             "controller of two blocks",
-            raw::controller(1, 2, 0x40, &[2, 1]),
+            raw::controller(1, 0, 0x40, &[2, 1]),
         ),
         ("tachometer", raw::tachometer(1, 0, 0x40, 1, 2)),
         ("RGB", raw::rgb(1, 0x06, 0x11, 0x13)),
