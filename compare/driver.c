@@ -30,6 +30,8 @@ __attribute__((weak)) number esa_block(const byte *part, number length, number j
 __attribute__((weak)) number esa_pair(const byte *part, number length, number j, number i);
 __attribute__((weak)) number esa_entries(const byte *part, number length, number w);
 __attribute__((weak)) number esa_entry(const byte *part, number length, number w, number i);
+__attribute__((weak)) number esa_colours(const byte *part, number length, number w);
+__attribute__((weak)) number esa_colour(const byte *part, number length, number w, number i);
 
 enum { CHECK = 0, ELEMENT = 1, PART = 2, START = 3, APPEND = 4, REWRITE = 5, LIST = 6, READINGS = 7 };
 /* exit status; TOUCHED: bytes in front of the buffer, the numbers, the part or the table have changed */
@@ -172,6 +174,8 @@ static number reading(byte which, const byte *lent, number length, number a, num
     case 5: return esa_pair ? esa_pair(lent, length, a, b) : NO_SUCH_CALL;
     case 6: return esa_entries ? esa_entries(lent, length, a) : NO_SUCH_CALL;
     case 7: return esa_entry ? esa_entry(lent, length, a, b) : NO_SUCH_CALL;
+    case 8: return esa_colours ? esa_colours(lent, length, a) : NO_SUCH_CALL;
+    case 9: return esa_colour ? esa_colour(lent, length, a, b) : NO_SUCH_CALL;
     default: return NO_SUCH_CALL;
     }
 }

@@ -43,7 +43,7 @@ enum esa_numbers {
     ESA_DEVICE_TYPE = 4,       /* device type not 1, 2 or 3; 0 */
     ESA_POWER = 5,             /* SPWR 0 and power units over 125; 0 */
     ESA_ELEMENT_LENGTH = 6,    /* no room for a header, or an element length under 3 or past the end; element */
-    ESA_IDENTIFIER = 7,        /* not one of the ten identifiers; element. Of append: 0 */
+    ESA_IDENTIFIER = 7,        /* not one of the fourteen identifiers; element. Of append: 0 */
     ESA_LAYOUT = 8,            /* the length differs from the layout, or the blocks do not fill it; element */
     ESA_CODE = 9,              /* a reserved code or a number that no rule allows in its field; element */
     ESA_PIN = 10,              /* a pin that does not exist, is not on the chip, is not permitted, or out of order; element, or
@@ -70,7 +70,7 @@ static inline const char *esa_words(unsigned number)
     case ESA_DEVICE_TYPE: return "the device type is not 1, 2 or 3";
     case ESA_POWER: return "more than 125 power units without SPWR";
     case ESA_ELEMENT_LENGTH: return "an element is cut short, or its length is under 3 or past the end";
-    case ESA_IDENTIFIER: return "the identifier is none of the ten that are taken";
+    case ESA_IDENTIFIER: return "the identifier is none of the fourteen";
     case ESA_LAYOUT: return "the length of an element is not that of its layout";
     case ESA_CODE: return "a reserved code, or a number that no rule allows there";
     case ESA_PIN: return "a pin that does not exist, is not on the chip, is not permitted there, or stands out of order";
@@ -104,10 +104,13 @@ enum { ESA_C8051F320 = 0, ESA_C8051F321 = 1, ESA_ARCHIVE = 2 };
                      8-9 LSB register, 10-11 MSB register, 12-13 minimum value, 14 minimum temperature, 15-16 maximum value,
                      17 maximum temperature
      02h             5 thermal type, 6 pin, 7-8, 9-10, 11-12, 13-14, 15-16 counts at 0, 25, 50, 75, 100 degrees
-     03h             5 PWM pin, 6 tachometer pin, 7 PPR, 8-9 minimum RPM, 10-11 maximum RPM, 12 minimum duty cycle
+     03h, 06h        5 PWM pin, 6 tachometer pin, 7 PPR, 8-9 minimum RPM, 10-11 maximum RPM, 12 minimum duty cycle
      04h             5 pin, 6 colour, 7 purpose of the first lamp; 8, 9, 10 of the second; 11, 12, 13 of the third
+     05h             5 pin, 6-7 FULL, 8-9 EMPTY, 10-11 WARNING (counts)
+     07h             5 pin, 6 VMAX, 7 VMIN (decivolts)
      08h             5 pin, 6-7 IMIN, 8-9 IMAX (deciamps)
      09h, 0Ah        5 bus type, 6 kind of address, 7 address
+     0Dh             5 bus type, 6 kind of address, 7 address, 8 chip identifier
      0Eh             5 red pin, 6 green pin, 7 blue pin
    0Bh, 0Ch          none when written: their part is the whole record. Read: of 0Bh 0 the zone's number, 1 its string;
                      of 0Ch 0 the string's number */
@@ -133,7 +136,7 @@ uint64_t esa_element(const uint8_t *table, size_t length, size_t k, uint64_t set
    a refusal no byte of 'numbers' alters. */
 uint64_t esa_fields(const uint8_t *table, size_t length, size_t k, uint64_t settings, uint8_t numbers[ESA_NUMBERS]);
 
-/* How long is the variable part of element k? These are the last bytes of the element: the blocks of 09h and 0Ah, all bytes
+/* How long is the variable part of element k? These are the last bytes of the element: the blocks of 09h, 0Ah and 0Dh, all bytes
    after the header of a string or a zone descriptor, none of the others. 0 also where esa_element refuses. */
 size_t esa_part_length(const uint8_t *table, size_t length, size_t k, uint64_t settings);
 
@@ -164,6 +167,10 @@ uint64_t esa_pair(const uint8_t *part, size_t length, size_t j, size_t i);
    its register pair i the address, and 65,536 times the data. */
 uint64_t esa_entries(const uint8_t *part, size_t length, size_t w);
 uint64_t esa_entry(const uint8_t *part, size_t length, size_t w, size_t i);
+
+/* The same of the part of 0Dh, whose block w is 0 for red, 1 for green and 2 for blue. */
+uint64_t esa_colours(const uint8_t *part, size_t length, size_t w);
+uint64_t esa_colour(const uint8_t *part, size_t length, size_t w, size_t i);
 
 static inline uint16_t esa_address(uint64_t answer)
 {
@@ -201,17 +208,21 @@ uint64_t esa_append(uint8_t *buffer, size_t length, uint8_t id, uint64_t setting
    gives it by the ordinary rules, or 16 at 0 when 'room' is under the table's length; with either no byte of 'out' alters. */
 uint64_t esa_rewrite(const uint8_t *table, size_t length, uint64_t settings, uint8_t *out, size_t room);
 
-/* NAMES. The ten identifiers, the bounds, and how a pin and a number of two or four bytes are put. */
+/* NAMES. The fourteen identifiers, the bounds, and how a pin and a number of two or four bytes are put. */
 enum esa_identifiers {
     ESA_DIGITAL_SENSOR = 0x01,
     ESA_ANALOGUE_SENSOR = 0x02,
     ESA_PWM_FAN = 0x03,
     ESA_STATUS_LED = 0x04,
+    ESA_WATER_LEVEL = 0x05,
+    ESA_PWM_PUMP = 0x06,
+    ESA_VOLTAGE = 0x07,
     ESA_CURRENT = 0x08,
     ESA_PWM_CONTROLLER = 0x09,
     ESA_TACHOMETER = 0x0A,
     ESA_ZONE = 0x0B,
     ESA_STRING = 0x0C,
+    ESA_EXTERNAL_RGB_LED = 0x0D,
     ESA_RGB_LED = 0x0E
 };
 enum { ESA_SHORTEST = 16, ESA_LONGEST = 4096, ESA_UNUSED_PIN = 0xFF };
@@ -223,11 +234,15 @@ static inline const char *esa_kind(unsigned id)
     case ESA_ANALOGUE_SENSOR: return "analogue thermal sensor";
     case ESA_PWM_FAN: return "PWM fan";
     case ESA_STATUS_LED: return "status LED";
+    case ESA_WATER_LEVEL: return "water level sensor";
+    case ESA_PWM_PUMP: return "PWM pump";
+    case ESA_VOLTAGE: return "voltage sensor";
     case ESA_CURRENT: return "current sensor";
     case ESA_PWM_CONTROLLER: return "external PWM controller";
     case ESA_TACHOMETER: return "external tachometer";
     case ESA_ZONE: return "zone descriptor";
     case ESA_STRING: return "string";
+    case ESA_EXTERNAL_RGB_LED: return "external RGB LED";
     case ESA_RGB_LED: return "RGB LED";
     default: return "no element";
     }

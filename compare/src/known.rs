@@ -79,7 +79,12 @@ pub fn rows() -> Vec<Row> {
     let mut rows = four_pins();
     rows.extend(Chip::BOTH.into_iter().flat_map(block_mode));
     for settings in Settings::ALL {
-        let lists = [descriptions(), elements(), elements_asked_for()];
+        let lists = [
+            descriptions(),
+            elements(),
+            elements_asked_for(),
+            water_kits(),
+        ];
         rows.extend(lists.into_iter().flatten().map(|row| on(settings, row)));
     }
     rows
@@ -131,6 +136,46 @@ fn four_pins() -> Vec<Row> {
     rows.extend(alone("A, LED on P2.4", lit(0x24), 16, 2));
     rows.extend(alone("A, LED on P2.7", lit(0x27), 16, 2));
     rows
+}
+
+/// Not rows of the list itself: the four kinds of 02, 1/14, by 000's Tables 18, 19, 27 and 28.
+fn water_kits() -> Vec<Row> {
+    let level = |at: usize, high: u8| {
+        let good = [
+            0x05, 15, 0, 0, 0xFF, 0xFF, 0xFF, 1, 0x14, 0xFF, 3, 0, 0, 0x40, 1,
+        ];
+        with(&[&changed(&good, &[(at, high)]), &ZONE_1])
+    };
+    let pump = |tachometer: u8| {
+        let bytes = changed(&F, &[(0, 0x06), (9, tachometer)]);
+        with(&[&bytes, &ZONE_1])
+    };
+    let volts = |length: u8| {
+        let bytes = [0x07, length, 0, 0, 0xFF, 0xFF, 0xFF, 1, 0x14, 140, 0, 0];
+        with(&[&bytes[..usize::from(length)], &ZONE_1])
+    };
+    let external = |chip: u8, entries: u8| {
+        let bytes = [
+            0x0D, 19, 0, 0, 0xFF, 0xFF, 0xFF, 1, 0, 0x40, 0, chip, 0, entries, 7, 0, 1, 0, 0,
+        ];
+        with(&[&bytes, &ZONE_1])
+    };
+    vec![
+        row("water level, FULL 1023", level(10, 3), 0, 2),
+        row("water level, FULL 1279", level(10, 4), 9, 16),
+        row("water level, WARNING 1088", level(14, 4), 9, 16),
+        row("pump", pump(0x06), 0, 2),
+        row("pump, PPR without tachometer", pump(0xFF), 9, 16),
+        row("pump, one pin twice", pump(0x05), 10, 16),
+        row("14 volts", volts(11), 0, 2),
+        row("volts in 10 bytes", volts(10), 8, 16),
+        row("volts in 12 bytes", volts(12), 8, 16),
+        row("external RGB, chip 1", external(1, 1), 0, 2),
+        row("external RGB, chip 3", external(3, 1), 0, 2),
+        row("external RGB, chip 0", external(0, 1), 9, 16),
+        row("external RGB, chip 4", external(4, 1), 9, 16),
+        row("external RGB, ENTRIES 2 of 1", external(1, 2), 8, 16),
+    ]
 }
 
 fn descriptions() -> Vec<Row> {

@@ -1,5 +1,6 @@
 /* A tour of the library from C: is a file a table, what stands in it, how a new one is written, and written again; a lamp that
-   one of the two chips has no pin for; and an old sensor that the archive's rules alone take.
+   one of the two chips has no pin for; an old sensor that the archive's rules alone take; and a lamp of three colours on a chip of
+   its own.
    tour [FILE]      without FILE it looks at a table of its own. On x86-64:
    rt staticlib esa && cc -std=c99 -I include examples/c/tour.c target/staticlib/libesa.a -o tour */
 #include <stdio.h>
@@ -123,6 +124,27 @@ static void sensor(uint8_t *buffer, size_t length, size_t written)
     list(buffer, esa_beside(answer), CHIP | ESA_ARCHIVE);
 }
 
+/* An RGB LED on a chip of its own, an NXP PCA9633 at the I2C address 62h. Its variable part has a block for each colour: the number
+   of its register pairs, and the pairs, each an address and the data. */
+static void colours(uint8_t *buffer, size_t length)
+{
+    static const char *const names[3] = { "red", "green", "blue" };
+    const uint8_t numbers[ESA_NUMBERS] = { 0, 0xFF, 0xFF, 0xFF, 1, 0, 0, 0x62, 2 }; /* zone 1, I2C, bus address, the chip */
+    const uint8_t part[15] = { 1, 2, 0, 0x40, 0, 2, 3, 0, 0x40, 0, 8, 0, 0xAA, 0, 0 };
+    uint64_t answer = esa_append(buffer, length, ESA_EXTERNAL_RGB_LED, CHIP, numbers, part, sizeof part);
+    if (!told("an RGB LED outside appended", answer, "bytes"))
+        return;
+    for (size_t w = 0; w < 3; w++) {
+        size_t count = esa_beside(esa_colours(part, sizeof part, w));
+        printf("  %s:", names[w]);
+        for (size_t i = 0; i < count; i++) {
+            uint64_t pair = esa_colour(part, sizeof part, w, i);
+            printf(" register %u is %u%s", (unsigned)esa_address(pair), (unsigned)esa_data(pair), i + 1 < count ? "," : "");
+        }
+        printf(count ? "\n" : " no register\n");
+    }
+}
+
 /* Writes a table again: the same table, but for its reserved places, which become zero. */
 static void again(const uint8_t *table, size_t length)
 {
@@ -163,7 +185,7 @@ int main(int count, char **arguments)
     list(table, length, CHIP);
 
     printf("\na table of our own\n");
-    uint8_t buffer[100];
+    uint8_t buffer[128];
     size_t written = build(buffer, sizeof buffer);
     told("is it a table", esa_check(buffer, written, CHIP), "elements");
 
@@ -176,5 +198,8 @@ int main(int count, char **arguments)
 
     printf("\nthe same with an old sensor\n");
     sensor(buffer, sizeof buffer, written);
+
+    printf("\nthe same with a lamp of three colours\n");
+    colours(buffer, sizeof buffer);
     return good ? 0 : 1;
 }

@@ -1,5 +1,6 @@
 //! A tour of the library from Rust: is a file a table, what stands in it, how a new one is written, and written again; a lamp
-//! that one of the two chips has no pin for; and an old sensor that the archive's rules alone take.
+//! that one of the two chips has no pin for; an old sensor that the archive's rules alone take; and a lamp of three colours on a
+//! chip of its own.
 //! tour [FILE]      without FILE it looks at a table of its own. On x86-64:
 //! rt staticlib esa && rustc --edition 2021 -L target/staticlib -l static=esa examples/rust/tour.rs
 
@@ -15,6 +16,7 @@ mod esa {
     pub const PWM_FAN: u8 = 0x03;
     pub const STATUS_LED: u8 = 0x04;
     pub const ZONE: u8 = 0x0B;
+    pub const EXTERNAL_RGB_LED: u8 = 0x0D;
     pub const UNUSED_PIN: u8 = 0xFF;
 
     /// The numbers of one record; include/esa.h says which stands where. Byte 31 is the chip of its pins.
@@ -64,6 +66,8 @@ mod esa {
                 numbers: &mut [u8; 32],
             ) -> u64;
             pub fn esa_part(table: *const u8, length: usize, k: usize, settings: u64) -> u64;
+            pub fn esa_colours(part: *const u8, length: usize, w: usize) -> u64;
+            pub fn esa_colour(part: *const u8, length: usize, w: usize, i: usize) -> u64;
             pub fn esa_start(
                 buffer: *mut u8,
                 length: usize,
@@ -140,6 +144,17 @@ mod esa {
         Ok(place..place + length)
     }
 
+    /// Of the part of an external RGB LED: how many register pairs there are for colour w (0 red, 1 green, 2 blue).
+    pub fn colours(part: &[u8], w: usize) -> Answer {
+        unpacked(unsafe { c::esa_colours(part.as_ptr(), part.len(), w) })
+    }
+
+    /// Its register pair i for colour w: address and data.
+    pub fn colour(part: &[u8], w: usize, i: usize) -> Result<(usize, usize), Refusal> {
+        let pair = unpacked(unsafe { c::esa_colour(part.as_ptr(), part.len(), w, i) })?;
+        Ok((pair & 0xFFFF, pair >> 16))
+    }
+
     /// The length of the table that is started.
     pub fn start(buffer: &mut [u8], chip: Chip, description: &Numbers) -> Answer {
         let (at, length) = (buffer.as_mut_ptr(), buffer.len());
@@ -200,7 +215,7 @@ fn words(number: u8) -> &'static str {
         4 => "the device type is not 1, 2 or 3",
         5 => "more than 125 power units without SPWR",
         6 => "an element is cut short, or its length is under 3 or past the end",
-        7 => "the identifier is none of the ten that are taken",
+        7 => "the identifier is none of the fourteen",
         8 => "the length of an element is not that of its layout",
         9 => "a reserved code, or a number that no rule allows there",
         10 => "a pin that does not exist, is not on the chip, is not permitted there, or stands out of order",
@@ -210,7 +225,7 @@ fn words(number: u8) -> &'static str {
         14 => "a string index has no string",
         15 => "a pin is claimed a second time",
         16 => "no room for it",
-        17 => "there is no such element",
+        17 => "there is no such element, block or pair",
         23 => "a bus type that is retired",
         25 => "a number is too large for its field",
         _ => "a number that no call gives",
@@ -223,11 +238,15 @@ fn kind(id: usize) -> &'static str {
         0x02 => "analogue thermal sensor",
         0x03 => "PWM fan",
         0x04 => "status LED",
+        0x05 => "water level sensor",
+        0x06 => "PWM pump",
+        0x07 => "voltage sensor",
         0x08 => "current sensor",
         0x09 => "external PWM controller",
         0x0A => "external tachometer",
         0x0B => "zone descriptor",
         0x0C => "string",
+        0x0D => "external RGB LED",
         0x0E => "RGB LED",
         _ => "no element",
     }
@@ -330,6 +349,28 @@ fn sensor(buffer: &mut [u8], written: usize) -> Result<(), esa::Refusal> {
     Ok(())
 }
 
+/// An RGB LED on a chip of its own, an NXP PCA9633 at the I2C address 62h. Its variable part has a block for each colour: the
+/// number of its register pairs, and the pairs, each an address and the data.
+fn colours(buffer: &mut [u8]) -> Result<(), esa::Refusal> {
+    let mut numbers: esa::Numbers = [0; 32];
+    numbers[..9].copy_from_slice(&[0, 0xFF, 0xFF, 0xFF, 1, 0, 0, 0x62, 2]); // zone 1, I2C, bus address, the chip
+    let part = [1, 2, 0, 0x40, 0, 2, 3, 0, 0x40, 0, 8, 0, 0xAA, 0, 0];
+    let answer = esa::append(buffer, esa::EXTERNAL_RGB_LED, CHIP, &numbers, &part);
+    told("an RGB LED outside appended", answer, "bytes")?;
+    for (w, name) in ["red", "green", "blue"].into_iter().enumerate() {
+        let mut pairs = Vec::new();
+        for i in 0..esa::colours(&part, w)? {
+            let (address, data) = esa::colour(&part, w, i)?;
+            pairs.push(format!("register {address} is {data}"));
+        }
+        if pairs.is_empty() {
+            pairs.push("no register".to_string());
+        }
+        println!("  {name}: {}", pairs.join(", "));
+    }
+    Ok(())
+}
+
 /// Writes a table again: the same table, but for its reserved places, which become zero.
 fn again(table: &[u8]) -> Result<(), esa::Refusal> {
     let mut out = [0; esa::LONGEST];
@@ -367,7 +408,7 @@ fn tour(table: &[u8]) -> Result<bool, esa::Refusal> {
     print!("{}", esa::list(table, READ));
 
     println!("\na table of our own");
-    let mut buffer = [0; 100];
+    let mut buffer = [0; 128];
     let length = build(&mut buffer)?;
     told("is it a table", esa::check(&buffer[..length], READ), "elements")?;
 
@@ -380,6 +421,9 @@ fn tour(table: &[u8]) -> Result<bool, esa::Refusal> {
 
     println!("\nthe same with an old sensor");
     sensor(&mut buffer, length)?;
+
+    println!("\nthe same with a lamp of three colours");
+    colours(&mut buffer)?;
     Ok(answer.is_ok())
 }
 

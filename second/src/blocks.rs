@@ -1,4 +1,4 @@
-//! The blocks in the variable parts of 09h and 0Ah. They are lent: nothing is copied.
+//! The blocks in the variable parts of 09h, 0Ah and 0Dh. They are lent: nothing is copied.
 
 use crate::units::HundredRpm;
 
@@ -71,7 +71,7 @@ pub fn count_speed_blocks(part: &[u8]) -> Option<usize> {
     blocks.rest.is_empty().then_some(count)
 }
 
-/// One block of 0Ah, ENTRIES and its pairs, from the front, and the rest.
+/// One block of 0Ah or 0Dh, ENTRIES and its pairs, from the front, and the rest.
 fn cut_register_block(bytes: &[u8]) -> Option<(Pairs<'_>, &[u8])> {
     let (&entries, rest) = bytes.split_first()?;
     Pairs::cut(rest, entries)
@@ -80,16 +80,35 @@ fn cut_register_block(bytes: &[u8]) -> Option<(Pairs<'_>, &[u8])> {
 /// Block w of 0Ah out of any bytes, 0 for initialisation and 1 for status; `None` for any other, and
 /// unless it and the one before it stand whole there.
 pub fn register_block(part: &[u8], w: usize) -> Option<Pairs<'_>> {
-    let (first, rest) = cut_register_block(part)?;
-    match w {
-        0 => Some(first),
-        1 => cut_register_block(rest).map(|(second, _)| second),
-        _ => None,
-    }
+    block_of(part, w, 2)
 }
 
-/// Two blocks of 0Ah fill the part exactly.
-pub fn register_blocks_fill(part: &[u8]) -> bool {
-    let second = cut_register_block(part).and_then(|(_, rest)| cut_register_block(rest));
-    second.is_some_and(|(_, rest)| rest.is_empty())
+/// Block w of 0Dh out of any bytes, 0 for red, 1 for green and 2 for blue; `None` for any other, and unless it
+/// and those before it stand whole there.
+pub fn colour_block(part: &[u8], w: usize) -> Option<Pairs<'_>> {
+    block_of(part, w, 3)
+}
+
+/// Block w of so many.
+fn block_of(part: &[u8], w: usize, count: usize) -> Option<Pairs<'_>> {
+    if w >= count {
+        return None;
+    }
+    let mut rest = part;
+    for _ in 0..w {
+        rest = cut_register_block(rest)?.1;
+    }
+    cut_register_block(rest).map(|(block, _)| block)
+}
+
+/// So many blocks of 0Ah or 0Dh fill the part exactly.
+pub fn register_blocks_fill(part: &[u8], count: usize) -> bool {
+    let mut rest = part;
+    for _ in 0..count {
+        match cut_register_block(rest) {
+            Some((_, after)) => rest = after,
+            None => return false,
+        }
+    }
+    rest.is_empty()
 }

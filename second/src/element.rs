@@ -4,7 +4,7 @@ use crate::answer::DESCRIPTION_LENGTH;
 use crate::pins::Pin;
 use crate::record::*;
 use crate::settings::Chip;
-use crate::units::{Centimetres, Deciamps, DegreesCentigrade, FourMilliamps, Rpm};
+use crate::units::{Centimetres, Deciamps, Decivolts, DegreesCentigrade, FourMilliamps, Rpm};
 
 /// The identifiers; those of string and zone stand in the text under Tables 29 and 30.
 pub mod id {
@@ -12,26 +12,37 @@ pub mod id {
     pub const ANALOGUE_SENSOR: u8 = 0x02;
     pub const FAN: u8 = 0x03;
     pub const STATUS_LED: u8 = 0x04;
+    pub const WATER_LEVEL: u8 = 0x05;
+    pub const PUMP: u8 = 0x06;
+    pub const VOLTAGE: u8 = 0x07;
     pub const CURRENT: u8 = 0x08;
     pub const CONTROLLER: u8 = 0x09;
     pub const TACHOMETER: u8 = 0x0A;
     pub const ZONE: u8 = 0x0B;
     pub const TEXT: u8 = 0x0C;
+    pub const EXTERNAL_RGB: u8 = 0x0D;
     pub const RGB_LED: u8 = 0x0E;
 
     /// The list whose absence is refusal 7.
-    pub const ALL: [u8; 10] = [
+    pub const ALL: [u8; 14] = [
         DIGITAL_SENSOR,
         ANALOGUE_SENSOR,
         FAN,
         STATUS_LED,
+        WATER_LEVEL,
+        PUMP,
+        VOLTAGE,
         CURRENT,
         CONTROLLER,
         TACHOMETER,
         ZONE,
         TEXT,
+        EXTERNAL_RGB,
         RGB_LED,
     ];
+
+    /// Those on a serial bus, with a bus type and a device address (000, 8.3.2).
+    pub const ON_A_BUS: [u8; 4] = [DIGITAL_SENSOR, CONTROLLER, TACHOMETER, EXTERNAL_RGB];
 }
 
 /// Identifier and two-byte length.
@@ -42,10 +53,11 @@ pub fn fixed_length(identifier: u8) -> usize {
     match identifier {
         id::DIGITAL_SENSOR => 21,
         id::ANALOGUE_SENSOR => 20,
-        id::FAN => 16,
+        id::FAN | id::PUMP => 16,
+        id::WATER_LEVEL => 15,
         id::STATUS_LED | id::CURRENT => 14,
-        id::CONTROLLER | id::RGB_LED => 11,
-        id::TACHOMETER => 12,
+        id::TACHOMETER | id::EXTERNAL_RGB => 12,
+        id::VOLTAGE | id::CONTROLLER | id::RGB_LED => 11,
         _ => HEADER_LENGTH,
     }
 }
@@ -80,6 +92,9 @@ pub fn read_element(bytes: &[u8], chip: Chip) -> Option<(Element, &[u8])> {
         id::ANALOGUE_SENSOR => Element::AnalogueSensor(read_analogue_sensor(bytes, chip)),
         id::FAN => Element::Fan(read_fan(bytes, chip)),
         id::STATUS_LED => Element::StatusLed(read_status_led(bytes, chip)),
+        id::WATER_LEVEL => Element::WaterLevel(read_water_level(bytes, chip)),
+        id::PUMP => Element::Pump(read_fan(bytes, chip)),
+        id::VOLTAGE => Element::Voltage(read_voltage(bytes, chip)),
         id::CURRENT => Element::Current(read_current(bytes, chip)),
         id::CONTROLLER => Element::Controller(Controller {
             common: read_common(bytes),
@@ -88,6 +103,11 @@ pub fn read_element(bytes: &[u8], chip: Chip) -> Option<(Element, &[u8])> {
         id::TACHOMETER => Element::Tachometer(Tachometer {
             common: read_common(bytes),
             attachment: read_attachment(bytes, chip),
+        }),
+        id::EXTERNAL_RGB => Element::ExternalRgb(ExternalRgb {
+            common: read_common(bytes),
+            attachment: read_attachment(bytes, chip),
+            chip_identifier: bytes[11],
         }),
         id::RGB_LED => Element::RgbLed(read_rgb_led(bytes, chip)),
         id::ZONE => Element::Zone(Zone),
@@ -162,6 +182,26 @@ fn read_status_led(bytes: &[u8], chip: Chip) -> StatusLed {
     StatusLed {
         common: read_common(bytes),
         lights: [light(8), light(10), light(12)],
+    }
+}
+
+fn read_water_level(bytes: &[u8], chip: Chip) -> WaterLevel {
+    WaterLevel {
+        common: read_common(bytes),
+        pin: Pin::on(chip, bytes[8]),
+        full: word(bytes, 9),
+        empty: word(bytes, 11),
+        warning: word(bytes, 13),
+    }
+}
+
+/// VMAX and VMIN are a byte each, in the order drawn, as the text's 140 decivolts need (8.10).
+fn read_voltage(bytes: &[u8], chip: Chip) -> Voltage {
+    Voltage {
+        common: read_common(bytes),
+        pin: Pin::on(chip, bytes[8]),
+        at_maximum: Decivolts(bytes[9]),
+        at_minimum: Decivolts(bytes[10]),
     }
 }
 

@@ -72,12 +72,18 @@ pub fn fixed(element: &Element) -> Fixed {
     match element {
         Element::DigitalSensor(e) => digital_sensor(e, &mut fixed),
         Element::AnalogueSensor(e) => analogue_sensor(e, &mut fixed),
-        Element::Fan(e) => fan(e, &mut fixed),
+        Element::Fan(e) | Element::Pump(e) => fan(e, &mut fixed),
         Element::StatusLed(e) => status_led(e, &mut fixed),
+        Element::WaterLevel(e) => water_level(e, &mut fixed),
+        Element::Voltage(e) => {
+            fixed.bytes[8] = e.pin.byte();
+            fixed.bytes[9..11].copy_from_slice(&[e.at_maximum.0, e.at_minimum.0]);
+        }
         Element::Current(e) => current(e, &mut fixed),
         Element::RgbLed(e) => {
             fixed.bytes[8..11].copy_from_slice(&[e.red, e.green, e.blue].map(Pin::byte));
         }
+        Element::ExternalRgb(e) => fixed.bytes[11] = e.chip_identifier,
         // Nothing but header, common fields and attachment before the variable part.
         Element::Controller(_) | Element::Tachometer(_) => (),
         Element::Zone(_) | Element::Text(_) => debug_assert_eq!(fixed.length, HEADER_LENGTH),
@@ -116,6 +122,13 @@ fn status_led(e: &StatusLed, fixed: &mut Fixed) {
         fixed.bytes[8 + 2 * step] = light.pin.byte();
         fixed.bytes[9 + 2 * step] = light.colour << 4 | light.purpose;
     }
+}
+
+fn water_level(e: &WaterLevel, fixed: &mut Fixed) {
+    fixed.bytes[8] = e.pin.byte();
+    fixed.word(9, e.full);
+    fixed.word(11, e.empty);
+    fixed.word(13, e.warning);
 }
 
 fn current(e: &Current, fixed: &mut Fixed) {

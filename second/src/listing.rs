@@ -185,20 +185,21 @@ fn name(pin: u8) -> [u8; 4] {
 /// Is it a bus device in block mode? Such a one has no pins of its own.
 #[inline(always)]
 fn retired(e: &[u8]) -> bool {
-    matches!(e[0], id::DIGITAL_SENSOR | id::CONTROLLER | id::TACHOMETER)
-        && e[8] & 0x0F == BLOCK_MODE
+    id::ON_A_BUS.contains(&e[0]) && e[8] & 0x0F == BLOCK_MODE
 }
 
 /// In field order; those that are not there as unused.
 #[inline(always)]
 fn own_pins(e: &[u8]) -> [u8; 3] {
     match e[0] {
-        id::DIGITAL_SENSOR | id::CONTROLLER | id::TACHOMETER if e[8] & 0x0F == 3 => {
+        id::DIGITAL_SENSOR | id::CONTROLLER | id::TACHOMETER | id::EXTERNAL_RGB
+            if e[8] & 0x0F == 3 =>
+        {
             [e[9], UNUSED, UNUSED]
         }
         id::ANALOGUE_SENSOR => [e[9], UNUSED, UNUSED],
-        id::CURRENT => [e[8], UNUSED, UNUSED],
-        id::FAN => [e[8], e[9], UNUSED],
+        id::WATER_LEVEL | id::VOLTAGE | id::CURRENT => [e[8], UNUSED, UNUSED],
+        id::FAN | id::PUMP => [e[8], e[9], UNUSED],
         id::STATUS_LED => [e[8], e[10], e[12]],
         id::RGB_LED => [e[8], e[9], e[10]],
         _ => [UNUSED; 3],

@@ -5,7 +5,7 @@ use crate::element::id;
 use crate::pins::Pin;
 use crate::record::*;
 use crate::settings::Chip;
-use crate::units::{Centimetres, Deciamps, DegreesCentigrade, FourMilliamps, Rpm};
+use crate::units::{Centimetres, Deciamps, Decivolts, DegreesCentigrade, FourMilliamps, Rpm};
 
 pub type Numbers = [u8; 32];
 
@@ -19,10 +19,12 @@ pub fn used(identifier: u8) -> usize {
     match identifier {
         id::DIGITAL_SENSOR => 18,
         id::ANALOGUE_SENSOR => 17,
-        id::FAN => 13,
         id::STATUS_LED => 14,
+        id::FAN | id::PUMP => 13,
+        id::WATER_LEVEL => 12,
         id::CURRENT => 10,
-        id::CONTROLLER | id::TACHOMETER | id::RGB_LED => 8,
+        id::EXTERNAL_RGB => 9,
+        id::VOLTAGE | id::CONTROLLER | id::TACHOMETER | id::RGB_LED => 8,
         _ => 0,
     }
 }
@@ -72,15 +74,8 @@ pub fn element(identifier: u8, n: &Numbers) -> Option<Element> {
             pin: pin(n, 6),
             calibration: [7, 9, 11, 13, 15].map(|at| word(n, at)),
         }),
-        id::FAN => Element::Fan(Fan {
-            common,
-            pwm: pin(n, 5),
-            tachometer: pin(n, 6),
-            pulses_per_revolution: n[7],
-            minimum_rpm: Rpm(word(n, 8)),
-            maximum_rpm: Rpm(word(n, 10)),
-            minimum_duty: n[12],
-        }),
+        id::FAN => Element::Fan(fan(n)),
+        id::PUMP => Element::Pump(fan(n)),
         id::STATUS_LED => Element::StatusLed(StatusLed {
             common,
             lights: [5, 8, 11].map(|at| Light {
@@ -88,6 +83,19 @@ pub fn element(identifier: u8, n: &Numbers) -> Option<Element> {
                 colour: n[at + 1],
                 purpose: n[at + 2],
             }),
+        }),
+        id::WATER_LEVEL => Element::WaterLevel(WaterLevel {
+            common,
+            pin: pin(n, 5),
+            full: word(n, 6),
+            empty: word(n, 8),
+            warning: word(n, 10),
+        }),
+        id::VOLTAGE => Element::Voltage(Voltage {
+            common,
+            pin: pin(n, 5),
+            at_maximum: Decivolts(n[6]),
+            at_minimum: Decivolts(n[7]),
         }),
         id::CURRENT => Element::Current(Current {
             common,
@@ -97,6 +105,11 @@ pub fn element(identifier: u8, n: &Numbers) -> Option<Element> {
         }),
         id::CONTROLLER => Element::Controller(Controller { common, attachment }),
         id::TACHOMETER => Element::Tachometer(Tachometer { common, attachment }),
+        id::EXTERNAL_RGB => Element::ExternalRgb(ExternalRgb {
+            common,
+            attachment,
+            chip_identifier: n[8],
+        }),
         id::RGB_LED => Element::RgbLed(RgbLed {
             common,
             red: pin(n, 5),
@@ -118,6 +131,18 @@ fn common(n: &Numbers) -> Common {
             z: Centimetres(n[3]),
         },
         zone: n[4],
+    }
+}
+
+fn fan(n: &Numbers) -> Fan {
+    Fan {
+        common: common(n),
+        pwm: pin(n, 5),
+        tachometer: pin(n, 6),
+        pulses_per_revolution: n[7],
+        minimum_rpm: Rpm(word(n, 8)),
+        maximum_rpm: Rpm(word(n, 10)),
+        minimum_duty: n[12],
     }
 }
 
@@ -177,7 +202,7 @@ pub fn put_element(record: &Element, chip: Chip, n: &mut Numbers) {
             n[5..7].copy_from_slice(&[e.thermal_type, e.pin.byte()]);
             put_words(7, &e.calibration, n);
         }
-        Element::Fan(e) => {
+        Element::Fan(e) | Element::Pump(e) => {
             n[5..7].copy_from_slice(&[e.pwm.byte(), e.tachometer.byte()]);
             n[7] = e.pulses_per_revolution;
             put_words(8, &[e.minimum_rpm.0, e.maximum_rpm.0], n);
@@ -188,10 +213,18 @@ pub fn put_element(record: &Element, chip: Chip, n: &mut Numbers) {
                 n[at..at + 3].copy_from_slice(&[light.pin.byte(), light.colour, light.purpose]);
             }
         }
+        Element::WaterLevel(e) => {
+            n[5] = e.pin.byte();
+            put_words(6, &[e.full, e.empty, e.warning], n);
+        }
+        Element::Voltage(e) => {
+            n[5..8].copy_from_slice(&[e.pin.byte(), e.at_maximum.0, e.at_minimum.0]);
+        }
         Element::Current(e) => {
             n[5] = e.pin.byte();
             put_words(6, &[e.at_minimum.0, e.at_maximum.0], n);
         }
+        Element::ExternalRgb(e) => n[8] = e.chip_identifier,
         Element::RgbLed(e) => n[5..8].copy_from_slice(&[e.red, e.green, e.blue].map(Pin::byte)),
         Element::Controller(_) | Element::Tachometer(_) | Element::Zone(_) | Element::Text(_) => (),
     }

@@ -103,7 +103,7 @@ pub const STATUS_LED: [u8; 18] = [
 pub const I2C_BUS: [u8; 2] = [0x03, 0x04];
 /// Shared by every SPI device (000, 5.4.3).
 pub const SPI_BUS: [u8; 3] = [0x00, 0x01, 0x02];
-/// The voltage reference shared by 02h and 08h (000, 5.4.4).
+/// The voltage reference shared by 02h, 05h, 07h and 08h (000, 5.4.4).
 pub const REFERENCE: [u8; 1] = [0x07];
 /// The fault LED stands on P1.0 (000, 5.4.1).
 pub const FAULT_LED: u8 = 0x10;

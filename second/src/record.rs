@@ -4,7 +4,7 @@
 //! hold numbers too large for their fields, which is what refusal 25 meets. Each used pin carries its chip.
 
 use crate::pins::Pin;
-use crate::units::{Centimetres, Deciamps, DegreesCentigrade, FourMilliamps, Rpm};
+use crate::units::{Centimetres, Deciamps, Decivolts, DegreesCentigrade, FourMilliamps, Rpm};
 
 /// 000, Table 4.
 #[derive(Clone, Copy, Debug, PartialEq, Eq)]
@@ -43,7 +43,7 @@ pub enum Address {
     Select(Pin),
 }
 
-/// Bus type and address, as 01h, 09h and 0Ah carry them.
+/// Bus type and address, as 01h, 09h, 0Ah and 0Dh carry them.
 #[derive(Clone, Copy, Debug, PartialEq, Eq)]
 pub struct Attachment {
     /// Field of 4 bits.
@@ -75,7 +75,7 @@ pub struct AnalogueSensor {
     pub calibration: [u16; 5],
 }
 
-/// 03h, 000, Table 14.
+/// 03h, 000, Table 14; a pump, 06h, has the same format (8.9).
 #[derive(Clone, Copy, Debug, PartialEq, Eq)]
 pub struct Fan {
     pub common: Common,
@@ -104,6 +104,25 @@ pub struct StatusLed {
     pub lights: [Light; 3],
 }
 
+/// 05h, 000, Table 18.
+#[derive(Clone, Copy, Debug, PartialEq, Eq)]
+pub struct WaterLevel {
+    pub common: Common,
+    pub pin: Pin,
+    pub full: u16,
+    pub empty: u16,
+    pub warning: u16,
+}
+
+/// 07h, 000, Table 19.
+#[derive(Clone, Copy, Debug, PartialEq, Eq)]
+pub struct Voltage {
+    pub common: Common,
+    pub pin: Pin,
+    pub at_maximum: Decivolts,
+    pub at_minimum: Decivolts,
+}
+
 /// 08h, 000, Table 20.
 #[derive(Clone, Copy, Debug, PartialEq, Eq)]
 pub struct Current {
@@ -127,6 +146,14 @@ pub struct Tachometer {
     pub attachment: Attachment,
 }
 
+/// 0Dh, 000, Table 27. The three register blocks are the variable part.
+#[derive(Clone, Copy, Debug, PartialEq, Eq)]
+pub struct ExternalRgb {
+    pub common: Common,
+    pub attachment: Attachment,
+    pub chip_identifier: u8,
+}
+
 /// 0Eh, 000, Table 26.
 #[derive(Clone, Copy, Debug, PartialEq, Eq)]
 pub struct RgbLed {
@@ -144,18 +171,22 @@ pub struct Text;
 #[derive(Clone, Copy, Debug, PartialEq, Eq)]
 pub struct Zone;
 
-/// The ten kinds.
+/// The fourteen kinds.
 #[derive(Clone, Copy, Debug, PartialEq, Eq)]
 pub enum Element {
     DigitalSensor(DigitalSensor),
     AnalogueSensor(AnalogueSensor),
     Fan(Fan),
     StatusLed(StatusLed),
+    WaterLevel(WaterLevel),
+    Pump(Fan),
+    Voltage(Voltage),
     Current(Current),
     Controller(Controller),
     Tachometer(Tachometer),
     Zone(Zone),
     Text(Text),
+    ExternalRgb(ExternalRgb),
     RgbLed(RgbLed),
 }
 
@@ -167,11 +198,15 @@ impl Element {
             Element::AnalogueSensor(_) => id::ANALOGUE_SENSOR,
             Element::Fan(_) => id::FAN,
             Element::StatusLed(_) => id::STATUS_LED,
+            Element::WaterLevel(_) => id::WATER_LEVEL,
+            Element::Pump(_) => id::PUMP,
+            Element::Voltage(_) => id::VOLTAGE,
             Element::Current(_) => id::CURRENT,
             Element::Controller(_) => id::CONTROLLER,
             Element::Tachometer(_) => id::TACHOMETER,
             Element::Zone(_) => id::ZONE,
             Element::Text(_) => id::TEXT,
+            Element::ExternalRgb(_) => id::EXTERNAL_RGB,
             Element::RgbLed(_) => id::RGB_LED,
         }
     }
@@ -181,22 +216,37 @@ impl Element {
         match self {
             Element::DigitalSensor(e) => Some(&e.common),
             Element::AnalogueSensor(e) => Some(&e.common),
-            Element::Fan(e) => Some(&e.common),
+            Element::Fan(e) | Element::Pump(e) => Some(&e.common),
             Element::StatusLed(e) => Some(&e.common),
+            Element::WaterLevel(e) => Some(&e.common),
+            Element::Voltage(e) => Some(&e.common),
             Element::Current(e) => Some(&e.common),
             Element::Controller(e) => Some(&e.common),
             Element::Tachometer(e) => Some(&e.common),
+            Element::ExternalRgb(e) => Some(&e.common),
             Element::RgbLed(e) => Some(&e.common),
             Element::Zone(_) | Element::Text(_) => None,
         }
     }
 
-    /// Bus type and address, of the three kinds that have them.
+    /// Bus type and address, of the four kinds that have them.
     pub fn attachment(&self) -> Option<&Attachment> {
         match self {
             Element::DigitalSensor(e) => Some(&e.attachment),
             Element::Controller(e) => Some(&e.attachment),
             Element::Tachometer(e) => Some(&e.attachment),
+            Element::ExternalRgb(e) => Some(&e.attachment),
+            _ => None,
+        }
+    }
+
+    /// The same, to be changed.
+    pub fn attachment_mut(&mut self) -> Option<&mut Attachment> {
+        match self {
+            Element::DigitalSensor(e) => Some(&mut e.attachment),
+            Element::Controller(e) => Some(&mut e.attachment),
+            Element::Tachometer(e) => Some(&mut e.attachment),
+            Element::ExternalRgb(e) => Some(&mut e.attachment),
             _ => None,
         }
     }

@@ -69,6 +69,7 @@ const fn kept() -> [[[u8; 4]; 2]; 16] {
     let mut kept = [[[0xFF; 4]; 2]; 16];
     kept[id::DIGITAL_SENSOR as usize] = [[0x0F, 0xFE, 0, 0xFF], [0x0F, 0xFF, 0, 0xFF]];
     kept[id::CONTROLLER as usize] = kept[id::DIGITAL_SENSOR as usize];
+    kept[id::EXTERNAL_RGB as usize] = kept[id::DIGITAL_SENSOR as usize];
     kept[id::TACHOMETER as usize] = [[0x0F, 0xFE, 0, 0], [0x0F, 0xFF, 0, 0]];
     kept[id::ANALOGUE_SENSOR as usize] = [[0x0F, 0xFF, 0xFF, 0xFF]; 2];
     kept[id::CURRENT as usize] = [[0xFF, 0, 0xFF, 0xFF]; 2];

@@ -47,7 +47,8 @@ pub fn part_fits(element: &Element, part: &[u8]) -> bool {
         Element::Controller(_) => {
             count_speed_blocks(part).is_some_and(|count| (1..=6).contains(&count))
         }
-        Element::Tachometer(_) => register_blocks_fill(part),
+        Element::Tachometer(_) => register_blocks_fill(part, 2),
+        Element::ExternalRgb(_) => register_blocks_fill(part, 3),
         // Number and locale are fixed, the text is open (Table 29).
         Element::Text(_) => part.len() >= 3,
         Element::Zone(_) => part.len() == 27,
@@ -66,7 +67,15 @@ pub fn codes_good(element: &Element, part: &[u8]) -> bool {
         Element::AnalogueSensor(e) => {
             e.thermal_type == 1 && e.calibration.iter().all(|&value| value <= 1023)
         }
-        Element::Fan(e) => e.tachometer.is_used() || e.pulses_per_revolution == 0,
+        // The ten-bit scale of 8.8; no order among the three.
+        Element::WaterLevel(e) => [e.full, e.empty, e.warning]
+            .iter()
+            .all(|&value| value <= 1023),
+        // Table 28.
+        Element::ExternalRgb(e) => (1..=3).contains(&e.chip_identifier),
+        Element::Fan(e) | Element::Pump(e) => {
+            e.tachometer.is_used() || e.pulses_per_revolution == 0
+        }
         Element::StatusLed(e) => e.lights.iter().all(light_good),
         Element::Controller(_) => {
             SpeedBlocks { rest: part }.all(|block| block.pairs.entries() != 0)
@@ -108,9 +117,13 @@ pub fn pins_good(element: &Element, chip: Chip) -> bool {
     }
     match element {
         Element::AnalogueSensor(e) => e.pin.is_of(chip, &ANALOGUE),
+        Element::WaterLevel(e) => e.pin.is_of(chip, &ANALOGUE),
+        Element::Voltage(e) => e.pin.is_of(chip, &ANALOGUE),
         Element::Current(e) => e.pin.is_of(chip, &ANALOGUE),
-        Element::Fan(e) if e.tachometer.is_used() => rising(&[e.pwm, e.tachometer], chip),
-        Element::Fan(e) => rising(&[e.pwm], chip),
+        Element::Fan(e) | Element::Pump(e) => match e.tachometer.is_used() {
+            true => rising(&[e.pwm, e.tachometer], chip),
+            false => rising(&[e.pwm], chip),
+        },
         Element::RgbLed(e) => rising(&[e.red, e.green, e.blue], chip),
         Element::StatusLed(e) => e
             .lights

@@ -18,6 +18,10 @@ impl FourMilliamps {
 #[derive(Clone, Copy, Debug, PartialEq, Eq)]
 pub struct Deciamps(pub u16);
 
+/// 000, 8.10: VMAX and VMIN.
+#[derive(Clone, Copy, Debug, PartialEq, Eq)]
+pub struct Decivolts(pub u8);
+
 /// 000, 8.12.1: SPEED, in units of 100 RPM.
 #[derive(Clone, Copy, Debug, PartialEq, Eq)]
 pub struct HundredRpm(pub u8);

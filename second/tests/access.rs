@@ -114,7 +114,7 @@ fn parts_are_lent() {
         for (k, (place, bytes)) in second::access::walk(&table).enumerate() {
             let start = match bytes[0] {
                 0x09 => 11,
-                0x0A => 12,
+                0x0A | 0x0D => 12,
                 0x0B | 0x0C => 3,
                 _ => bytes.len(),
             };

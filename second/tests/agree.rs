@@ -139,7 +139,8 @@ fn on_tables_for_the_archive_only() {
         let answers = agree("for the archive only", &table);
         let [strict, old] = [at % 2, at % 2 + 2].map(|at| answers[at]);
         assert!(matches!(old, Verdict::Accepted(_)), "{table:02X?}");
-        let in_block_mode = |e: &[u8]| matches!(e[0], 0x01 | 0x09 | 0x0A) && e[8] & 0x0F == 2;
+        let in_block_mode =
+            |e: &[u8]| matches!(e[0], 0x01 | 0x09 | 0x0A | 0x0D) && e[8] & 0x0F == 2;
         let first = second::access::walk(&table).find(|(_, bytes)| in_block_mode(bytes));
         let wanted = Verdict::Refused {
             number: 23,
@@ -170,7 +171,7 @@ fn on_long_mixed_tables_with_faults() {
             counts.add(agree("long and mixed", &table));
         }
     }
-    counts.often(10, |number| number == 0 || (number >= 6 && number != 11));
+    counts.often(5, |number| number == 0 || (number >= 6 && number != 11));
 }
 
 /// A table whose one byte is set to each of 256 values, byte after byte.

@@ -1,6 +1,6 @@
 //! Blocks and register pairs out of any bytes: hand-made parts, whole and damaged.
 
-use second::blocks::{register_block, speed_block, RegisterPair};
+use second::blocks::{colour_block, register_block, speed_block, RegisterPair};
 use second::units::HundredRpm;
 
 /// Two speed blocks, of two pairs and of one.
@@ -119,4 +119,48 @@ fn of_a_tachometer() {
     assert_eq!((entries(&[0], 0), entries(&[0], 1)), (Some(0), None));
     // What stands behind two blocks is of neither.
     assert_eq!(entries(&[0, 0, 9, 9], 1), Some(0));
+}
+
+/// As 0Ah's two, with a third behind them.
+#[test]
+fn of_an_external_rgb_led() {
+    let entries = |part: &[u8], w| Some(colour_block(part, w)?.entries());
+    let entry = |part: &[u8], w, i| colour_block(part, w)?.get(i).map(both);
+    let part = [
+        1, 0x11, 0x12, 0x13, 0x14, 0, 2, 0x21, 0x22, 0x23, 0x24, 0x31, 0x32, 0x33, 0x34,
+    ];
+    assert_eq!([0, 1, 2].map(|w| entries(&part, w)), [1, 0, 2].map(Some));
+    assert_eq!(entry(&part, 0, 0), Some((0x1211, 0x1413)));
+    assert_eq!(entry(&part, 0, 1), None);
+    assert_eq!(entry(&part, 1, 0), None);
+    assert_eq!(entry(&part, 2, 0), Some((0x2221, 0x2423)));
+    assert_eq!(entry(&part, 2, 1), Some((0x3231, 0x3433)));
+    for i in [2, 1 << 62, usize::MAX] {
+        assert_eq!(entry(&part, 2, i), None);
+    }
+    for w in [3, 4, 256, usize::MAX] {
+        assert_eq!(entries(&part, w), None);
+        assert_eq!(entry(&part, w, 0), None);
+    }
+    for length in 0..part.len() {
+        let cut = &part[..length];
+        assert_eq!(entries(cut, 0), (length >= 5).then_some(1), "{length}");
+        assert_eq!(entries(cut, 1), (length >= 6).then_some(0), "{length}");
+        assert_eq!(entries(cut, 2), None, "{length}");
+        assert_eq!(entry(cut, 2, 0), None, "{length}");
+    }
+    // What stands behind three blocks is of none of them.
+    assert_eq!(entries(&[0, 0, 0, 9, 9], 2), Some(0));
+    // Sums pass 255, and 1,024.
+    let long: Vec<u8> = [200u8, 100, 50]
+        .into_iter()
+        .flat_map(|count| [vec![count], vec![count; 4 * usize::from(count)]].concat())
+        .collect();
+    assert_eq!(
+        [0, 1, 2].map(|w| entries(&long, w)),
+        [200, 100, 50].map(Some)
+    );
+    assert_eq!(entry(&long, 2, 49), Some((0x3232, 0x3232)));
+    assert_eq!(entry(&long, 2, 50), None);
+    assert_eq!(entries(&long[..long.len() - 1], 2), None);
 }

@@ -18,7 +18,7 @@ const FOUR: [u8; 4] = [0x24, 0x25, 0x26, 0x27];
 type Use = fn(u8) -> Vec<u8>;
 
 /// Every use that a pin of the four can have in an element, each place of it.
-const USES: [Use; 8] = [
+const USES: [Use; 11] = [
     |pin| raw::analogue(1, pin),
     |pin| raw::current(1, pin),
     |pin| raw::led(1, [pin, 0xFF, 0xFF]),
@@ -27,6 +27,9 @@ const USES: [Use; 8] = [
     |pin| raw::digital(1, 3, pin),
     |pin| raw::controller(1, 3, pin, &[1]),
     |pin| raw::tachometer(1, 3, pin, 0, 0),
+    |pin| raw::water(1, pin),
+    |pin| raw::voltage(1, pin),
+    |pin| raw::external(1, 3, pin, [0; 3]),
 ];
 
 #[test]
@@ -53,12 +56,16 @@ fn the_four_pins_for_every_use() {
 /// Every pin byte for every use: permitted where the list has it and the chip has the pin.
 #[test]
 fn every_pin_byte_for_every_use() {
-    let lists: [(&[u8], Use); 5] = [
+    let lists: [(&[u8], Use); 9] = [
         (&ANALOGUE, USES[0]),
         (&ANALOGUE, USES[1]),
         (&STATUS_LED, USES[4]),
         (&CHIP_SELECT, USES[5]),
         (&FAN_LIST, |pin| raw::fan(1, pin, 0xFF)),
+        (&FAN_LIST, |pin| raw::pump(1, pin, 0xFF)),
+        (&ANALOGUE, USES[8]),
+        (&ANALOGUE, USES[9]),
+        (&CHIP_SELECT, USES[10]),
     ];
     for chip in Chip::BOTH {
         for pin in 0..=254 {
@@ -182,6 +189,11 @@ fn with_pins() -> Vec<Vec<u8>> {
         raw::controller(1, 3, 0x13, &[1]),
         raw::tachometer(1, 3, 0x16, 0, 0),
         raw::rgb(1, 0x05, 0x06, 0x11),
+        raw::water(1, 0x14),
+        raw::pump(1, 0x05, 0x06),
+        raw::pump(1, 0x05, 0xFF),
+        raw::voltage(1, 0x30),
+        raw::external(1, 3, 0x05, [0; 3]),
     ]
 }
 
@@ -219,6 +231,7 @@ fn append_takes_what_has_no_pins_on_both_chips() {
         raw::digital(1, 0, 0x24),
         raw::controller(1, 1, 0x4E, &[1]),
         raw::tachometer(1, 0, 0x40, 0, 0),
+        raw::external(1, 1, 0x40, [0; 3]),
         raw::zone(1, 0),
         raw::text(1, b"x"),
     ] {

@@ -124,6 +124,41 @@ fn of_controllers_and_tachometers() {
 }
 
 #[test]
+fn of_a_water_level() {
+    let element = [5, 15, 0, 8, 1, 2, 3, 7, 0x16, 0x11, 1, 0x22, 2, 0xFF, 3];
+    let wanted = [8, 1, 2, 3, 7, 0x16, 0x11, 1, 0x22, 2, 0xFF, 3];
+    gives(&element, &wanted);
+}
+
+#[test]
+fn of_a_pump() {
+    let element = [
+        6, 16, 0, 9, 1, 2, 3, 7, 0x06, 0x12, 4, 0x31, 0x32, 0x33, 0x34, 0x35,
+    ];
+    let wanted = [9, 1, 2, 3, 7, 6, 0x12, 4, 0x31, 0x32, 0x33, 0x34, 0x35];
+    gives(&element, &wanted);
+    let alone = with(&[(9, 0xFF), (10, 0)], element.to_vec());
+    gives(&alone, &with(&[(6, 0xFF), (7, 0)], wanted.to_vec()));
+}
+
+/// VMAX before VMIN.
+#[test]
+fn of_a_voltage() {
+    let element = [7, 11, 0, 8, 1, 2, 3, 7, 0x30, 140, 20];
+    gives(&element, &[8, 1, 2, 3, 7, 0x30, 140, 20]);
+}
+
+#[test]
+fn of_an_external_rgb_led() {
+    let element = [
+        0x0D, 19, 0, 9, 1, 2, 3, 7, 0x91, 0x9B, 0xEE, 3, 0, 1, 0xA, 0xB, 0xC, 0xD, 0,
+    ];
+    gives(&element, &[9, 1, 2, 3, 7, 1, 0, 0x4D, 3]);
+    let select = with(&[(8, 0xF3), (9, 0x15), (11, 1)], element.to_vec());
+    gives(&select, &[9, 1, 2, 3, 7, 3, 1, 0x15, 1]);
+}
+
+#[test]
 fn of_zones_and_strings() {
     let mut zone = raw::zone(5, 8);
     zone[5..].fill(0xCC);
@@ -144,6 +179,7 @@ fn parts_and_texts() {
         &raw::controller(7, 0, 0x40, &[1, 2]),
         &raw::tachometer(7, 0, 0x40, 0, 1),
         &raw::rgb(7, 0x11, 0x12, 0x13),
+        &raw::external(7, 0, 0x40, [1, 0, 2]),
     ]);
     let wanted = [
         (37, 37),   // 16 + 21
@@ -154,20 +190,21 @@ fn parts_and_texts() {
         (112, 128), // from byte 11 on: blocks of 6 and of 10
         (140, 146), // from byte 12 on: blocks of 1 and of 5
         (157, 157), // 146 + 11
-        (160, 187), // 27 bytes of a zone
-        (190, 198), // 3 and five of text
-        (201, 204), // 3 and no text
+        (169, 184), // from byte 12 on: blocks of 5, of 1 and of 9
+        (187, 214), // 27 bytes of a zone
+        (217, 225), // 3 and five of text
+        (228, 231), // 3 and no text
     ];
     for (k, (from, to)) in wanted.into_iter().enumerate() {
         assert_eq!(part_place(&table, k, ON_320), Ok(from..to), "{k}");
         let text = match k {
-            9 => Some(193..198),
-            10 => Some(204..204),
+            10 => Some(220..225),
+            11 => Some(231..231),
             _ => None,
         };
         assert_eq!(text_place(&table, k, ON_320), Ok(text), "{k}");
     }
-    assert_eq!(&table[193..198], b"eight");
+    assert_eq!(&table[220..225], b"eight");
 }
 
 #[track_caller]
@@ -240,11 +277,15 @@ fn of_the_chip() {
         raw::tachometer(1, 3, 0x14, 0, 0),
         raw::rgb(1, 0x11, 0x12, 0x13),
         raw::text(1, b"x"),
+        raw::water(1, 0x15),
+        raw::pump(1, 6, 0xFF),
+        raw::voltage(1, 0x16),
+        raw::external(1, 0, 0x40, [0; 3]),
     ]);
     for (settings, chip) in [(ON_320, 0), (ON_321, 1)] {
         assert_eq!(describe(&table, settings, &mut found), Ok(()));
         assert_eq!(found[31], chip);
-        for k in 0..=10 {
+        for k in 0..=14 {
             let identifier = fields(&table, k, settings, &mut found).unwrap();
             let pinless = matches!(identifier, 0x0B | 0x0C);
             assert_eq!(found[31], if pinless { 0 } else { chip }, "{k}");
@@ -252,7 +293,7 @@ fn of_the_chip() {
     }
     // All other bytes are the same on both chips.
     let mut other = JUNK;
-    for k in 0..=10 {
+    for k in 0..=14 {
         fields(&table, k, ON_320, &mut found).unwrap();
         fields(&table, k, ON_321, &mut other).unwrap();
         assert_eq!(found[..31], other[..31]);

@@ -44,7 +44,7 @@ fn accepted_and_of_every_size(settings: Settings) {
     assert!(sizes.contains(&16) && sizes.contains(&4096));
     assert!((0..=96).all(|count| counts.contains(&count)));
     assert!((0..=12).all(|count| zones.contains(&count)));
-    assert_eq!(seen.len(), 10);
+    assert_eq!(seen.len(), 14);
 }
 
 /// Each use meets each pin it permits, shared selects, both powers and every number of blocks.
@@ -68,7 +68,7 @@ fn permitted_are_met(settings: Settings, [hardware, selects, analogue, lights]: 
         seen.insert(("self-powered", table[8] >> 7));
         let mut selects = HashSet::new();
         for (_, e) in walk(&table) {
-            let on_a_bus = matches!(e[0], 0x01 | 0x09 | 0x0A);
+            let on_a_bus = matches!(e[0], 0x01 | 0x09 | 0x0A | 0x0D);
             if on_a_bus {
                 seen.extend([("bus type", e[8] & 15), ("its byte", e[8])]);
             }
@@ -77,6 +77,14 @@ fn permitted_are_met(settings: Settings, [hardware, selects, analogue, lights]: 
                 seen.insert(("shared select", e[9]));
             }
             seen.extend(pins_of(e));
+            if e[0] == 0x0D {
+                seen.insert(("chip identifier", e[11]));
+                for w in 0..3 {
+                    let block = second::blocks::colour_block(&e[12..], w).unwrap();
+                    let name = ["red pairs", "green pairs", "blue pairs"][w];
+                    seen.insert((name, block.entries().min(4)));
+                }
+            }
             if e[0] == 0x09 {
                 let blocks = second::blocks::count_speed_blocks(&e[11..]).unwrap();
                 seen.insert(("blocks", blocks as u8));
@@ -88,12 +96,19 @@ fn permitted_are_met(settings: Settings, [hardware, selects, analogue, lights]: 
     assert_eq!(count("self-powered"), 2);
     assert_eq!(count("select"), selects);
     assert_eq!(count("shared select"), selects);
-    assert_eq!((count("analogue"), count("current")), (analogue, analogue));
+    for sensor in ["analogue", "water level", "voltage", "current"] {
+        assert_eq!(count(sensor), analogue, "{sensor}");
+    }
+    assert_eq!((count("pump"), count("pump's tachometer")), (5, 4 + 1));
     assert_eq!((count("light"), count("PWM")), (lights, 5));
     // Four pins can follow a PWM pin, and unused; three can be red, three green, three blue.
     assert_eq!(count("tachometer"), 4 + 1);
     assert_eq!((count("red"), count("green"), count("blue")), (3, 3, 3));
     assert_eq!(count("blocks"), 6);
+    assert_eq!(count("chip identifier"), 3);
+    for colour in ["red pairs", "green pairs", "blue pairs"] {
+        assert_eq!(count(colour), 5);
+    }
     let archive = settings.rules == Rules::Archive;
     assert_eq!(count("bus type"), if archive { 4 } else { 3 });
     // With its reserved bits clear and set.
@@ -105,7 +120,10 @@ fn permitted_are_met(settings: Settings, [hardware, selects, analogue, lights]: 
 /// The pin fields of one element, each with its use.
 fn pins_of(e: &[u8]) -> Vec<(&'static str, u8)> {
     match e[0] {
-        0x01 | 0x09 | 0x0A if e[8] & 15 == 3 => vec![("select", e[9])],
+        0x01 | 0x09 | 0x0A | 0x0D if e[8] & 15 == 3 => vec![("select", e[9])],
+        0x05 => vec![("water level", e[8])],
+        0x06 => vec![("pump", e[8]), ("pump's tachometer", e[9])],
+        0x07 => vec![("voltage", e[8])],
         0x02 => vec![("analogue", e[9])],
         0x03 => vec![("PWM", e[8]), ("tachometer", e[9])],
         0x04 => vec![("light", e[8]), ("light", e[10]), ("light", e[12])],
@@ -116,7 +134,7 @@ fn pins_of(e: &[u8]) -> Vec<(&'static str, u8)> {
 }
 
 #[test]
-fn mixed_tables_have_4096_bytes_and_all_ten_kinds() {
+fn mixed_tables_have_4096_bytes_and_all_kinds() {
     let mut random = Random::new(12);
     let mut different = HashSet::new();
     for at in 0..1000 {
@@ -125,7 +143,7 @@ fn mixed_tables_have_4096_bytes_and_all_ten_kinds() {
         assert!(accepted(&table, settings));
         assert_eq!(table.len(), 4096);
         let kinds: HashSet<u8> = kinds(&table).into_iter().collect();
-        assert_eq!(kinds.len(), 10, "{kinds:?}");
+        assert_eq!(kinds.len(), 14, "{kinds:?}");
         different.insert(table);
     }
     assert_eq!(different.len(), 1000);
@@ -176,7 +194,7 @@ fn the_same_seed_gives_the_same_tables() {
         hash
     };
     let found = [0, 3].map(fingerprint);
-    assert_eq!(found, [0xF06B_5EAF_7D2B_3B9F, 0x1D85_BB8D_52EE_B958]);
+    assert_eq!(found, [0x73B8_567E_12DA_3AFA, 0x45A3_A841_4384_D22F]);
 }
 
 #[test]
@@ -189,7 +207,7 @@ fn mixed_tables_have_as_many_elements_as_asked_for() {
             let verdict = second::check(&table, settings);
             assert_eq!(verdict, Verdict::Accepted(elements));
             let kinds: HashSet<u8> = kinds(&table).into_iter().collect();
-            assert_eq!(kinds.len() == 10, elements >= 10, "{elements}: {kinds:?}");
+            assert_eq!(kinds.len() == 14, elements >= 15, "{elements}: {kinds:?}");
         }
     }
 }
@@ -208,7 +226,15 @@ fn tables_around_the_four() {
         let table = generator::valid(&mut random, Settings::new(Chip::F321, rules));
         assert!(!generator::touches_the_four(&table));
     }
-    for used in ["hardware", "select", "analogue", "current", "light"] {
+    for used in [
+        "hardware",
+        "select",
+        "analogue",
+        "water level",
+        "voltage",
+        "current",
+        "light",
+    ] {
         for pin in generator::AROUND {
             assert!(seen.contains(&(used, pin)), "{used} {pin:02X}h");
         }

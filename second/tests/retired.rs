@@ -13,11 +13,12 @@ use second::record::{Address, Element};
 use second::{append, plain, Chip, Refusal, Rules, Settings};
 
 /// One of each kind that has a bus type, with this byte 8.
-fn devices(bus: u8) -> [Vec<u8>; 3] {
+fn devices(bus: u8) -> [Vec<u8>; 4] {
     [
         raw::digital(1, bus, 0x40),
         raw::controller(1, bus, 0x40, &[1]),
         raw::tachometer(1, bus, 0x40, 0, 0),
+        raw::external(1, bus, 0x40, [0; 3]),
     ]
 }
 
@@ -63,6 +64,14 @@ fn directly_after_9() {
     gives(&zoned(&[raw::controller(1, 2, 0x40, &[0])]), 9, 46);
     gives(&zoned(&[raw::controller(1, 0xF2, 0x40, &[1, 0])]), 9, 46);
     gives(&zoned(&[raw::controller(1, 2, 0x40, &[0; 7])]), 8, 46);
+    let mut reserved = raw::external(1, 2, 0x40, [0; 3]);
+    reserved[11] = 4;
+    gives(&zoned(&[reserved]), 9, 46);
+    gives(
+        &zoned(&[with(&[(12, 1)], raw::external(1, 2, 0x40, [0; 3]))]),
+        8,
+        46,
+    );
     let cut = raw::element(0x0A, &raw::tachometer(1, 2, 0x40, 1, 0)[3..17]);
     gives(&zoned(&[cut]), 8, 46);
     let longer = [&raw::digital(1, 2, 0x40)[3..], &[0]].concat();
@@ -88,9 +97,11 @@ fn directly_after_9() {
 
 #[test]
 fn the_first_of_two_is_named() {
-    let [one, two, three] = devices(0xF2);
-    retired(&zoned(&[one.clone(), two.clone(), three.clone()]), 46, 0, 4);
-    retired(&zoned(&[raw::digital(1, 1, 0x40), three]), 67, 0, 3);
+    let all = devices(0xF2);
+    retired(&zoned(&all), 46, 0, 5);
+    for later in all {
+        retired(&zoned(&[raw::digital(1, 1, 0x40), later]), 67, 0, 3);
+    }
 }
 
 /// It shares P0.3 and P0.4, as the other bus types under 3 do, and its address is no pin.
@@ -113,17 +124,18 @@ fn the_archive_keeps_the_old_claims() {
 fn listed_with_a_last_field() {
     let mut elements = devices(0xF2).to_vec();
     elements.extend(devices(1));
-    elements.extend([raw::digital(1, 3, 0x14), raw::led(1, [0x02, 0xFF, 0xFF])]);
-    elements.remove(7);
+    elements.push(raw::digital(1, 3, 0x14));
     let table = zoned(&elements);
     let wanted = "E\t16\t0B\t1\t-\n\
         E\t46\t01\t1\t-\tretired\n\
         E\t67\t09\t1\t-\tretired\n\
         E\t84\t0A\t1\t-\tretired\n\
-        E\t98\t01\t1\t-\n\
-        E\t119\t09\t1\t-\n\
-        E\t136\t0A\t1\t-\n\
-        E\t150\t01\t1\tP1.4\n";
+        E\t98\t0D\t1\t-\tretired\n\
+        E\t113\t01\t1\t-\n\
+        E\t134\t09\t1\t-\n\
+        E\t151\t0A\t1\t-\n\
+        E\t165\t0D\t1\t-\n\
+        E\t180\t01\t1\tP1.4\n";
     for listing in [second::listing, plain::listing] {
         let text = String::from_utf8(listing(&table, ARCHIVE)).unwrap();
         assert_eq!(text.split_once('\n').unwrap().1, wanted);
@@ -207,20 +219,10 @@ fn append_refuses_it() {
         assert_eq!(appended(&record, part, 0), Err(Refusal::at(23, 20)));
         let longer = [part, &[1]].concat();
         assert_eq!(appended(&record, &longer, 60), Err(Refusal::at(8, 20)));
-        let bent = |address| match record {
-            Element::DigitalSensor(mut e) => {
-                e.attachment.address = address;
-                Element::DigitalSensor(e)
-            }
-            Element::Controller(mut e) => {
-                e.attachment.address = address;
-                Element::Controller(e)
-            }
-            Element::Tachometer(mut e) => {
-                e.attachment.address = address;
-                Element::Tachometer(e)
-            }
-            _ => panic!("no bus device"),
+        let bent = |address| {
+            let mut record = record;
+            record.attachment_mut().expect("a bus device").address = address;
+            record
         };
         let select = bent(Address::Select(Pin::on(Chip::F320, 0x31)));
         assert_eq!(appended(&select, part, 60), Err(Refusal::at(9, 20)));

@@ -91,7 +91,7 @@ fn the_97th_is_met_after_6_before_7() {
 fn identifiers_of_string_and_zone() {
     for identifier in 0..=255u8 {
         let number = match identifier {
-            0x01..=0x04 | 0x08..=0x0C | 0x0E => 8,
+            0x01..=0x0E => 8,
             _ => 7,
         };
         gives(&raw::table(&[raw::element(identifier, &[])]), number, 16);
@@ -161,6 +161,10 @@ fn every_kind_with_a_zone_must_find_it_earlier_or_later() {
         raw::controller(1, 0, 0x40, &[1]),
         raw::tachometer(1, 0, 0x40, 0, 0),
         raw::rgb(1, 0x05, 0x06, 0x11),
+        raw::water(1, 0x14),
+        raw::pump(1, 0x05, 0x06),
+        raw::voltage(1, 0x14),
+        raw::external(1, 0, 0x40, [0; 3]),
     ] {
         gives(&raw::table(std::slice::from_ref(&element)), 13, 16);
         gives(&raw::table(&[element.clone(), raw::text(1, &[])]), 13, 16);

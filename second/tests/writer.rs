@@ -283,6 +283,9 @@ fn a_part_beside_an_element_without_one_is_8() {
         raw::led(1, [0xFF; 3]),
         raw::current(1, 0x20),
         raw::rgb(1, 5, 6, 0x11),
+        raw::water(1, 0x20),
+        raw::pump(1, 5, 6),
+        raw::voltage(1, 0x20),
     ] {
         let (element, part) = record(&element);
         assert!(part.is_empty());

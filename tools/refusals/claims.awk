@@ -30,7 +30,7 @@ function claim_shared(p, owner,    id, bus) {
         claim("MISO pin", "shared", 1, owner, p)
         claim("MOSI pin", "shared", 2, owner, p)
     }
-    if (id == 2 || id == 8) claim("reference voltage pin", "shared", 7, owner, p)
+    if (id == 2 || id == 5 || id == 7 || id == 8) claim("reference voltage pin", "shared", 7, owner, p)
 }
 
 function claim_own(p, owner,    i, b) {

@@ -2,14 +2,15 @@
 # proved reader's. The variable chip is 320 or 321.
 
 BEGIN {
-    names = "digital thermal sensor,analogue thermal sensor,PWM fan,status LED,analogue water level,pump PWM,voltage," \
+    names = "digital thermal sensor,analogue thermal sensor,PWM fan,status LED,water level sensor,PWM pump,voltage sensor," \
         "current sensor,external PWM controller,external tachometer,zone descriptor,string,external RGB LED," \
         "RGB LED on the controller"
     split(names, kind_names, ",")
-    split("sensor,sensor,fan,LED,element,element,element,sensor,controller,tachometer,zone descriptor,string,element,LED", things, ",")
-    split("21,20,16,14,0,0,0,14,0,0,30,0,0,11", lengths, ",")
+    split("sensor,sensor,fan,LED,sensor,pump,sensor,sensor,controller,tachometer,zone descriptor,string,LED,LED", things, ",")
+    split("21,20,16,14,15,16,11,14,0,0,30,0,0,11", lengths, ",")
     split("first,second,third", ordinals, ",")
     split("red,green,blue", colours, ",")
+    split("FULL,EMPTY,WARNING", levels, ",")
     upper = chip == 321 ? "P1.4 to P2.3, or P3.0" : "P1.4 to P3.0"
     all_pins = chip == 321 ? "P0.0 to P2.3 and P3.0" : "P0.0 to P2.7 and P3.0"
     allowed["fan"] = "P0.5, P0.6, P1.1, P1.2 or P1.3"
@@ -63,18 +64,20 @@ function own(role, use, at, may_lack) {
     own_lacks[own_count] = may_lack
 }
 
-function on_bus(id) { return id == 1 || id == 9 || id == 10 }
+function on_bus(id) { return id == 1 || id == 9 || id == 10 || id == 13 }
+
+function driven(id) { return id == 3 || id == 6 }
 
 # The own pins of the element at p, in field order.
 function find_own(p,    id, i) {
     id = byte(p)
     own_count = 0
-    if (id == 3) {
+    if (driven(id)) {
         own("PWM pin", "fan", p + 8, 0)
         own("tachometer pin", "tachometer", p + 9, 1)
     }
     if (id == 2) own("pin", "analogue", p + 9, 0)
-    if (id == 8) own("pin", "analogue", p + 8, 0)
+    if (id == 5 || id == 7 || id == 8) own("pin", "analogue", p + 8, 0)
     if (on_bus(id) && low(p + 8) == 3) own("chip select", "select", p + 9, 0)
     for (i = 1; i <= 3; i++) {
         if (id == 4) own("pin of the " ordinals[i] " lamp", "lamp", p + 6 + 2 * i, 1)

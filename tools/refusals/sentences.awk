@@ -64,7 +64,7 @@ function sentence() {
         V["id"] = hex(place)
         V["length"] = word(place + 1)
     }
-    if (number == 7) return say(byte(place) in kind_names ? "later" : "unknown")
+    if (number == 7) return say("unknown")
     if (number == 8) return of_length()
     if (number == 9) return of_codes()
     if (number == 10) return place == 0 ? of_revision_pins() : of_pins()
@@ -100,7 +100,7 @@ function of_length(    id, p, end, n) {
     V["wanted"] = lengths[id]
     if (V["wanted"] > 0) return say("fixed")
     if (id == 12) return say("string")
-    if (id == 10) return say("pairs")
+    if (id == 10 || id == 13) return say("pairs")
     if (id != 9) return say("other")
     if (V["length"] < 13) return say("blockless")
     end = place + V["length"]
@@ -116,9 +116,11 @@ function of_codes(    id) {
     if (on_bus(id) && low(place + 8) > 3) return say("bus")
     if (id == 2 && low(place + 8) != 1) return say("thermal")
     if (id == 2) return of_calibration()
-    if (id == 3) return of_pulses()
+    if (driven(id)) return of_pulses()
     if (id == 4) return of_lamps()
+    if (id == 5) return of_levels()
     if (id == 9) return of_entries()
+    if (id == 13) return of_identifier()
     if (id != 12) return say("other")
     at(place + 3)
     return say("string")
@@ -129,6 +131,20 @@ function of_calibration(    p) {
     at(p)
     V["code"] = word(p)
     return say(V["code"] > 1023 ? "count" : "other")
+}
+
+function of_levels(    i) {
+    for (i = 1; i < 3 && word(place + 7 + 2 * i) < 1024; i++) continue
+    at(place + 7 + 2 * i)
+    V["role"] = levels[i]
+    V["code"] = word(V["at"])
+    return say(V["code"] > 1023 ? "level" : "other")
+}
+
+function of_identifier() {
+    at(place + 11)
+    V["byte"] = hex(place + 11)
+    return say("identifier")
 }
 
 function of_pulses() {

@@ -58,12 +58,13 @@ fn batches(origin: Origin, settings: u64, table: &Rc<[u8]>, parts: bool) -> Vec<
     batches
 }
 
-/// The readings of an element's part, of 09h and 0Ah alone.
+/// The readings of an element's part, of 09h, 0Ah and 0Dh alone.
 fn of_part(origin: Origin, element: &[u8]) -> Option<Batch> {
     let part = &element[fixed_length(element[0])..];
     let readings = match element[0] {
         id::CONTROLLER => parts::speed_readings(part),
         id::TACHOMETER => parts::register_readings(part),
+        id::EXTERNAL_RGB => parts::colour_readings(part),
         _ => return None,
     };
     Some(Batch {
@@ -82,7 +83,8 @@ impl Fields {
         })
     }
 
-    /// The table; if asked for, its own parts with blocks, and one part more that is damaged or random.
+    /// The table; if asked for, its own parts with blocks, and half of the time one part more that is damaged
+    /// or random.
     pub fn table(
         &mut self,
         origin: Origin,
@@ -95,7 +97,7 @@ impl Fields {
         for batch in batches {
             self.ask(batch)?;
         }
-        if !parts {
+        if !parts || self.random.chance(50) {
             return Ok(());
         }
         let part = parts::some(own.as_deref(), &mut self.random);

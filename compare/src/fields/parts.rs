@@ -1,8 +1,8 @@
-//! Parts of 09h and 0Ah, whole, damaged and random, and what is asked of each.
+//! Parts of 09h, 0Ah and 0Dh, whole, damaged and random, and what is asked of each.
 
 use super::reading::Reading;
 use crate::comparison::HUGE;
-use second::blocks::{register_block, speed_block};
+use second::blocks::{colour_block, register_block, speed_block, Pairs};
 use second::generator::raw;
 use second::random::Random;
 
@@ -28,21 +28,33 @@ pub fn speed_readings(part: &[u8]) -> Vec<Reading> {
 
 /// Both register blocks and every pair of them, and one past each; some that no part has.
 pub fn register_readings(part: &[u8]) -> Vec<Reading> {
+    let blocks: [_; 3] = std::array::from_fn(|w| register_block(part, w));
+    of_blocks(part, blocks, Reading::Entries, Reading::Entry)
+}
+
+/// The same of the three colours.
+pub fn colour_readings(part: &[u8]) -> Vec<Reading> {
+    let blocks: [_; 4] = std::array::from_fn(|w| colour_block(part, w));
+    of_blocks(part, blocks, Reading::Colours, Reading::Colour)
+}
+
+fn of_blocks<const COUNT: usize>(
+    part: &[u8],
+    blocks: [Option<Pairs>; COUNT],
+    whole: fn(u64) -> Reading,
+    pair: fn(u64, u64) -> Reading,
+) -> Vec<Reading> {
     let huge = HUGE[part.len() % HUGE.len()];
-    let mut list = vec![
-        Reading::Entries(huge),
-        Reading::Entry(huge, 0),
-        Reading::Entry(0, huge),
-    ];
-    for w in 0..=2 {
-        list.push(Reading::Entries(w));
-        let entries = register_block(part, w as usize).map_or(0, |pairs| pairs.entries());
-        list.extend((0..=u64::from(entries)).map(|i| Reading::Entry(w, i)));
+    let mut list = vec![whole(huge), pair(huge, 0), pair(0, huge)];
+    for (w, block) in blocks.into_iter().enumerate() {
+        list.push(whole(w as u64));
+        let entries = block.map_or(0, Pairs::entries);
+        list.extend((0..=u64::from(entries)).map(|i| pair(w as u64, i)));
     }
     list
 }
 
-/// All four calls on any bytes; one more block behind the last is asked for too, as it might be read
+/// All six calls on any bytes; one more block behind the last is asked for too, as it might be read
 /// across the gap.
 pub fn all_readings(part: &[u8]) -> Vec<Reading> {
     let mut list = speed_readings(part);
@@ -52,6 +64,8 @@ pub fn all_readings(part: &[u8]) -> Vec<Reading> {
     }
     list.extend(register_readings(part));
     list.extend([0, 1].map(|w| Reading::Entry(w, 1)));
+    list.extend(colour_readings(part));
+    list.extend([0, 1, 2].map(|w| Reading::Colour(w, 1)));
     list
 }
 
@@ -113,12 +127,17 @@ pub fn edges() -> Vec<Vec<u8>> {
         .collect();
     let full = raw::block(9, 255);
     let registers = [&full[1..], &full[1..]].concat();
-    for part in [full.clone(), registers] {
+    let colours = [&registers, &full[1..]].concat();
+    for part in [full.clone(), registers, colours] {
         for end in [part.len() - 1, part.len()] {
             list.push(part[..end].to_vec());
         }
         list.push([&part[..], &[1]].concat());
     }
+    // Three colours, cut at every byte, and a fourth behind them.
+    let colours = &raw::external(1, 0, 0x40, [1, 0, 2])[12..];
+    list.extend((0..=colours.len()).map(|end| colours[..end].to_vec()));
+    list.push([colours, &[1, 9, 9, 9, 9]].concat());
     list.extend([vec![0; 3], vec![0xFF; 3], vec![0; 4_096], vec![0xFF; 4_096]]);
     // Its last blocks stand past 65,536 bytes.
     list.push([full.repeat(65), blocks].concat());

@@ -3,7 +3,7 @@
 use crate::answer::Answer;
 use crate::call::index;
 use second::answer::number;
-use second::blocks::{register_block, speed_block, RegisterPair};
+use second::blocks::{colour_block, register_block, speed_block, Pairs, RegisterPair};
 use second::numbers::Numbers;
 use second::{Refusal, Settings};
 use std::fmt;
@@ -22,6 +22,9 @@ pub enum Reading {
     /// Of a part of 0Ah: block w, and pair i of it.
     Entries(u64),
     Entry(u64, u64),
+    /// Of a part of 0Dh: block w, and pair i of it.
+    Colours(u64),
+    Colour(u64, u64),
 }
 
 /// What the numbers hold before a call; the driver has the same.
@@ -30,7 +33,7 @@ pub fn pattern() -> Numbers {
 }
 
 impl Reading {
-    pub const NAMES: [&'static str; 8] = [
+    pub const NAMES: [&'static str; 10] = [
         "esa_describe",
         "esa_fields",
         "esa_part",
@@ -39,6 +42,8 @@ impl Reading {
         "esa_pair",
         "esa_entries",
         "esa_entry",
+        "esa_colours",
+        "esa_colour",
     ];
     /// Bytes of a reading in a request.
     pub const LENGTH: usize = 17;
@@ -54,6 +59,8 @@ impl Reading {
             Reading::Pair(..) => 5,
             Reading::Entries(_) => 6,
             Reading::Entry(..) => 7,
+            Reading::Colours(_) => 8,
+            Reading::Colour(..) => 9,
         }
     }
 
@@ -66,8 +73,10 @@ impl Reading {
         let (first, second) = match self {
             Reading::Describe => (0, 0),
             Reading::Fields(k) | Reading::Part(k) | Reading::Text(k) => (k, 0),
-            Reading::Block(one) | Reading::Entries(one) => (one, 0),
-            Reading::Pair(block, i) | Reading::Entry(block, i) => (block, i),
+            Reading::Block(one) | Reading::Entries(one) | Reading::Colours(one) => (one, 0),
+            Reading::Pair(block, i) | Reading::Entry(block, i) | Reading::Colour(block, i) => {
+                (block, i)
+            }
         };
         to.push(self.which());
         to.extend_from_slice(&first.to_le_bytes());
@@ -110,16 +119,22 @@ impl Reading {
                 let block = speed_block(bytes, index(j));
                 whole(block.and_then(|b| b.pairs.get(index(i))).map(both))
             }
-            Reading::Entries(w) => {
-                let block = register_block(bytes, index(w));
-                whole(block.map(|pairs| usize::from(pairs.entries())))
-            }
-            Reading::Entry(w, i) => {
-                let block = register_block(bytes, index(w));
-                whole(block.and_then(|pairs| pairs.get(index(i))).map(both))
-            }
+            Reading::Entries(w) => entries(register_block(bytes, index(w))),
+            Reading::Entry(w, i) => entry(register_block(bytes, index(w)), i),
+            Reading::Colours(w) => entries(colour_block(bytes, index(w))),
+            Reading::Colour(w, i) => entry(colour_block(bytes, index(w)), i),
         })
     }
+}
+
+/// The number of pairs of a block of 0Ah or 0Dh.
+fn entries(block: Option<Pairs>) -> Result<usize, Refusal> {
+    whole(block.map(|pairs| usize::from(pairs.entries())))
+}
+
+/// One of its pairs.
+fn entry(block: Option<Pairs>, i: u64) -> Result<usize, Refusal> {
+    whole(block.and_then(|pairs| pairs.get(index(i))).map(both))
 }
 
 /// Place + 65,536 x length.
@@ -148,6 +163,8 @@ impl fmt::Display for Reading {
             Reading::Pair(j, i) => write!(to, "pair {i} of speed block {j} of the part"),
             Reading::Entries(w) => write!(to, "register block {w} of the part"),
             Reading::Entry(w, i) => write!(to, "pair {i} of register block {w} of the part"),
+            Reading::Colours(w) => write!(to, "colour {w} of the part"),
+            Reading::Colour(w, i) => write!(to, "pair {i} of colour {w} of the part"),
         }
     }
 }

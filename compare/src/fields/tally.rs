@@ -13,7 +13,7 @@ pub struct Tally {
     pub answers: u64,
     pub differences: Differences,
     /// By call: how often each number came, both sides agreeing.
-    by_call: [Answers; 8],
+    by_call: [Answers; 10],
 }
 
 impl Takes<Batch> for Tally {
@@ -56,7 +56,7 @@ impl Tally {
                 all &= came(call, settings, &of_a_table(settings, &[17]));
             }
         }
-        for call in 4..=7 {
+        for call in 4..=9 {
             all &= came(call, Settings::default(), &[0, 17]);
         }
         all

@@ -33,7 +33,7 @@ pub fn calls(chip: Chip, to: Sink) -> Result<(), String> {
 }
 
 fn on_a_bus(id: u8) -> bool {
-    matches!(id, id::DIGITAL_SENSOR | id::CONTROLLER | id::TACHOMETER)
+    id::ON_A_BUS.contains(&id)
 }
 
 /// Where the numbers of a kind have its pins.
@@ -41,9 +41,9 @@ fn places(id: u8) -> &'static [usize] {
     match id {
         _ if on_a_bus(id) => &[7],
         id::ANALOGUE_SENSOR => &[6],
-        id::FAN => &[5, 6],
+        id::FAN | id::PUMP => &[5, 6],
         id::STATUS_LED => &[5, 8, 11],
-        id::CURRENT => &[5],
+        id::WATER_LEVEL | id::VOLTAGE | id::CURRENT => &[5],
         id::RGB_LED => &[5, 6, 7],
         _ => &[],
     }

@@ -21,6 +21,7 @@ pub fn calls(chip: Chip, to: Sink) -> Result<(), String> {
     descriptions(chip, to)?;
     attachments(chip, to)?;
     fans_and_colours(chip, to)?;
+    water(chip, to)?;
     lamps(chip, to)
 }
 
@@ -91,10 +92,9 @@ fn descriptions(chip: Chip, to: Sink) -> Result<(), String> {
 
 /// Bus type, kind of address and address together.
 fn attachments(chip: Chip, to: Sink) -> Result<(), String> {
-    let kinds = [id::DIGITAL_SENSOR, id::CONTROLLER, id::TACHOMETER];
     for sample in elements(chip)
         .iter()
-        .filter(|sample| kinds.contains(&sample.id))
+        .filter(|sample| id::ON_A_BUS.contains(&sample.id))
     {
         for bus in CODES {
             for kind in [0, 1, 2, 255] {
@@ -122,11 +122,16 @@ fn fans_and_colours(chip: Chip, to: Sink) -> Result<(), String> {
             .find(|sample| sample.id == id)
             .expect("all kinds")
     };
-    let (fan, colours) = (of(id::FAN), of(id::RGB_LED));
+    let (fan, pump, colours) = (of(id::FAN), of(id::PUMP), of(id::RGB_LED));
     for first in PINS {
         for second in PINS {
             for pulses in [0, 1, 255] {
                 changed(&fan, 5, &[first, second, pulses], to)?;
+            }
+        }
+        for second in NEAR {
+            for pulses in [0, 1] {
+                changed(&pump, 5, &[first, second, pulses], to)?;
             }
         }
     }
@@ -134,6 +139,44 @@ fn fans_and_colours(chip: Chip, to: Sink) -> Result<(), String> {
         for green in NEAR {
             for blue in NEAR {
                 changed(&colours, 5, &[red, green, blue], to)?;
+            }
+        }
+    }
+    Ok(())
+}
+
+/// Levels around 1023 beside pins good and bad; chip identifiers beside bus types good, retired and bad.
+fn water(chip: Chip, to: Sink) -> Result<(), String> {
+    for sample in elements(chip) {
+        match sample.id {
+            id::WATER_LEVEL => levels(&sample, to)?,
+            id::EXTERNAL_RGB => identifiers(&sample, to)?,
+            _ => (),
+        }
+    }
+    Ok(())
+}
+
+fn levels(sample: &Sample, to: Sink) -> Result<(), String> {
+    for pin in [0x14, 0x24, 0x13, 0xFF] {
+        for at in [6, 8, 10] {
+            for level in [0u16, 255, 256, 1_022, 1_023, 1_024, 1_025, 0x8000, 0xFFFF] {
+                let mut bent = sample.clone();
+                bent.numbers[5] = pin;
+                changed(&bent, at, &level.to_le_bytes(), to)?;
+            }
+        }
+    }
+    Ok(())
+}
+
+fn identifiers(sample: &Sample, to: Sink) -> Result<(), String> {
+    for bus in [0, 2, 3, 4, 16] {
+        for kind in [0, 1] {
+            for address in [0x14, 0x10, 0x80] {
+                for chip in CODES {
+                    changed(sample, 5, &[bus, kind, address, chip], to)?;
+                }
             }
         }
     }

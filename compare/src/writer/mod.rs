@@ -58,9 +58,8 @@ pub fn gate(options: &Options) -> Result<bool, String> {
     Ok(summed(&tally) && all)
 }
 
-/// Sizes and parts are nearly the same to both chips: on the 321 every second of their calls is enough.
+/// Codes, sizes and parts are nearly the same to both chips: on the 321 every second of their calls is enough.
 fn at_the_edges(comparison: &mut Comparison, chip: Chip) -> Result<(), String> {
-    codes::calls(chip, &mut |call| comparison.call(call))?;
     chips::calls(chip, &mut |call| comparison.call(call))?;
     let mut at = 0;
     let mut some = |call| {
@@ -70,6 +69,7 @@ fn at_the_edges(comparison: &mut Comparison, chip: Chip) -> Result<(), String> {
             _ => comparison.call(call),
         }
     };
+    codes::calls(chip, &mut some)?;
     edges::calls(chip, &mut some)?;
     parts::calls(chip, &mut some)
 }

@@ -15,6 +15,7 @@ pub fn calls(chip: Chip, to: Sink) -> Result<(), String> {
         match sample.id {
             id::CONTROLLER => speeds(&sample, to)?,
             id::TACHOMETER => registers(&sample, to)?,
+            id::EXTERNAL_RGB => colours(&sample, to)?,
             id::TEXT => strings(&sample, to)?,
             _ => (),
         }
@@ -110,6 +111,27 @@ fn registers(sample: &Sample, to: Sink) -> Result<(), String> {
             more[0] = more[0].wrapping_add(1);
             with(sample, more, 2_200, to)?;
         }
+    }
+    Ok(())
+}
+
+/// Sums of three that pass 255, each with another end; each ENTRIES byte one more.
+fn colours(sample: &Sample, to: Sink) -> Result<(), String> {
+    const COUNTS: [u8; 5] = [0, 1, 64, 200, 255];
+    for red in COUNTS {
+        for green in COUNTS {
+            for blue in COUNTS {
+                let own = raw::external(1, 0, 0x40, [red, green, blue]);
+                for end in ENDS {
+                    with(sample, ended(own[12..].to_vec(), end), 3_200, to)?;
+                }
+            }
+        }
+    }
+    for at in [0, 5, 6] {
+        let mut more = raw::external(1, 0, 0x40, [1, 0, 2])[12..].to_vec();
+        more[at] += 1;
+        with(sample, more, 200, to)?;
     }
     Ok(())
 }

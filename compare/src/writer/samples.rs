@@ -52,7 +52,7 @@ impl Sample {
     }
 }
 
-/// All ten kinds, some in two forms, good on this chip.
+/// All fourteen kinds, some in two forms, good on this chip.
 pub fn elements(chip: Chip) -> Vec<Sample> {
     // The last pin of port 2.
     let last_of_port = match chip {
@@ -72,6 +72,11 @@ pub fn elements(chip: Chip) -> Vec<Sample> {
         raw::tachometer(1, 1, 0x40, 1, 0),
         raw::tachometer(1, 3, 0x16, 2, 1),
         raw::rgb(1, 0x05, 0x06, 0x12),
+        raw::water(1, 0x17),
+        raw::pump(1, 0x06, 0x12),
+        raw::voltage(1, 0x22),
+        raw::external(1, 0, 0x40, [1, 0, 2]),
+        raw::external(1, 3, 0x13, [0; 3]),
         raw::text(1, b"x"),
         raw::zone(1, 0),
     ];

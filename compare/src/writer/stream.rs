@@ -172,6 +172,7 @@ fn likely(id: u8, random: &mut Random) -> Vec<u8> {
                 .collect()
         }
         id::TACHOMETER => [pairs(random), pairs(random)].concat(),
+        id::EXTERNAL_RGB => [pairs(random), pairs(random), pairs(random)].concat(),
         id::TEXT => {
             let length = random.below(20);
             random.bytes(length)
@@ -193,7 +194,7 @@ fn pairs(random: &mut Random) -> Vec<u8> {
 fn unknown(random: &mut Random) -> WriterCall {
     let mut call = of_second(random);
     call.does = Does::Append(if random.chance(50) {
-        *random.pick(&[0, 5, 6, 7, 13, 15, 16, 255])
+        *random.pick(&[0, 15, 16, 21, 22, 23, 29, 255])
     } else {
         random.byte()
     });

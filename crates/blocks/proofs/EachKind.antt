@@ -13,7 +13,7 @@ use borrow.Author.Tests.{eqb-true, ltb-true, lt-ltb, le-ltb, leb-true, le-leb, l
 use Rattle.format.specs.Slots.{byte}
 use Rattle.format.specs.Records.{Block}
 use Rattle.format.specs.Rules.{filled}
-use Rattle.format.specs.Decode.{bind, guard, blockOf, readPairs, cutEntries, cutBlocks, cutTwo, whenNil}
+use Rattle.format.specs.Decode.{bind, guard, blockOf, readPairs, cutEntries, cutBlocks, cutTwo, cutThree, whenNil}
 use Rattle.format.specs.declared.records.RegisterPair.{RegisterPair}
 use Rattle.blocks.specs.Cutting.{cut, cutOf, pastBlock, exact, isSome, SpeedsAre, SpeedPart}
 use Rattle.blocks.specs.declared.Cut.{Cut}
@@ -83,6 +83,9 @@ no-more (x ∷ bs) a = refl
 
 pub two : (p : List ℕ) → isSome (exact 2 0 p) ≡ isSome (cutTwo p)
 two p = one-more 1 p _ (λ c. one-more 0 (c .1) _ (λ d. no-more (d .1) _))
+
+pub three : (p : List ℕ) → isSome (exact 3 0 p) ≡ isSome (cutThree p)
+three p = one-more 2 p _ (λ c. two (c .1) ∙ sym (unwrapped (cutTwo (c .1)) _))
 
 -- speed blocks, if there are so many: whether each has a pair
 abbrev ofNumber : ℕ → List Block → Option Bool

@@ -32,7 +32,7 @@ module _ (s : Settings) (part : Part) (n : ℕ) (bad : part .whole ≡ false →
       go true w = good w l (sym (a .0) ∙ w) (sym (a .1 w))
       go false w = bad w ∙ sym (ap numbered (misshapen s (controller d l) (sym (a .0) ∙ w)))
 
-  -- 0Ah, and every kind that has an exact number of blocks
+  -- 0Ah and 0Dh, and every kind that has an exact number of blocks
   pub pairs-fault :
       {A : Type 0} (kind : A → Record) (o : Option A)
       → part .whole ≡ isSome o

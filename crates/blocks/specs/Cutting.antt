@@ -53,6 +53,6 @@ SpeedsAre r (some l) = (r .whole ≡ leb 1 (length l) && leb (length l) 6) × (r
 abbrev pub SpeedPart : List ℕ → Part → Type 0
 SpeedPart p r = (m : ℕ) → length p ≤ m → SpeedsAre r (cutBlocks m p)
 
--- 0Ah: so many blocks of ENTRIES and pairs, which may have none
+-- 0Ah and 0Dh: so many blocks of ENTRIES and pairs, which may have none
 abbrev pub PairsPart : ℕ → List ℕ → Part → Type 0
 PairsPart n p r = (r .whole ≡ isSome (exact n 0 p)) × (r .full ≡ true)

@@ -1,5 +1,6 @@
-// The blocks of 09h and 0Ah, which are to fill an element's part exactly: its bytes from the first block on. A block is an
-// ENTRIES byte and that many pairs of four bytes; `lead` bytes stand before each ENTRIES byte: in 09h one, SPEED, in 0Ah none.
+// The blocks of 09h, 0Ah and 0Dh, which are to fill an element's part exactly: its bytes from the first block on. A block is an
+// ENTRIES byte and that many pairs of four bytes; `lead` bytes stand before each ENTRIES byte: in 09h one, SPEED, in the
+// others none.
 ghost use mathlib.Core.Path.{_≡_};
 ghost use mathlib.Core.Bool.{true};
 ghost use Prim.Native.Nat.{_+_, _<_, _≤_};
@@ -82,7 +83,7 @@ pub fn speed_blocks(p: &[u8]) -> Part
     }
 }
 
-// So many blocks, which may have no pair: 0Ah has two. They fill the part where the last of them begins before its end and
+// So many blocks, which may have no pair: 0Ah has two, 0Dh three. They fill the part where the last of them begins before its end and
 // leads to it.
 pub fn pairs_blocks(p: &[u8], blocks: usize) -> Part
     requires { ⌜ (1 ≤ blocks) × (blocks ≤ 6) ⌝ }

@@ -2,22 +2,23 @@
 -- Assumes nothing.
 use Prim.Native.Nat.{ℕ, suc}
 use native.Mathlib.Omega.{arith}
-use mathlib.Core.Path.{_≡_, refl, _∙_}
+use mathlib.Core.Path.{_≡_, refl, sym, _∙_}
 use mathlib.Core.Bool.{true, false}
 use mathlib.Core.List.{List, [], _∷_}
 use lib.ListN.{length}
 use lib.Dec.{eqb}
 use borrow.Author.Tests.{ne-eqb}
-use Rattle.format.specs.Records.{Record, tachometer}
-use Rattle.format.specs.Rules.{numbered, firstBroken, ownRules}
-use Rattle.format.specs.Decode.{whenNil, cutBlocks, cutTwo}
+use Rattle.format.specs.Pins.{among}
+use Rattle.format.specs.Records.{Record, tachometer, external}
+use Rattle.format.specs.Rules.{numbered, firstBroken, ownRules, chipIdentifiers}
+use Rattle.format.specs.Decode.{whenNil, cutBlocks, cutTwo, cutThree, externalOf}
 use Rattle.format.specs.Writing.{assembledBreaks, partBreaks}
 use Rattle.format.specs.declared.records.BusDevice.{BusDevice}
-use Rattle.format.specs.declared.records.Element.the-variants.{Controller, Tachometer}
+use Rattle.format.specs.declared.records.Element.the-variants.{Controller, Tachometer, External}
 use Rattle.format.specs.declared.settings.Settings.{Settings}
-use Rattle.blocks.specs.Cutting.{SpeedPart, PairsPart}
+use Rattle.blocks.specs.Cutting.{isSome, exact, SpeedPart, PairsPart}
 use Rattle.blocks.specs.declared.Part.{Part}
-use Rattle.blocks.proofs.EachKind.{two}
+use Rattle.blocks.proofs.EachKind.{two, three}
 use Rattle.blocks.proofs.Faults.{speed-fault, pairs-fault}
 use Rattle.rules.specs.Broken.{orElse, DeviceBreaks}
 
@@ -45,3 +46,13 @@ module _
     unfolding partBreaks
     two-lists a =
         pairs-fault s part r (f .0) (λ q. tachometer d (q .0) (q .1)) (cutTwo p) (a .0 ∙ two p) (λ w q. f .1 w .of-tachometer (q .0) (q .1) (a .1))
+
+    -- 0Dh
+    pub three-lists :
+        (i : ℕ)
+        → part .whole ≡ isSome (exact 3 0 p)
+        → part .full ≡ among i chipIdentifiers
+        → r ≡ numbered (partBreaks s (External (externalOf d i)) p)
+    unfolding partBreaks
+    three-lists i w e =
+        pairs-fault s part r (f .0) (λ q. external (externalOf d i) (q .0) (q .1) (q .2)) (cutThree p) (w ∙ three p) (λ v q. f .1 v .of-external i (q .0) (q .1) (q .2) (sym e))

@@ -17,11 +17,14 @@ use Rattle.format.specs.declared.records.AnalogueSensor.{AnalogueSensor}
 use Rattle.format.specs.declared.records.PwmFan.{PwmFan}
 use Rattle.format.specs.declared.records.Lamp.{Lamp}
 use Rattle.format.specs.declared.records.StatusLed.{StatusLed}
+use Rattle.format.specs.declared.records.WaterLevel.{WaterLevel}
+use Rattle.format.specs.declared.records.VoltageSensor.{VoltageSensor}
 use Rattle.format.specs.declared.records.CurrentSensor.{CurrentSensor}
 use Rattle.format.specs.declared.records.BusDevice.{BusDevice}
+use Rattle.format.specs.declared.records.ExternalRgb.{ExternalRgb}
 use Rattle.format.specs.declared.records.RgbLed.{RgbLed}
 use Rattle.format.specs.declared.records.Address.{Address}
-use Rattle.format.specs.declared.records.Element.the-variants.{Digital, Analogue, Fan, Led, Current, Controller, Tachometer, Rgb}
+use Rattle.format.specs.declared.records.Element.the-variants.{Digital, Analogue, Fan, Led, Water, Pump, Voltage, Current, Controller, Tachometer, External, Rgb}
 
 -- slots with room are left out
 module _ (n : ℕ) {u v : Bool} where
@@ -121,6 +124,7 @@ analogue-roomy a p h i j k l m =
     (also (ltb (a .thermal) 16)
     (one (a .pin .0) h (two (a .at0 .0) i (two (a .at25 .0) j (two (a .at50 .0) k (two (a .at75 .0) l (two (a .at100 .0) m refl)))))))
 
+-- 03h, and 06h, which has the same format
 pub fan-roomy :
     (f : PwmFan) {t : Bool}
     → Placed (f .placement)
@@ -130,10 +134,13 @@ pub fan-roomy :
     → f .minrpm .0 < 65536
     → f .maxrpm .0 < 65536
     → f .duty < 256
-    → t ≡ elementRoomy (Fan f)
-fan-roomy f p h i j k l m =
-    placed (f .placement) p
-    (one (f .pwm .0) h (rw i (also (pinRoomy (f .tachometer)) (one (f .ppr) j (two (f .minrpm .0) k (two (f .maxrpm .0) l (one (f .duty) m refl)))))))
+    → (t ≡ elementRoomy (Fan f)) × (t ≡ elementRoomy (Pump f))
+fan-roomy f {t} p h i j k l m = (all, all)
+  where
+    all : t ≡ elementRoomy (Fan f)
+    all =
+        placed (f .placement) p
+        (one (f .pwm .0) h (rw i (also (pinRoomy (f .tachometer)) (one (f .ppr) j (two (f .minrpm .0) k (two (f .maxrpm .0) l (one (f .duty) m refl)))))))
 
 -- a lamp: its pin, and COLOR and PURPOSE
 abbrev pub lampRoomy : Lamp → Bool
@@ -160,6 +167,26 @@ led-roomy l p e f g =
     (placed (l .placement) p
     (six (pinRoomy (l .one .pin)) _ (pinRoomy (l .two .pin)) _ (pinRoomy (l .three .pin)) _))
 
+pub water-roomy :
+    (w : WaterLevel)
+    → Placed (w .placement)
+    → w .pin .0 < 256
+    → w .full .0 < 65536
+    → w .empty .0 < 65536
+    → w .warning .0 < 65536
+    → true ≡ elementRoomy (Water w)
+water-roomy w p h i j k =
+    placed (w .placement) p (one (w .pin .0) h (two (w .full .0) i (two (w .empty .0) j (two (w .warning .0) k refl))))
+
+pub voltage-roomy :
+    (v : VoltageSensor)
+    → Placed (v .placement)
+    → v .pin .0 < 256
+    → v .vmax .0 < 256
+    → v .vmin .0 < 256
+    → true ≡ elementRoomy (Voltage v)
+voltage-roomy v p h i j = placed (v .placement) p (one (v .pin .0) h (one (v .vmax .0) i (one (v .vmin .0) j refl)))
+
 pub current-roomy :
     (c : CurrentSensor)
     → Placed (c .placement)
@@ -176,6 +203,17 @@ pub device-roomy :
     → t ≡ allRoomy (device (d .bus) (d .address))
     → (t ≡ elementRoomy (Controller d)) × (t ≡ elementRoomy (Tachometer d))
 device-roomy d t p e = (placed (d .placement) p e, placed (d .placement) p e)
+
+-- 0Dh: and its chip's identifier
+pub external-roomy :
+    (x : ExternalRgb) (t : Bool)
+    → Placed (x .device .placement)
+    → x .identifier < 256
+    → t ≡ allRoomy (device (x .device .bus) (x .device .address))
+    → t ≡ elementRoomy (External x)
+external-roomy x t p h e =
+    placed (x .device .placement) p
+    (e ∙ room (ltb (x .device .bus) 16) (roomy (address (x .device .address))) (one (x .identifier) h refl))
 
 pub rgb-roomy :
     (r : RgbLed) → Placed (r .placement) → r .red .0 < 256 → r .green .0 < 256 → r .blue .0 < 256 → true ≡ elementRoomy (Rgb r)

@@ -8,7 +8,7 @@ ghost use Rattle.format.specs.Slots.{halves, roomy, allRoomy};
 ghost use Rattle.format.specs.Layout.{device, optionalPinSlot};
 ghost use Rattle.format.specs.Rules.{numbered, descriptionRoomy, elementRoomy};
 ghost use Rattle.format.specs.Writing.{partBreaks};
-ghost use Rattle.format.specs.declared.records.Element.the-variants.{Digital, Analogue, Fan, Led, Controller, Tachometer};
+ghost use Rattle.format.specs.declared.records.Element.the-variants.{Digital, Analogue, Fan, Led, Pump, Controller, Tachometer, External};
 ghost use Rattle.rules.specs.Broken.{orElse, DeviceBreaks};
 use blocks::Part;
 use format::pins::OptionalPin;
@@ -18,6 +18,7 @@ use format::records::BusDevice;
 use format::records::Description;
 use format::records::DigitalSensor;
 use format::records::Element;
+use format::records::ExternalRgb;
 use format::records::Lamp;
 use format::records::PwmFan;
 use format::records::StatusLed;
@@ -68,9 +69,9 @@ fn analogue_roomy(a: AnalogueSensor) -> bool
     a.thermal < 16
 }
 
-// 03h
+// 03h and 06h
 fn fan_roomy(f: PwmFan) -> bool
-    ensures { λ r. ⌜ r ≡ elementRoomy (Fan f) ⌝ }
+    ensures { λ r. ⌜ (r ≡ elementRoomy (Fan f)) × (r ≡ elementRoomy (Pump f)) ⌝ }
 {
     let t = f.tachometer;
     pin_roomy(t)
@@ -102,6 +103,15 @@ fn device_roomy(d: BusDevice) -> bool
     address_roomy(d.bus, a)
 }
 
+// 0Dh
+fn external_roomy(x: ExternalRgb) -> bool
+    ensures { λ r. ⌜ r ≡ elementRoomy (External x) ⌝ }
+{
+    let d = x.device;
+    let a = d.address;
+    address_roomy(d.bus, a)
+}
+
 // 25 of an element. The numbers of the kinds that always have room fit by their types.
 pub fn element_roomy(e: Element) -> bool
     ensures { λ r. ⌜ r ≡ elementRoomy e ⌝ }
@@ -111,11 +121,15 @@ pub fn element_roomy(e: Element) -> bool
         Element::Analogue(a) => analogue_roomy(a),
         Element::Fan(f) => fan_roomy(f),
         Element::Led(l) => led_roomy(l),
+        Element::Water(_) => true,
+        Element::Pump(f) => fan_roomy(f),
+        Element::Voltage(_) => true,
         Element::Current(_) => true,
         Element::Controller(d) => device_roomy(d),
         Element::Tachometer(d) => device_roomy(d),
         Element::Zone => true,
         Element::Text => true,
+        Element::External(x) => external_roomy(x),
         Element::Rgb(_) => true,
     }
 }
@@ -127,7 +141,7 @@ fn unless_empty(part: &[u8], fault: u8) -> u8
     if part.len() == 0 { fault } else { 8 }
 }
 
-// 09h and 0Ah, by their fixed fields and what their part says.
+// 09h, 0Ah and 0Dh, by their fixed fields and what their part says.
 fn device_breaks(d: BusDevice, part: Part, s: Settings) -> u8
     ensures { λ r. ⌜ (part .whole ≡ false → r ≡ 8) × (part .whole ≡ true → DeviceBreaks s d (part .full) r) ⌝ }
 {
@@ -151,6 +165,19 @@ fn tachometer_breaks(d: BusDevice, part: &[u8], s: Settings) -> u8
     device_breaks(d, blocks::pairs_blocks(part, 2), s)
 }
 
+// 0Dh, whose chip must be identified
+fn external_breaks(x: ExternalRgb, part: &[u8], s: Settings) -> u8
+    ensures { λ r. ⌜ r ≡ numbered (partBreaks s (External x) (now (part .entry))) ⌝ }
+{
+    let d = x.device;
+    let blocks = blocks::pairs_blocks(part, 3);
+    let said = Part {
+        whole: blocks.whole,
+        full: rules::identified(x.identifier),
+    };
+    device_breaks(d, said, s)
+}
+
 // The first of 8, 9, 23 and 10 that an element with its part breaks, or 0.
 pub fn part_breaks(e: Element, part: &[u8], s: Settings) -> u8
     ensures { λ r. ⌜ r ≡ numbered (partBreaks s e (now (part .entry))) ⌝ }
@@ -160,11 +187,15 @@ pub fn part_breaks(e: Element, part: &[u8], s: Settings) -> u8
         Element::Analogue(a) => unless_empty(part, rules::analogue_breaks(a, s)),
         Element::Fan(f) => unless_empty(part, rules::fan_breaks(f, s)),
         Element::Led(l) => unless_empty(part, rules::led_breaks(l, s)),
+        Element::Water(w) => unless_empty(part, rules::water_breaks(w, s)),
+        Element::Pump(f) => unless_empty(part, rules::fan_breaks(f, s)),
+        Element::Voltage(v) => unless_empty(part, rules::voltage_breaks(v, s)),
         Element::Current(c) => unless_empty(part, rules::current_breaks(c, s)),
         Element::Controller(d) => controller_breaks(d, part, s),
         Element::Tachometer(d) => tachometer_breaks(d, part, s),
         Element::Zone => rules::zone_breaks(part),
         Element::Text => rules::text_breaks(part),
+        Element::External(x) => external_breaks(x, part, s),
         Element::Rgb(c) => unless_empty(part, rules::rgb_breaks(c, s)),
     }
 }

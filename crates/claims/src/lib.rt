@@ -55,7 +55,7 @@ fn used_bit(p: OptionalPin) -> u32
     }
 }
 
-// 01h, 09h, 0Ah: P0.3 and P0.4; or P0.0 to P0.2 and the chip select.
+// 01h, 09h, 0Ah, 0Dh: P0.3 and P0.4; or P0.0 to P0.2 and the chip select.
 pub fn bus_claims(a: Address) -> Claims
     ensures { λ r. ⌜ ((c : Chip) → selected c a ≡ true → ClaimsAre r (onBus a)) ⌝ }
 {
@@ -73,7 +73,7 @@ pub fn bus_claims(a: Address) -> Claims
     }
 }
 
-// 02h, 08h: P0.7, and its pin.
+// 02h, 05h, 07h, 08h: P0.7, and its pin.
 pub fn analogue_claims(p: Pin) -> Claims
     ensures { λ r. ⌜ ((c : Chip) → allowed c AnaloguePin p ≡ true → ClaimsAre r (reference ∷ own p ∷ [])) ⌝ }
 {
@@ -84,7 +84,7 @@ pub fn analogue_claims(p: Pin) -> Claims
     }
 }
 
-// 03h: PWM and tachometer.
+// 03h, 06h: PWM and tachometer.
 pub fn fan_claims(f: PwmFan) -> Claims
     ensures { λ r. ⌜ ((c : Chip) → pinned c (fan f) ≡ true → ClaimsAre r (claimsOf (fan f))) ⌝ }
 {

@@ -8,13 +8,13 @@ use mathlib.Core.List.{List, [], _∷_, _++_, map}
 use mathlib.Core.Option.{none, some}
 use lib.ListN.{length, length-append}
 use Rattle.format.specs.Slots.{Slot, whole, word, written, allRoomy, byte}
-use Rattle.format.specs.Records.{Record, digital, analogue, fan, led, current, controller, tachometer, zone, string, rgb, elementOf}
+use Rattle.format.specs.Records.{Record, digital, analogue, fan, led, water, pump, voltage, current, controller, tachometer, zone, string, external, rgb, elementOf}
 use Rattle.format.specs.Layout.{fixed, part, entries, blocks, body, layout, idOf, headed}
 use Rattle.format.specs.Rules.{ofItsKind}
 use Rattle.format.specs.Table.{elementBreaks}
 use Rattle.format.specs.Decode.{decode, content}
 use Rattle.format.specs.Writing.{assemble, assembledBreaks, partBreaks, elementSlots}
-use Rattle.format.proofs.Blocks.{blocks-only, two-only}
+use Rattle.format.proofs.Blocks.{blocks-only, two-only, three-only}
 use Rattle.format.proofs.Kept.{own-unbroken}
 use Rattle.format.proofs.Slots.{roomy-split}
 use Rattle.format.proofs.Written.{written-fits, length-written, record-reads-back}
@@ -28,6 +28,9 @@ assembles (digital d) h = refl
 assembles (analogue a) h = refl
 assembles (fan f) h = refl
 assembles (led l) h = refl
+assembles (water w) h = refl
+assembles (pump f) h = refl
+assembles (voltage v) h = refl
 assembles (current c) h = refl
 assembles (controller d l) h =
     rw (blocks-only l (length (written (blocks l))) (written (blocks l)) (omega arith) (written-fits (blocks l) h)) refl
@@ -35,6 +38,8 @@ assembles (tachometer d a b) h =
     rw (two-only (written (entries a ++ entries b)) a b (written-fits (entries a ++ entries b) h)) refl
 assembles (zone bytes) h = ap (λ (l : List ℕ). some (zone l)) (written-whole bytes)
 assembles (string bytes) h = ap (λ (l : List ℕ). some (string l)) (written-whole bytes)
+assembles (external x r g b) h =
+    rw (three-only (written (entries r ++ (entries g ++ entries b))) r g b (written-fits (entries r ++ (entries g ++ entries b)) h)) refl
 assembles (rgb r) h = refl
 
 -- what append lays out is the layout of the record

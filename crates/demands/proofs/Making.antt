@@ -12,16 +12,17 @@ use lib.ListN.{length}
 use lib.Dec.{ltb}
 use borrow.Author.Tests.{lt-ltb}
 use Rattle.format.specs.Slots.{Slot, whole, low, high, halves, flag, reserved, written, Fits, allRoomy, Bytes}
-use Rattle.format.specs.Records.{Block, Record, digital, analogue, fan, led, current, controller, tachometer, zone, string, rgb, elementOf}
+use Rattle.format.specs.Records.{Block, Record, digital, analogue, fan, led, water, pump, voltage, current, controller, tachometer, zone, string, external, rgb, elementOf}
 use Rattle.format.specs.Layout.{pairs, entries, blocks, part}
-use Rattle.format.specs.Decode.{bind, whenNil, cutBlocks, cutTwo}
+use Rattle.format.specs.Decode.{bind, whenNil, cutBlocks, cutTwo, cutThree}
 use Rattle.format.specs.Writing.{assemble}
 use Rattle.format.specs.declared.records.RegisterPair.{RegisterPair}
 use Rattle.format.specs.declared.records.BusDevice.{BusDevice}
+use Rattle.format.specs.declared.records.ExternalRgb.{ExternalRgb}
 use Rattle.format.specs.declared.records.Element.{Element}
-use Rattle.format.specs.declared.records.Element.the-variants.{Digital, Analogue, Fan, Led, Current, Controller, Tachometer, Zone, Text, Rgb}
+use Rattle.format.specs.declared.records.Element.the-variants.{Digital, Analogue, Fan, Led, Water, Pump, Voltage, Current, Controller, Tachometer, Zone, Text, External, Rgb}
 use Rattle.format.proofs.Kept.{and-true}
-use Rattle.format.proofs.Blocks.{BlocksFit, blocks-fits, TwoFit, two-fits}
+use Rattle.format.proofs.Blocks.{BlocksFit, blocks-fits, TwoFit, two-fits, ThreeFit, three-fits}
 use Rattle.format.proofs.Whole.{written-whole}
 use Rattle.demands.specs.Made.{MadeOf}
 use Rattle.demands.proofs.Assembled.{assembles}
@@ -62,11 +63,16 @@ part-plain (digital d) = refl
 part-plain (analogue a) = refl
 part-plain (fan f) = refl
 part-plain (led l) = refl
+part-plain (water w) = refl
+part-plain (pump f) = refl
+part-plain (voltage v) = refl
 part-plain (current c) = refl
 part-plain (controller d l) = blocks-plain l
 part-plain (tachometer d a b) = plain-append (entries a) (entries b) (pairs-plain a) (pairs-plain b)
 part-plain (zone bytes) = whole-plain bytes
 part-plain (string bytes) = whole-plain bytes
+part-plain (external x r g b) =
+    plain-append (entries r) (entries g ++ entries b) (pairs-plain r) (plain-append (entries g) (entries b) (pairs-plain g) (pairs-plain b))
 part-plain (rgb r) = refl
 
 -- bytes that fit them are what is written of them, and they have room
@@ -116,6 +122,17 @@ module _ (r : Record) where
       subst (MadeOf (Tachometer d) p) z
       (record { element = refl; as-written = fits-written p (entries (t .0) ++ entries (t .1)) (part-plain (tachometer d (t .0) (t .1))) f })
 
+  cut-three :
+      (x : ExternalRgb) (p : List ℕ) (o : Option (List RegisterPair × List RegisterPair × List RegisterPair))
+      → ThreeFit p o
+      → bind o (λ t. some (external x (t .0) (t .1) (t .2))) ≡ some r
+      → MadeOf (External x) p r
+  cut-three x p none f h = never h
+  cut-three x p (some t) f h =
+      let y = external x (t .0) (t .1) (t .2) in
+      let z : y ≡ r = cc in
+      subst (MadeOf (External x) p) z (record { element = refl; as-written = fits-written p (part y) (part-plain y) f })
+
   content : (x : Record) (e : Element) (p : List ℕ) → elementOf x ≡ e → written (part x) ≡ p → some x ≡ some r → MadeOf e p r
   content x e p q w h = let z : x ≡ r = cc in subst (MadeOf e p) z (record { element = q; as-written = w })
 
@@ -125,11 +142,15 @@ module _ (r : Record) where
   makes (Analogue a) p f h = bare (analogue a) _ p refl refl h
   makes (Fan x) p f h = bare (fan x) _ p refl refl h
   makes (Led l) p f h = bare (led l) _ p refl refl h
+  makes (Water w) p f h = bare (water w) _ p refl refl h
+  makes (Pump x) p f h = bare (pump x) _ p refl refl h
+  makes (Voltage v) p f h = bare (voltage v) _ p refl refl h
   makes (Current c) p f h = bare (current c) _ p refl refl h
   makes (Controller d) p f h = cut d p (cutBlocks (length p) p) (blocks-fits (length p) p f) h
   makes (Tachometer d) p f h = cut-two d p (cutTwo p) (two-fits p f) h
   makes Zone p f h = content (zone p) Zone p refl (written-whole p) h
   makes Text p f h = content (string p) Text p refl (written-whole p) h
+  makes (External x) p f h = cut-three x p (cutThree p) (three-fits p f) h
   makes (Rgb x) p f h = bare (rgb x) _ p refl refl h
 
   -- and what has them they make

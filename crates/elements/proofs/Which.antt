@@ -10,11 +10,11 @@ use lib.ListN.{length, drop}
 use lib.Dec.{eqb, leb}
 use borrow.Author.Tests.{eqb-true, leb-true, ne-eqb}
 use Rattle.format.specs.Slots.{byte}
-use Rattle.format.specs.Records.{Record, digital, analogue, fan, led, current, controller, tachometer, zone, string, rgb, elementOf}
-use Rattle.format.specs.Decode.{readDigital, readAnalogue, readFan, readLed, readCurrent, readDevice, readRgb, guard, bind, pick, cutBlocks, cutTwo, decode}
+use Rattle.format.specs.Records.{Record, digital, analogue, fan, led, water, pump, voltage, current, controller, tachometer, zone, string, external, rgb, elementOf}
+use Rattle.format.specs.Decode.{readDigital, readAnalogue, readFan, readLed, readWater, readVoltage, readCurrent, readDevice, readExternal, readRgb, guard, bind, pick, cutBlocks, cutTwo, cutThree, decode}
 use Rattle.format.specs.declared.pins.Chip.{Chip}
 use Rattle.format.specs.declared.records.Element.{Element}
-use Rattle.format.specs.declared.records.Element.the-variants.{Digital, Analogue, Fan, Led, Current, Controller, Tachometer, Zone, Text, Rgb}
+use Rattle.format.specs.declared.records.Element.the-variants.{Digital, Analogue, Fan, Led, Water, Pump, Voltage, Current, Controller, Tachometer, Zone, Text, External, Rgb}
 
 guard-some : {A : Type 0} (t : Bool) (o : Option A) (x : A) → guard t o ≡ some x → (t ≡ true) × (o ≡ some x)
 guard-some true o x h = (refl, h)
@@ -53,6 +53,18 @@ module _ (chip : Chip) (c : List ℕ) (x : Record) where
   unfolding decode
   is-led h = even (length c) 11 (led (readLed chip (byte c))) x h
 
+  pub is-water : decode chip 5 c ≡ some x → (length c ≡ 12) × (Water (readWater chip (byte c)) ≡ elementOf x)
+  unfolding decode
+  is-water h = even (length c) 12 (water (readWater chip (byte c))) x h
+
+  pub is-pump : decode chip 6 c ≡ some x → (length c ≡ 13) × (Pump (readFan chip (byte c)) ≡ elementOf x)
+  unfolding decode
+  is-pump h = even (length c) 13 (pump (readFan chip (byte c))) x h
+
+  pub is-voltage : decode chip 7 c ≡ some x → (length c ≡ 8) × (Voltage (readVoltage chip (byte c)) ≡ elementOf x)
+  unfolding decode
+  is-voltage h = even (length c) 8 (voltage (readVoltage chip (byte c))) x h
+
   pub is-current : decode chip 8 c ≡ some x → (length c ≡ 11) × (Current (readCurrent chip (byte c)) ≡ elementOf x)
   unfolding decode
   is-current h = even (length c) 11 (current (readCurrent chip (byte c))) x h
@@ -73,6 +85,12 @@ module _ (chip : Chip) (c : List ℕ) (x : Record) where
       let p = guard-some (leb 9 (length c)) (bind (cutTwo (drop 9 c)) (λ t. some (tachometer (readDevice chip (byte c)) (t .0) (t .1)))) x h in
       (leb-true 9 (length c) (p .0), bind-element (cutTwo (drop 9 c)) (λ t. tachometer (readDevice chip (byte c)) (t .0) (t .1)) (Tachometer (readDevice chip (byte c))) x (λ t. refl) (p .1))
 
+  pub is-external : decode chip 13 c ≡ some x → (9 ≤ length c) × (External (readExternal chip (byte c)) ≡ elementOf x)
+  unfolding decode
+  is-external h =
+      let p = guard-some (leb 9 (length c)) (bind (cutThree (drop 9 c)) (λ t. some (external (readExternal chip (byte c)) (t .0) (t .1) (t .2)))) x h in
+      (leb-true 9 (length c) (p .0), bind-element (cutThree (drop 9 c)) (λ t. external (readExternal chip (byte c)) (t .0) (t .1) (t .2)) (External (readExternal chip (byte c))) x (λ t. refl) (p .1))
+
   pub is-text : decode chip 12 c ≡ some x → Text ≡ elementOf x
   unfolding decode
   is-text h = let z : string c ≡ x = cc in ap elementOf z
@@ -84,17 +102,21 @@ module _ (chip : Chip) (c : List ℕ) (x : Record) where
       → (id ≡ 2 → ⊥)
       → (id ≡ 3 → ⊥)
       → (id ≡ 4 → ⊥)
+      → (id ≡ 5 → ⊥)
+      → (id ≡ 6 → ⊥)
+      → (id ≡ 7 → ⊥)
       → (id ≡ 8 → ⊥)
       → (id ≡ 9 → ⊥)
       → (id ≡ 10 → ⊥)
       → (id ≡ 12 → ⊥)
+      → (id ≡ 13 → ⊥)
       → (id ≡ 14 → ⊥)
       → decode chip id c ≡ some x
       → Zone ≡ elementOf x
   unfolding decode
-  is-zone id a b d e f g i j k h =
+  is-zone id a b d e f g i j k l m n o h =
       go (eqb id 11)
-      (rw (ne-eqb id 1 a, ne-eqb id 2 b, ne-eqb id 3 d, ne-eqb id 4 e, ne-eqb id 8 f, ne-eqb id 9 g, ne-eqb id 10 i, ne-eqb id 12 j, ne-eqb id 14 k) at h)
+      (rw (ne-eqb id 1 a, ne-eqb id 2 b, ne-eqb id 3 d, ne-eqb id 4 e, ne-eqb id 5 f, ne-eqb id 6 g, ne-eqb id 7 i, ne-eqb id 8 j, ne-eqb id 9 k, ne-eqb id 10 l, ne-eqb id 12 m, ne-eqb id 13 n, ne-eqb id 14 o) at h)
     where
       go : (t : Bool) → pick t (some (zone c)) none ≡ some x → Zone ≡ elementOf x
       go true q = let z : zone c ≡ x = cc in ap elementOf z

@@ -32,10 +32,14 @@ pub fn element_of(id: u8, b: &[u8], chip: Chip) -> Element
         2 => Element::Analogue(fields::analogue(b, chip)),
         3 => Element::Fan(fields::fan(b, chip)),
         4 => Element::Led(fields::led(b, chip)),
+        5 => Element::Water(fields::water(b, chip)),
+        6 => Element::Pump(fields::fan(b, chip)),
+        7 => Element::Voltage(fields::voltage(b, chip)),
         8 => Element::Current(fields::current(b, chip)),
         9 => Element::Controller(fields::device(b, chip)),
         10 => Element::Tachometer(fields::device(b, chip)),
         12 => Element::Text,
+        13 => Element::External(fields::external(b, chip)),
         14 => Element::Rgb(fields::rgb(b, chip)),
         _ => Element::Zone,
     }
@@ -50,6 +54,7 @@ pub fn part_start(id: u8, len: usize) -> usize
         10 => 12,
         11 => 3,
         12 => 3,
+        13 => 12,
         _ => len,
     }
 }
@@ -63,11 +68,15 @@ pub fn id_of(e: Element) -> u8
         Element::Analogue(_) => 0x02,
         Element::Fan(_) => 0x03,
         Element::Led(_) => 0x04,
+        Element::Water(_) => 0x05,
+        Element::Pump(_) => 0x06,
+        Element::Voltage(_) => 0x07,
         Element::Current(_) => 0x08,
         Element::Controller(_) => 0x09,
         Element::Tachometer(_) => 0x0a,
         Element::Zone => 0x0b,
         Element::Text => 0x0c,
+        Element::External(_) => 0x0d,
         Element::Rgb(_) => 0x0e,
     }
 }
@@ -107,6 +116,9 @@ pub fn shown(e: Element, part: &[u8]) -> Showing
         Element::Analogue(a) => placed(a.placement.zone, own(a.pin.0, 255, 255)),
         Element::Fan(f) => placed(f.placement.zone, fan_pins(f)),
         Element::Led(l) => placed(l.placement.zone, lamp_pins(l)),
+        Element::Water(w) => placed(w.placement.zone, own(w.pin.0, 255, 255)),
+        Element::Pump(f) => placed(f.placement.zone, fan_pins(f)),
+        Element::Voltage(v) => placed(v.placement.zone, own(v.pin.0, 255, 255)),
         Element::Current(c) => placed(c.placement.zone, own(c.pin.0, 255, 255)),
         Element::Controller(d) => {
             let a = d.address;
@@ -118,6 +130,11 @@ pub fn shown(e: Element, part: &[u8]) -> Showing
         }
         Element::Zone => without_pins(number_of(part)),
         Element::Text => without_pins(256),
+        Element::External(x) => {
+            let d = x.device;
+            let a = d.address;
+            on_bus(d.placement.zone, d.bus, a)
+        }
         Element::Rgb(r) => placed(r.placement.zone, own(r.red.0, r.green.0, r.blue.0)),
     }
 }

@@ -97,7 +97,7 @@ text-unique σ b k r r′ small t t′ =
     let same = gives-unique σ b k (t .answer) (t′ .answer) (t .part) (t′ .part) small (t .gives) (t′ .gives) .0 in
     text-asked-unique σ (t′ .answer) b k r r′ small (subst (λ (a : Asked). TextAsked σ a b k r) same (t .text)) (t′ .text)
 
--- esa_block, esa_pair, esa_entries and esa_entry promise an equation with one number
+-- esa_block, esa_pair, esa_entries, esa_entry, esa_colours and esa_colour promise an equation with one number
 pub equal-unique : (v r r′ : ℕ) → r ≡ v → r′ ≡ v → r ≡ r′
 equal-unique v r r′ e e′ = e ∙ sym e′
 

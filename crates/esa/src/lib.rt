@@ -2,7 +2,7 @@
 // stands beside it. Settings come as one number: bit 0 set is the 321, bit 1 the archive's rules, other bits are ignored; the writer
 // ignores bit 1 too.
 ghost use mathlib.Core.Path.{_≡_};
-ghost use Rattle.parts.specs.Inside.{blockIn, pairIn, listIn, listPairIn};
+ghost use Rattle.parts.specs.Inside.{blockIn, pairIn, listIn, listPairIn, colourIn, colourPairIn};
 ghost use Rattle.listing.specs.Lines.{Listed};
 ghost use Rattle.esa.specs.Settled.{chipOf, rulesOf, settingsOf};
 ghost use Rattle.esa.specs.Face.{Checked, AskedFor, PartFor};
@@ -137,6 +137,22 @@ pub extern "C" fn esa_entry(part: &[u8], w: usize, i: usize) -> u64
     packing::pair(parts::list_pair(part, w, i))
 }
 
+// 0Dh: ENTRIES of block w of a part, 0 for red, 1 for green, 2 for blue.
+#[no_mangle]
+pub extern "C" fn esa_colours(part: &[u8], w: usize) -> u64
+    ensures { λ r. ⌜ r ≡ packedEntries (colourIn (now (part .entry)) w) ⌝ }
+{
+    packing::entries(parts::colour(part, w))
+}
+
+// 0Dh: address and data of register pair i of block w.
+#[no_mangle]
+pub extern "C" fn esa_colour(part: &[u8], w: usize, i: usize) -> u64
+    ensures { λ r. ⌜ r ≡ packedPair (colourPairIn (now (part .entry)) w i) ⌝ }
+{
+    packing::pair(parts::colour_pair(part, w, i))
+}
+
 // Starts a table with the description in the numbers. Beside 0 stands the length, beside a refusal its place.
 #[no_mangle]
 pub extern "C" fn esa_start(buffer: &mut [u8], settings: u64, numbers: &[u8; 32]) -> u64
@@ -147,7 +163,7 @@ pub extern "C" fn esa_start(buffer: &mut [u8], settings: u64, numbers: &[u8; 32]
 }
 
 // Appends the element of this identifier in the numbers, with its variable part. Beside 0 stands the new length, beside a
-// refusal its place; 7 for an identifier that is not one of the ten.
+// refusal its place; 7 for an identifier that is not one of the fourteen.
 #[no_mangle]
 pub extern "C" fn esa_append(
     buffer: &mut [u8],

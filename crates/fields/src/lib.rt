@@ -5,7 +5,7 @@ ghost use Prim.Native.Nat.{_+_, _<_, _≤_};
 ghost use lib.ListN.{length};
 ghost use lib.Dec.{eqb};
 ghost use Rattle.format.specs.Slots.{byte};
-ghost use Rattle.format.specs.Decode.{optionalOf, readPlacement, pickAddress, readDigital, readAnalogue, readFan, readLamp, readLed, readCurrent, readDevice, readRgb, readDescription};
+ghost use Rattle.format.specs.Decode.{optionalOf, readPlacement, pickAddress, readDigital, readAnalogue, readFan, readLamp, readLed, readWater, readVoltage, readCurrent, readDevice, readExternal, readRgb, readDescription};
 use format::pins::Chip;
 use format::pins::OptionalPin;
 use format::pins::Pin;
@@ -15,14 +15,18 @@ use format::records::BusDevice;
 use format::records::CurrentSensor;
 use format::records::Description;
 use format::records::DigitalSensor;
+use format::records::ExternalRgb;
 use format::records::Lamp;
 use format::records::Placement;
 use format::records::PwmFan;
 use format::records::RgbLed;
 use format::records::StatusLed;
+use format::records::VoltageSensor;
+use format::records::WaterLevel;
 use format::units::Centimetres;
 use format::units::Counts;
 use format::units::Deciamps;
+use format::units::Decivolts;
 use format::units::Degrees;
 use format::units::FourMilliamps;
 use format::units::Rpm;
@@ -65,7 +69,7 @@ pub fn analogue(b: &[u8], chip: Chip) -> AnalogueSensor
     }
 }
 
-// 03h
+// 03h and 06h
 pub fn fan(b: &[u8], chip: Chip) -> PwmFan
     requires { ⌜ 13 ≤ length (now b) ⌝ }
     ensures { λ r. ⌜ r ≡ readFan chip (byte (now (b .entry))) ⌝ }
@@ -94,6 +98,33 @@ pub fn led(b: &[u8], chip: Chip) -> StatusLed
     }
 }
 
+// 05h
+pub fn water(b: &[u8], chip: Chip) -> WaterLevel
+    requires { ⌜ 12 ≤ length (now b) ⌝ }
+    ensures { λ r. ⌜ r ≡ readWater chip (byte (now (b .entry))) ⌝ }
+{
+    WaterLevel {
+        placement: placement(b),
+        pin: Pin(b[5], chip),
+        full: Counts(word(b, 6)),
+        empty: Counts(word(b, 8)),
+        warning: Counts(word(b, 10)),
+    }
+}
+
+// 07h
+pub fn voltage(b: &[u8], chip: Chip) -> VoltageSensor
+    requires { ⌜ 8 ≤ length (now b) ⌝ }
+    ensures { λ r. ⌜ r ≡ readVoltage chip (byte (now (b .entry))) ⌝ }
+{
+    VoltageSensor {
+        placement: placement(b),
+        pin: Pin(b[5], chip),
+        vmax: Decivolts(b[6]),
+        vmin: Decivolts(b[7]),
+    }
+}
+
 // 08h
 pub fn current(b: &[u8], chip: Chip) -> CurrentSensor
     requires { ⌜ 11 ≤ length (now b) ⌝ }
@@ -107,7 +138,7 @@ pub fn current(b: &[u8], chip: Chip) -> CurrentSensor
     }
 }
 
-// 09h and 0Ah, before their blocks
+// 09h and 0Ah, before their blocks, and the same fields of 0Dh
 pub fn device(b: &[u8], chip: Chip) -> BusDevice
     requires { ⌜ 8 ≤ length (now b) ⌝ }
     ensures { λ r. ⌜ r ≡ readDevice chip (byte (now (b .entry))) ⌝ }
@@ -117,6 +148,17 @@ pub fn device(b: &[u8], chip: Chip) -> BusDevice
         placement: placement(b),
         bus,
         address: address(bus, b[6], chip),
+    }
+}
+
+// 0Dh, before its blocks
+pub fn external(b: &[u8], chip: Chip) -> ExternalRgb
+    requires { ⌜ 9 ≤ length (now b) ⌝ }
+    ensures { λ r. ⌜ r ≡ readExternal chip (byte (now (b .entry))) ⌝ }
+{
+    ExternalRgb {
+        device: device(b, chip),
+        identifier: b[8],
     }
 }
 

@@ -8,9 +8,9 @@ use mathlib.Core.Path.{_≡_, refl}
 use mathlib.Core.Bool.{Bool, true, false, _||_, not}
 use mathlib.Core.List.{List, [], _∷_, _++_}
 use mathlib.Core.Option.{Option, none, some}
-use Rattle.format.specs.Records.{Record, digital, analogue, fan, led, current, controller, tachometer, zone, string, rgb, elementOf}
+use Rattle.format.specs.Records.{Record, digital, analogue, fan, led, water, pump, voltage, current, controller, tachometer, zone, string, external, rgb, elementOf}
 use Rattle.format.specs.Pins.{among}
-use Rattle.format.specs.Rules.{rule, unlessKept, firstBroken, ownRules, shaped, coded, inUse, pinned, busTypes, ofItsBus, addressed, filled}
+use Rattle.format.specs.Rules.{rule, unlessKept, firstBroken, ownRules, shaped, coded, inUse, pinned, busTypes, ofItsBus, addressed, filled, chipIdentifiers}
 use Rattle.format.specs.ZonesAndStrings.{rulesAgainst}
 use Rattle.format.specs.Table.{elementBreaks, PassKept, Keeps}
 use Rattle.format.specs.Verdict.{Breaks, header, crowded, unknown, unlaid, faulty, Passed, Accepts, Verdict, accepted, short, unrevised, missized, misdescribed, stopped, unzoned, unnamed, clashing}
@@ -35,11 +35,15 @@ coded-in-use (digital d) h = either-way (among (d .bus) busTypes)
 coded-in-use (analogue a) h = refl
 coded-in-use (fan f) h = refl
 coded-in-use (led l) h = refl
+coded-in-use (water w) h = refl
+coded-in-use (pump f) h = refl
+coded-in-use (voltage v) h = refl
 coded-in-use (current c) h = refl
 coded-in-use (controller d bs) h = either-way (among (d .bus) busTypes)
 coded-in-use (tachometer d a b) h = either-way (among (d .bus) busTypes)
 coded-in-use (zone bytes) h = refl
 coded-in-use (string bytes) h = refl
+coded-in-use (external x r g b) h = either-way (among (x .device .bus) busTypes)
 coded-in-use (rgb r) h = refl
 
 -- one test of 23 for another that is kept where 9 is: the first rule broken is the same, 23 aside

@@ -14,7 +14,7 @@ use Rattle.format.specs.Slots.{Slot, word, Starts, Fits, byte, Bytes}
 use Rattle.format.specs.Records.{Block}
 use Rattle.format.specs.Layout.{pairs, entries, blocks}
 use Rattle.format.specs.declared.records.RegisterPair.{RegisterPair}
-use Rattle.format.specs.Decode.{wordAt, pairOf, blockOf, readPairs, guard, bind, cutEntries, cutBlocks, cutTwo, whenNil}
+use Rattle.format.specs.Decode.{wordAt, pairOf, blockOf, readPairs, guard, bind, cutEntries, cutBlocks, cutTwo, cutThree, whenNil}
 use Rattle.format.proofs.Slots.{bytes-drop, Over, starts-over, over-starts, starts-rest, starts-length, starts-count, starts-append, starts-split}
 
 drop-same : (bs : List ℕ) (m n : ℕ) → m ≡ n → drop m bs ≡ drop n bs
@@ -139,3 +139,25 @@ pub two-only : (bs : List ℕ) (a b : List RegisterPair) → Fits bs (entries a 
 two-only bs a b f =
     let c = starts-split bs (entries a) (entries b) [] f in
     simp (entries-only bs a (c .0) (c .1), entries-only (c .0) b [] (c .2))
+
+-- three of them
+abbrev pub ThreeFit : List ℕ → Option (List RegisterPair × List RegisterPair × List RegisterPair) → Type 0
+ThreeFit bs none = Unit {0}
+ThreeFit bs (some t) = Fits bs (entries (t .0) ++ (entries (t .1) ++ entries (t .2)))
+
+pub three-fits : (bs : List ℕ) → Bytes bs → ThreeFit bs (cutThree bs)
+three-fits bs small = first (cutEntries bs) (entries-fits bs small)
+  where
+    rest : (c : List RegisterPair × List ℕ) (t : Option (List RegisterPair × List RegisterPair)) → Starts bs (entries (c .0)) (c .1) → TwoFit (c .1) t → ThreeFit bs (bind t (λ t. some (c .0, t .0, t .1)))
+    rest c none s f = tt
+    rest c (some t) s f = starts-append bs (entries (c .0)) (entries (t .0) ++ entries (t .1)) (c .1) [] s f
+
+    first : (c : Option (List RegisterPair × List ℕ)) → EntriesFit bs c → ThreeFit bs (bind c (λ c. bind (cutTwo (c .1)) (λ t. some (c .0, t .0, t .1))))
+    first none e = tt
+    first (some c) e = rest c (cutTwo (c .1)) (e .0) (two-fits (c .1) (e .1))
+
+pub three-only :
+    (bs : List ℕ) (a b d : List RegisterPair) → Fits bs (entries a ++ (entries b ++ entries d)) → cutThree bs ≡ some (a, b, d)
+three-only bs a b d f =
+    let c = starts-split bs (entries a) (entries b ++ entries d) [] f in
+    simp (entries-only bs a (c .0) (c .1), two-only (c .0) b d (c .2))

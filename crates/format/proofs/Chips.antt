@@ -11,16 +11,16 @@ use mathlib.Core.Option.{Option, none, some}
 use lib.ListN.{length}
 use lib.Dec.{eqb, ltb}
 use Rattle.format.specs.Slots.{Slot, Fits, Bytes, allRoomy}
-use Rattle.format.specs.Records.{Record, digital, analogue, fan, led, current, controller, tachometer, zone, string, rgb, elementOf}
+use Rattle.format.specs.Records.{Record, digital, analogue, fan, led, water, pump, voltage, current, controller, tachometer, zone, string, external, rgb, elementOf}
 use Rattle.format.specs.Layout.{optionalPinSlot, address, layout, layouts, opening, table}
 use Rattle.format.specs.Pins.{among, onChip, keptIf, only, listed, permitted, ofChip, allowed, unused, allowedOrUnused}
-use Rattle.format.specs.Rules.{unlessKept, firstBroken, descriptionRules, ownRules, shaped, coded, inUse, pinned, selected, rises, ofItsBus}
+use Rattle.format.specs.Rules.{unlessKept, firstBroken, descriptionRules, ownRules, shaped, coded, inUse, pinned, selected, rises, fanned, ofItsBus}
 use Rattle.format.specs.ZonesAndStrings.{Role, role, zoneDeclared, stringDeclared, gathered, zones, strings, rulesAgainst, zoneNamed, stringNamed, allAmong, firstNaming, zoneless, nameless}
 use Rattle.format.specs.Claims.{Made, madeAt, ownUsed, onBus, claimsOf, firstClaims, claimsFrom, contested}
 use Rattle.format.specs.Table.{elementBreaks, descriptionBreaks, PassKept, Keeps}
 use Rattle.format.specs.Verdict.{Accepts, Verdict, accepted}
 use Rattle.format.specs.Known.{tableA}
-use Rattle.format.specs.Chips.{withChip, pinOn, optionalOn, addressOn, deviceOn, lampOn, recordOn, recordsOn, descriptionOn}
+use Rattle.format.specs.Chips.{withChip, pinOn, optionalOn, addressOn, deviceOn, lampOn, motorOn, recordOn, recordsOn, descriptionOn}
 use Rattle.format.specs.declared.pins.Chip.{Chip}
 use Rattle.format.specs.declared.pins.Chip.the-variants.{C8051F320, C8051F321}
 use Rattle.format.specs.declared.pins.Use.{Use}
@@ -31,6 +31,7 @@ use Rattle.format.specs.declared.pins.OptionalPin.the-variants.{Unused, 
 use Rattle.format.specs.declared.settings.Settings.{Settings}
 use Rattle.format.specs.declared.settings.Rules.{Rules}
 use Rattle.format.specs.declared.records.Description.{Description}
+use Rattle.format.specs.declared.records.PwmFan.{PwmFan}
 use Rattle.format.specs.declared.records.Address.{Address}
 use Rattle.format.specs.declared.records.Address.the-variants.{Bus, Select}
 use Rattle.format.specs.declared.answers.Answer.the-variants.{Accepted}
@@ -69,11 +70,15 @@ module _ (c : Chip) where
   layout-on (analogue a) = refl
   layout-on (fan f) = rw (slot-on (f .tachometer)) refl
   layout-on (led l) = rw (slot-on (l .one .pin), slot-on (l .two .pin), slot-on (l .three .pin)) refl
+  layout-on (water w) = refl
+  layout-on (pump f) = rw (slot-on (f .tachometer)) refl
+  layout-on (voltage v) = refl
   layout-on (current x) = refl
   layout-on (controller d bs) = rw (address-on (d .address)) refl
   layout-on (tachometer d a b) = rw (address-on (d .address)) refl
   layout-on (zone bytes) = refl
   layout-on (string bytes) = refl
+  layout-on (external x r g b) = rw (address-on (x .device .address)) refl
   layout-on (rgb r) = refl
 
   pub role-on : (r : Record) → role (recordOn c r) ≡ role r
@@ -81,11 +86,15 @@ module _ (c : Chip) where
   role-on (analogue a) = refl
   role-on (fan f) = refl
   role-on (led l) = refl
+  role-on (water w) = refl
+  role-on (pump f) = refl
+  role-on (voltage v) = refl
   role-on (current x) = refl
   role-on (controller d bs) = refl
   role-on (tachometer d a b) = refl
   role-on (zone bytes) = refl
   role-on (string bytes) = refl
+  role-on (external x r g b) = refl
   role-on (rgb r) = refl
 
   claims-on : (r : Record) → claimsOf (recordOn c r) ≡ claimsOf r
@@ -93,11 +102,15 @@ module _ (c : Chip) where
   claims-on (analogue a) = refl
   claims-on (fan f) = rw (used-on (f .tachometer)) refl
   claims-on (led l) = rw (used-on (l .one .pin), used-on (l .two .pin), used-on (l .three .pin)) refl
+  claims-on (water w) = refl
+  claims-on (pump f) = rw (used-on (f .tachometer)) refl
+  claims-on (voltage v) = refl
   claims-on (current x) = refl
   claims-on (controller d bs) = on-bus-on (d .address)
   claims-on (tachometer d a b) = on-bus-on (d .address)
   claims-on (zone bytes) = refl
   claims-on (string bytes) = refl
+  claims-on (external x r g b) = on-bus-on (x .device .address)
   claims-on (rgb r) = refl
 
   shaped-on : (r : Record) → shaped (recordOn c r) ≡ shaped r
@@ -105,11 +118,15 @@ module _ (c : Chip) where
   shaped-on (analogue a) = refl
   shaped-on (fan f) = refl
   shaped-on (led l) = refl
+  shaped-on (water w) = refl
+  shaped-on (pump f) = refl
+  shaped-on (voltage v) = refl
   shaped-on (current x) = refl
   shaped-on (controller d bs) = refl
   shaped-on (tachometer d a b) = refl
   shaped-on (zone bytes) = refl
   shaped-on (string bytes) = refl
+  shaped-on (external x r g b) = refl
   shaped-on (rgb r) = refl
 
   coded-on : (r : Record) → coded (recordOn c r) ≡ coded r
@@ -117,11 +134,15 @@ module _ (c : Chip) where
   coded-on (analogue a) = refl
   coded-on (fan f) = rw (unused-on (f .tachometer)) refl
   coded-on (led l) = rw (unused-on (l .one .pin), unused-on (l .two .pin), unused-on (l .three .pin)) refl
+  coded-on (water w) = refl
+  coded-on (pump f) = rw (unused-on (f .tachometer)) refl
+  coded-on (voltage v) = refl
   coded-on (current x) = refl
   coded-on (controller d bs) = rw (its-bus-on (d .bus) (d .address)) refl
   coded-on (tachometer d a b) = rw (its-bus-on (d .bus) (d .address)) refl
   coded-on (zone bytes) = refl
   coded-on (string bytes) = refl
+  coded-on (external x r g b) = rw (its-bus-on (x .device .bus) (x .device .address)) refl
   coded-on (rgb r) = refl
 
   in-use-on : (k : Rules) (r : Record) → inUse k (elementOf (recordOn c r)) ≡ inUse k (elementOf r)
@@ -129,11 +150,15 @@ module _ (c : Chip) where
   in-use-on k (analogue a) = refl
   in-use-on k (fan f) = refl
   in-use-on k (led l) = refl
+  in-use-on k (water w) = refl
+  in-use-on k (pump f) = refl
+  in-use-on k (voltage v) = refl
   in-use-on k (current x) = refl
   in-use-on k (controller d bs) = refl
   in-use-on k (tachometer d a b) = refl
   in-use-on k (zone bytes) = refl
   in-use-on k (string bytes) = refl
+  in-use-on k (external x r g b) = refl
   in-use-on k (rgb r) = refl
 
   layouts-on : (rs : List Record) → layouts (recordsOn c rs) ≡ layouts rs
@@ -232,19 +257,26 @@ rises-on : (p : Pin) (q : OptionalPin) → rises p q ≡ true → rises (pinOn l
 rises-on p Unused h = refl
 rises-on p (Used q) h = h
 
-pinned-larger : (r : Record) → pinned small r ≡ true → pinned large (recordOn large r) ≡ true
-pinned-larger (digital d) h = selected-larger (d .address) h
-pinned-larger (analogue a) h = allowed-larger AnaloguePin (a .pin) h
-pinned-larger (fan f) h =
+fanned-larger : (f : PwmFan) → fanned small f ≡ true → fanned large (motorOn large f) ≡ true
+fanned-larger f h =
     let p = and-true (allowed small FanPin (f .pwm)) (allowedOrUnused small FanPin (f .tachometer) && rises (f .pwm) (f .tachometer)) h in
     let q = and-true (allowedOrUnused small FanPin (f .tachometer)) (rises (f .pwm) (f .tachometer)) (p .1) in
     simp (allowed-larger FanPin (f .pwm) (p .0), optional-larger FanPin (f .tachometer) (q .0), rises-on (f .pwm) (f .tachometer) (q .1))
+
+pinned-larger : (r : Record) → pinned small r ≡ true → pinned large (recordOn large r) ≡ true
+pinned-larger (digital d) h = selected-larger (d .address) h
+pinned-larger (analogue a) h = allowed-larger AnaloguePin (a .pin) h
+pinned-larger (fan f) h = fanned-larger f h
 pinned-larger (led l) h = three-larger StatusLed (l .one .pin) (l .two .pin) (l .three .pin) h
+pinned-larger (water w) h = allowed-larger AnaloguePin (w .pin) h
+pinned-larger (pump f) h = fanned-larger f h
+pinned-larger (voltage v) h = allowed-larger AnaloguePin (v .pin) h
 pinned-larger (current x) h = allowed-larger AnaloguePin (x .pin) h
 pinned-larger (controller d bs) h = selected-larger (d .address) h
 pinned-larger (tachometer d a b) h = selected-larger (d .address) h
 pinned-larger (zone bytes) h = refl
 pinned-larger (string bytes) h = refl
+pinned-larger (external x r g b) h = selected-larger (x .device .address) h
 pinned-larger (rgb r) h =
     let up = ltb (r .red .0) (r .green .0) && ltb (r .green .0) (r .blue .0) in
     let p = and-true (allowed small FanPin (r .red)) (allowed small FanPin (r .green) && (allowed small FanPin (r .blue) && up)) h in

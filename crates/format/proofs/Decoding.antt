@@ -10,18 +10,18 @@ use lib.ListN.{length, take, drop, length-take, length-drop, drop-of-length-le}
 use lib.Dec.{eqb, leb}
 use borrow.Author.Tests.{eqb-true, le-leb, leb-true}
 use Rattle.format.specs.Slots.{Slot, whole, reserved, word, Starts, Fits, byte, Bytes}
-use Rattle.format.specs.Records.{Block, Record, digital, analogue, fan, led, current, controller, tachometer, zone, string, rgb, elementOf}
+use Rattle.format.specs.Records.{Block, Record, digital, analogue, fan, led, water, pump, voltage, current, controller, tachometer, zone, string, external, rgb, elementOf}
 use Rattle.format.specs.Layout.{fixed, part, entries, blocks, idOf, body, layout}
 use Rattle.format.specs.Rules.{ofItsKind}
 use Rattle.format.specs.Verdict.{stated, Stands}
-use Rattle.format.specs.Decode.{readDigital, readAnalogue, readFan, readLed, readCurrent, readDevice, readRgb, content, guard, bind, cutBlocks, cutTwo, pick, decode}
+use Rattle.format.specs.Decode.{readDigital, readAnalogue, readFan, readLed, readWater, readVoltage, readCurrent, readDevice, readExternal, readRgb, content, guard, bind, cutBlocks, cutTwo, cutThree, pick, decode}
 use Rattle.format.specs.declared.records.BusDevice.{BusDevice}
 use Rattle.format.specs.declared.records.RegisterPair.{RegisterPair}
-use Rattle.format.specs.declared.records.Element.the-variants.{Controller, Tachometer}
+use Rattle.format.specs.declared.records.Element.the-variants.{Controller, Tachometer, External}
 use Rattle.format.proofs.Lengths.{fits-length}
 use Rattle.format.proofs.Slots.{Over, bytes-drop, bytes-take, starts-over, over-starts, over-at, starts-rest, starts-length, starts-count, starts-split, starts-append, take-fits, fits-take}
-use Rattle.format.proofs.Blocks.{BlocksFit, blocks-fits, blocks-only, TwoFit, two-fits, two-only}
-use Rattle.format.proofs.EachKind.{chip-same, optional-standing, address-kind, digital-only, digital-fits, analogue-only, analogue-fits, fan-only, fan-fits, led-only, led-fits, current-only, current-fits, rgb-only, rgb-fits, device-only, controller-fits, tachometer-fits, whole-only, whole-fits}
+use Rattle.format.proofs.Blocks.{BlocksFit, blocks-fits, blocks-only, TwoFit, two-fits, two-only, ThreeFit, three-fits, three-only}
+use Rattle.format.proofs.EachKind.{chip-same, optional-standing, address-kind, digital-only, digital-fits, analogue-only, analogue-fits, fan-only, fan-fits, led-only, led-fits, water-only, water-fits, voltage-only, voltage-fits, current-only, current-fits, rgb-only, rgb-fits, device-only, controller-fits, tachometer-fits, external-only, external-fits, whole-only, whole-fits}
 use Rattle.format.specs.declared.pins.Chip.{Chip}
 
 -- what decoding says of the bytes after a header
@@ -80,6 +80,18 @@ two-read k id c at long (some t) f =
     let ss = fixed (Tachometer (readDevice k (byte c))) in
     (at, starts-append c ss (entries (t .0) ++ entries (t .1)) (drop 9 c) [] (over-starts c ss long (tachometer-fits k (byte c))) f, address-kind k (byte c))
 
+three-read :
+    (k : Chip) (id : ℕ) (c : List ℕ)
+    → id ≡ 13
+    → 9 ≤ length c
+    → (t : Option (List RegisterPair × List RegisterPair × List RegisterPair))
+    → ThreeFit (drop 9 c) t
+    → Reads k id c (bind t (λ t. some (external (readExternal k (byte c)) (t .0) (t .1) (t .2))))
+three-read k id c at long none f = tt
+three-read k id c at long (some t) f =
+    let ss = fixed (External (readExternal k (byte c))) in
+    (at, starts-append c ss (entries (t .0) ++ (entries (t .1) ++ entries (t .2))) (drop 9 c) [] (over-starts c ss long (external-fits k (byte c))) f, address-kind k (byte c))
+
 decode-reads : (k : Chip) (id : ℕ) (c : List ℕ) → Bytes c → Reads k id c (decode k id c)
 unfolding decode
 decode-reads k id c small =
@@ -90,6 +102,9 @@ decode-reads k id c small =
     (pick-cases P id 2 _ _ (λ at. even-fits k id c 17 (analogue (readAnalogue k f)) refl (chip-same k) at (analogue-fits k f small))
     (pick-cases P id 3 _ _ (λ at. even-fits k id c 13 (fan (readFan k f)) refl (simp (chip-same k, optional-standing k (f 6))) at (fan-fits k f small))
     (pick-cases P id 4 _ _ (λ at. even-fits k id c 11 (led (readLed k f)) refl (simp (optional-standing k (f 5), optional-standing k (f 7), optional-standing k (f 9))) at (led-fits k f small))
+    (pick-cases P id 5 _ _ (λ at. even-fits k id c 12 (water (readWater k f)) refl (chip-same k) at (water-fits k f small))
+    (pick-cases P id 6 _ _ (λ at. even-fits k id c 13 (pump (readFan k f)) refl (simp (chip-same k, optional-standing k (f 6))) at (fan-fits k f small))
+    (pick-cases P id 7 _ _ (λ at. even-fits k id c 8 (voltage (readVoltage k f)) refl (chip-same k) at (voltage-fits k f small))
     (pick-cases P id 8 _ _ (λ at. even-fits k id c 11 (current (readCurrent k f)) refl (chip-same k) at (current-fits k f small))
     (pick-cases P id 9 _ _
     (λ at.
@@ -101,7 +116,11 @@ decode-reads k id c small =
     (λ t. two-read k id c at (leb-true 9 n t) (cutTwo (drop 9 c)) (two-fits (drop 9 c) (bytes-drop 9 c small))))
     (pick-cases P id 11 _ _ (λ at. (at, whole-fits c, refl))
     (pick-cases P id 12 _ _ (λ at. (at, whole-fits c, refl))
-    (pick-cases P id 14 _ _ (λ at. even-fits k id c 8 (rgb (readRgb k f)) refl (simp (chip-same k)) at (rgb-fits k f small)) tt)))))))))
+    (pick-cases P id 13 _ _
+    (λ at.
+    guard-cases k id c (leb 9 n) _
+    (λ t. three-read k id c at (leb-true 9 n t) (cutThree (drop 9 c)) (three-fits (drop 9 c) (bytes-drop 9 c small))))
+    (pick-cases P id 14 _ _ (λ at. even-fits k id c 8 (rgb (readRgb k f)) refl (simp (chip-same k)) at (rgb-fits k f small)) tt)))))))))))))
 
 -- a record that fits is decoded
 decode-finds : (k : Chip) (c : List ℕ) (r : Record) → Fits c (body r) → ofItsKind k r ≡ true → decode k (idOf (elementOf r)) c ≡ some r
@@ -112,6 +131,11 @@ decode-finds k c (analogue x) h kind =
     simp (fits-length c (body (analogue x)) h, analogue-only k (byte c) x (starts-over c (body (analogue x)) [] h) kind)
 decode-finds k c (fan x) h kind = simp (fits-length c (body (fan x)) h, fan-only k (byte c) x (starts-over c (body (fan x)) [] h) kind)
 decode-finds k c (led x) h kind = simp (fits-length c (body (led x)) h, led-only k (byte c) x (starts-over c (body (led x)) [] h) kind)
+decode-finds k c (water x) h kind =
+    simp (fits-length c (body (water x)) h, water-only k (byte c) x (starts-over c (body (water x)) [] h) kind)
+decode-finds k c (pump x) h kind = simp (fits-length c (body (pump x)) h, fan-only k (byte c) x (starts-over c (body (pump x)) [] h) kind)
+decode-finds k c (voltage x) h kind =
+    simp (fits-length c (body (voltage x)) h, voltage-only k (byte c) x (starts-over c (body (voltage x)) [] h) kind)
 decode-finds k c (current x) h kind =
     simp (fits-length c (body (current x)) h, current-only k (byte c) x (starts-over c (body (current x)) [] h) kind)
 decode-finds k c (controller d l) h kind =
@@ -126,6 +150,11 @@ decode-finds k c (tachometer d a b) h kind =
     simp (le-leb 9 (length c) (starts-length c ss (m .0) (m .1)), two-only (drop 9 c) a b f, device-only k (byte c) d (reserved ∷ entries a ++ entries b) (starts-over c (body (tachometer d a b)) [] h) kind)
 decode-finds k c (zone z) h kind = ap (λ (l : List ℕ). some (zone l)) (sym (whole-only c z h))
 decode-finds k c (string z) h kind = ap (λ (l : List ℕ). some (string l)) (sym (whole-only c z h))
+decode-finds k c (external x r g b) h kind =
+    let ss = fixed (External x) in
+    let m = starts-split c ss (entries r ++ (entries g ++ entries b)) [] h in
+    let f : Fits (drop 9 c) (entries r ++ (entries g ++ entries b)) = rw (starts-rest c ss (m .0) (m .1)) at (m .2) in
+    simp (le-leb 9 (length c) (starts-length c ss (m .0) (m .1)), three-only (drop 9 c) r g b f, external-only k (byte c) x (entries r ++ (entries g ++ entries b)) (starts-over c (body (external x r g b)) [] h) kind)
 decode-finds k c (rgb x) h kind = simp (fits-length c (body (rgb x)) h, rgb-only k (byte c) x (starts-over c (body (rgb x)) [] h) kind)
 
 -- The header, once for all kinds: a record that fits has the length that stands in its header, and its body fits what follows.

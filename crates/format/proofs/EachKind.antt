@@ -12,8 +12,8 @@ use Rattle.format.specs.Slots.{Slot, whole, reserved, bit, Holds, Fits}
 use Rattle.format.specs.Layout.{pinSlot, optionalPinSlot, address, device, placement, fixed, opening}
 use Rattle.format.specs.Pins.{sameChip, ofChip, standing}
 use Rattle.format.specs.Rules.{ofItsBus, chosen, ofItsDevice, ofItsKind, descriptionKind}
-use Rattle.format.specs.Records.{digital, analogue, fan, led, current, rgb}
-use Rattle.format.specs.Decode.{pinOf, pickPin, optionalOf, placementOf, digitalOf, analogueOf, fanOf, lampOf, ledOf, currentOf, deviceOf, rgbOf, descriptionOf, wordAt, pickAddress, readPlacement, readAddress, readDigital, readAnalogue, readFan, readLed, readCurrent, readDevice, readRgb, readDescription}
+use Rattle.format.specs.Records.{digital, analogue, fan, led, water, voltage, current, rgb}
+use Rattle.format.specs.Decode.{pinOf, pickPin, optionalOf, placementOf, digitalOf, analogueOf, fanOf, lampOf, ledOf, waterOf, voltageOf, currentOf, deviceOf, externalOf, rgbOf, descriptionOf, wordAt, pickAddress, readPlacement, readAddress, readDigital, readAnalogue, readFan, readLed, readWater, readVoltage, readCurrent, readDevice, readExternal, readRgb, readDescription}
 use Rattle.format.specs.declared.pins.Chip.{Chip}
 use Rattle.format.specs.declared.pins.Chip.the-variants.{C8051F320, C8051F321}
 use Rattle.format.specs.declared.pins.Pin.{Pin}
@@ -26,12 +26,15 @@ use Rattle.format.specs.declared.records.AnalogueSensor.{AnalogueSensor}
 use Rattle.format.specs.declared.records.PwmFan.{PwmFan}
 use Rattle.format.specs.declared.records.Lamp.{Lamp}
 use Rattle.format.specs.declared.records.StatusLed.{StatusLed}
+use Rattle.format.specs.declared.records.WaterLevel.{WaterLevel}
+use Rattle.format.specs.declared.records.VoltageSensor.{VoltageSensor}
 use Rattle.format.specs.declared.records.CurrentSensor.{CurrentSensor}
 use Rattle.format.specs.declared.records.BusDevice.{BusDevice}
+use Rattle.format.specs.declared.records.ExternalRgb.{ExternalRgb}
 use Rattle.format.specs.declared.records.RgbLed.{RgbLed}
 use Rattle.format.specs.declared.records.Address.{Address}
 use Rattle.format.specs.declared.records.Address.the-variants.{Bus, Select}
-use Rattle.format.specs.declared.records.Element.the-variants.{Digital, Analogue, Fan, Led, Current, Controller, Tachometer, Rgb}
+use Rattle.format.specs.declared.records.Element.the-variants.{Digital, Analogue, Fan, Led, Water, Voltage, Current, Controller, Tachometer, External, Rgb}
 use Rattle.format.proofs.Slots.{Over, over-at}
 use Rattle.format.proofs.Kept.{and-true}
 
@@ -141,7 +144,7 @@ module _ (c : Chip) where
   pub analogue-fits : (f : ℕ → ℕ) → Small f → Over f (fixed (Analogue (readAnalogue c f)))
   analogue-fits f small = omega (arith, small 7, small 9, small 11, small 13, small 15)
 
-  -- 03h
+  -- 03h, and 06h, which has the same format
   pub fan-only : (f : ℕ → ℕ) (x : PwmFan) → Over f (fixed (Fan x)) → ofItsKind c (fan x) ≡ true → x ≡ readFan c f
   fan-only f x o k =
       let q = and-true (ofChip c (x .pwm)) (standing c (x .tachometer)) k in
@@ -171,6 +174,30 @@ module _ (c : Chip) where
   pub led-fits : (f : ℕ → ℕ) → Small f → Over f (fixed (Led (readLed c f)))
   led-fits f small =
       (refl, (refl, (refl, (refl, (refl, (optional-fits (f 5), ((refl, refl), (optional-fits (f 7), ((refl, refl), (optional-fits (f 9), ((refl, refl), tt)))))))))))
+
+  -- 05h
+  pub water-only : (f : ℕ → ℕ) (x : WaterLevel) → Over f (fixed (Water x)) → ofItsKind c (water x) ≡ true → x ≡ readWater c f
+  water-only f x o k =
+      let a = pin-only (f 5) (x .pin) (over-at f (fixed (Water x)) o 5) k in
+      let m : x .full .0 ≡ wordAt f 6 = omega arith in
+      let n : x .empty .0 ≡ wordAt f 8 = omega arith in
+      let p : x .warning .0 ≡ wordAt f 10 = omega arith in
+      let h : waterOf (again (x .placement)) (x .pin) (x .full .0) (x .empty .0) (x .warning .0) ≡ readWater c f = cc in
+      h
+
+  pub water-fits : (f : ℕ → ℕ) → Small f → Over f (fixed (Water (readWater c f)))
+  water-fits f small = omega (arith, small 6, small 8, small 10)
+
+  -- 07h
+  pub voltage-only :
+      (f : ℕ → ℕ) (x : VoltageSensor) → Over f (fixed (Voltage x)) → ofItsKind c (voltage x) ≡ true → x ≡ readVoltage c f
+  voltage-only f x o k =
+      let a = pin-only (f 5) (x .pin) (over-at f (fixed (Voltage x)) o 5) k in
+      let h : voltageOf (again (x .placement)) (x .pin) (x .vmax .0) (x .vmin .0) ≡ readVoltage c f = cc in
+      h
+
+  pub voltage-fits : (f : ℕ → ℕ) → Small f → Over f (fixed (Voltage (readVoltage c f)))
+  voltage-fits f small = omega arith
 
   -- 08h
   pub current-only :
@@ -217,6 +244,20 @@ module _ (c : Chip) where
 
   pub tachometer-fits : (f : ℕ → ℕ) → Over f (fixed (Tachometer (readDevice c f)))
   tachometer-fits f = (refl, (refl, (refl, (refl, (refl, (refl, (address-fits (eqb (f 5 % 16) 3) (f 6), (tt, (tt, tt)))))))))
+
+  -- 0Dh: a device and its chip's identifier
+  pub external-only :
+      (f : ℕ → ℕ) (x : ExternalRgb) (ss : List Slot)
+      → Over f (fixed (External x) ++ ss)
+      → ofItsDevice c (x .device .bus) (x .device .address) ≡ true
+      → x ≡ readExternal c f
+  external-only f x ss o k =
+      let d = device-only f (x .device) (whole (x .identifier) ∷ ss) o k in
+      let e : f 8 ≡ x .identifier = over-at f (fixed (External x) ++ ss) o 8 in
+      λ i. externalOf (d i) (sym e i)
+
+  pub external-fits : (f : ℕ → ℕ) → Over f (fixed (External (readExternal c f)))
+  external-fits f = (refl, (refl, (refl, (refl, (refl, (refl, (address-fits (eqb (f 5 % 16) 3) (f 6), (tt, (refl, tt)))))))))
 
 -- 0Bh, 0Ch: all bytes after the header
 pub whole-only : (bs c : List ℕ) → Fits bs (map whole c) → c ≡ bs

@@ -65,12 +65,12 @@ each-right : (c : Chip) (rows : List FieldRow) → EachAgrees c rows → EachRig
 each-right c [] h = tt
 each-right c (row ∷ rows) h = (right c row (h .0), each-right c rows (h .1))
 
--- one element of each of the ten kinds, on each chip
+-- one element of each of the fourteen kinds, on each chip
 agree : (c : Chip) → EachAgrees c (fieldRows c)
 agree C8051F320 =
-    (omega arith, (omega arith, (omega arith, (omega arith, (omega arith, (omega arith, (omega arith, (omega arith, (omega arith, (omega arith, (omega arith, tt)))))))))))
+    (omega arith, (omega arith, (omega arith, (omega arith, (omega arith, (omega arith, (omega arith, (omega arith, (omega arith, (omega arith, (omega arith, (omega arith, (omega arith, (omega arith, (omega arith, tt)))))))))))))))
 agree C8051F321 =
-    (omega arith, (omega arith, (omega arith, (omega arith, (omega arith, (omega arith, (omega arith, (omega arith, (omega arith, (omega arith, (omega arith, tt)))))))))))
+    (omega arith, (omega arith, (omega arith, (omega arith, (omega arith, (omega arith, (omega arith, (omega arith, (omega arith, (omega arith, (omega arith, (omega arith, (omega arith, (omega arith, (omega arith, tt)))))))))))))))
 
 pub field-rows : (c : Chip) → EachRight c (fieldRows c)
 field-rows c = each-right c (fieldRows c) (agree c)

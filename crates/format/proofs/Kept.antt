@@ -9,8 +9,8 @@ use borrow.Author.Tests.{eqb-true}
 use mathlib.Core.List.{List, [], _∷_, _++_}
 use mathlib.Core.Option.{Option, none, some}
 use native.Mathlib.Omega.{arith}
-use Rattle.format.specs.Records.{Record, digital, analogue, fan, led, current, controller, tachometer, zone, string, rgb, elementOf}
-use Rattle.format.specs.Rules.{Rule, unlessKept, firstBroken, numbered, descriptionRules, typed, powered, strapped, ownRules, shaped, coded, inUse, pinned, busTypes, ofItsBus, chosen, addressed, selected, rises, filled, ofItsDevice, ofItsKind, descriptionKind}
+use Rattle.format.specs.Records.{Record, digital, analogue, fan, led, water, pump, voltage, current, controller, tachometer, zone, string, external, rgb, elementOf}
+use Rattle.format.specs.Rules.{Rule, unlessKept, firstBroken, numbered, descriptionRules, typed, powered, strapped, ownRules, shaped, coded, inUse, pinned, busTypes, ofItsBus, chosen, addressed, selected, rises, fanned, filled, chipIdentifiers, ofItsDevice, ofItsMotor, ofItsKind, descriptionKind}
 use Rattle.format.specs.Pins.{among, ofChip, allowed, unused, allowedOrUnused, standing, permitted}
 use Rattle.format.specs.declared.pins.Chip.{Chip}
 use Rattle.format.specs.declared.pins.Chip.the-variants.{C8051F320, C8051F321}
@@ -23,6 +23,7 @@ use Rattle.format.specs.declared.settings.Settings.{Settings}
 use Rattle.format.specs.declared.records.Address.{Address}
 use Rattle.format.specs.declared.records.Address.the-variants.{Bus, Select}
 use Rattle.format.specs.declared.records.Description.{Description}
+use Rattle.format.specs.declared.records.PwmFan.{PwmFan}
 use Rattle.format.specs.ZonesAndStrings.{rulesAgainst}
 use Rattle.format.specs.Table.{elementBreaks, descriptionBreaks}
 
@@ -211,20 +212,29 @@ module _ (c : Chip) where
   device-kind : (bus : ℕ) (a : Address) → addressed bus a ≡ true → selected c a ≡ true → ofItsDevice c bus a ≡ true
   device-kind bus a h k = simp (and-true (among bus busTypes) (ofItsBus bus a) h .1, selected-chosen a k)
 
-  pub kept-kind : (r : Record) → coded r ≡ true → pinned c r ≡ true → ofItsKind c r ≡ true
-  kept-kind (digital d) h k = device-kind (d .bus) (d .address) h k
-  kept-kind (analogue a) h k = allowed-chip AnaloguePin (a .pin) k
-  kept-kind (fan f) h k =
+  motor-kind : (f : PwmFan) → fanned c f ≡ true → ofItsMotor c f ≡ true
+  motor-kind f k =
       let p = and-true (allowed c FanPin (f .pwm)) (allowedOrUnused c FanPin (f .tachometer) && rises (f .pwm) (f .tachometer)) k in
       let q = and-true (allowedOrUnused c FanPin (f .tachometer)) (rises (f .pwm) (f .tachometer)) (p .1) in
       simp (allowed-chip FanPin (f .pwm) (p .0), allowed-standing FanPin (f .tachometer) (q .0))
+
+  pub kept-kind : (r : Record) → coded r ≡ true → pinned c r ≡ true → ofItsKind c r ≡ true
+  kept-kind (digital d) h k = device-kind (d .bus) (d .address) h k
+  kept-kind (analogue a) h k = allowed-chip AnaloguePin (a .pin) k
+  kept-kind (fan f) h k = motor-kind f k
   kept-kind (led l) h k = three-standing StatusLed (l .one .pin) (l .two .pin) (l .three .pin) k
+  kept-kind (water w) h k = allowed-chip AnaloguePin (w .pin) k
+  kept-kind (pump f) h k = motor-kind f k
+  kept-kind (voltage v) h k = allowed-chip AnaloguePin (v .pin) k
   kept-kind (current x) h k = allowed-chip AnaloguePin (x .pin) k
   kept-kind (controller d bs) h k =
       device-kind (d .bus) (d .address) (and-true (addressed (d .bus) (d .address)) (filled bs) h .0) k
   kept-kind (tachometer d a b) h k = device-kind (d .bus) (d .address) h k
   kept-kind (zone bytes) h k = refl
   kept-kind (string bytes) h k = refl
+  kept-kind (external x r g b) h k =
+      let a = addressed (x .device .bus) (x .device .address) in
+      device-kind (x .device .bus) (x .device .address) (and-true a (among (x .identifier) chipIdentifiers) h .0) k
   kept-kind (rgb r) h k =
       let up = ltb (r .red .0) (r .green .0) && ltb (r .green .0) (r .blue .0) in
       let p = and-true (allowed c FanPin (r .red)) (allowed c FanPin (r .green) && (allowed c FanPin (r .blue) && up)) k in

@@ -15,6 +15,7 @@ use Rattle.format.specs.Verdict.{Verdict}
 use Rattle.format.specs.Decode.{decode}
 use Rattle.format.specs.Reader.{verdictOf, pass, step}
 use Rattle.format.specs.Known.{Row, starred, twofold, zoned, ofPins, apart, retired}
+use Rattle.format.specs.WaterKit.{waterKit, manyPairs, lightRetired}
 use Rattle.format.specs.declared.answers.Answer.{Answer}
 use Rattle.format.specs.declared.answers.Answer.the-variants.{Accepted, Refused}
 use Rattle.format.proofs.Kept.{and-true}
@@ -135,3 +136,36 @@ computed-retired C8051F321 Archive = refl
 
 pub readers-apart : (s : Settings) → Each s (retired (s .rules))
 readers-apart s = right-each s (retired (s .rules)) (computed-retired (s .chip) (s .rules))
+
+-- 05h, 06h, 07h and 0Dh
+computed-water : (c : Chip) (k : Rules) → right (on c k) waterKit ≡ true
+unfolding verdictOf pass step decode descriptionRules ownRules rulesAgainst
+computed-water C8051F320 Ordinary = refl
+computed-water C8051F320 Archive = refl
+computed-water C8051F321 Ordinary = refl
+computed-water C8051F321 Archive = refl
+
+pub water-kits : (s : Settings) → Each s waterKit
+water-kits s = right-each s waterKit (computed-water (s .chip) (s .rules))
+
+computed-many : (c : Chip) (k : Rules) → right (on c k) manyPairs ≡ true
+unfolding verdictOf pass step decode descriptionRules ownRules rulesAgainst
+computed-many C8051F320 Ordinary = refl
+computed-many C8051F320 Archive = refl
+computed-many C8051F321 Ordinary = refl
+computed-many C8051F321 Archive = refl
+
+-- .. with more pairs than one byte counts
+pub many-pairs : (s : Settings) → Each s manyPairs
+many-pairs s = right-each s manyPairs (computed-many (s .chip) (s .rules))
+
+-- 0Dh in block mode
+computed-light : (c : Chip) (k : Rules) → right (on c k) (lightRetired k) ≡ true
+unfolding verdictOf pass step decode descriptionRules ownRules rulesAgainst
+computed-light C8051F320 Ordinary = refl
+computed-light C8051F320 Archive = refl
+computed-light C8051F321 Ordinary = refl
+computed-light C8051F321 Archive = refl
+
+pub light-retired : (s : Settings) → Each s (lightRetired (s .rules))
+light-retired s = right-each s (lightRetired (s .rules)) (computed-light (s .chip) (s .rules))

@@ -10,7 +10,7 @@ use lib.ListN.{length, drop}
 use lib.Dec.{ltb, leb}
 use borrow.Author.Tests.{le-ltb, lt-ltb, ltb-true, ltb-false, le-leb, leb-true}
 use Rattle.format.specs.Slots.{Starts, byte, Bytes}
-use Rattle.format.specs.Records.{Record, digital, analogue, fan, led, current, controller, tachometer, zone, string, rgb, elementOf}
+use Rattle.format.specs.Records.{Record, digital, analogue, fan, led, water, pump, voltage, current, controller, tachometer, zone, string, external, rgb, elementOf}
 use Rattle.format.specs.Layout.{layout, idOf}
 use Rattle.format.specs.Table.{elementBreaks}
 use Rattle.format.specs.Verdict.{stated, framed, known, Stands, Breaks, header, crowded, unknown, unlaid, faulty}
@@ -40,11 +40,15 @@ id-known (digital d) = refl
 id-known (analogue a) = refl
 id-known (fan f) = refl
 id-known (led l) = refl
+id-known (water w) = refl
+id-known (pump f) = refl
+id-known (voltage v) = refl
 id-known (current c) = refl
 id-known (controller d bs) = refl
 id-known (tachometer d a b) = refl
 id-known (zone bytes) = refl
 id-known (string bytes) = refl
+id-known (external x r g b) = refl
 id-known (rgb r) = refl
 
 starts-known : (bs : List ℕ) (r : Record) (rest : List ℕ) → Starts bs (layout r) rest → known (byte bs 0) ≡ true

@@ -6,7 +6,7 @@ use mathlib.Core.Path.{_≡_, refl, sym, _∙_, ap, subst}
 use mathlib.Core.List.{List, [], _∷_, _++_, map, append-nil}
 use lib.ListN.{length, take}
 use Rattle.format.specs.Slots.{Slot, whole, word, byteOf, written, Starts}
-use Rattle.format.specs.Records.{Block, Record, digital, analogue, fan, led, current, controller, tachometer, zone, string, rgb}
+use Rattle.format.specs.Records.{Block, Record, digital, analogue, fan, led, water, pump, voltage, current, controller, tachometer, zone, string, external, rgb}
 use Rattle.format.specs.Layout.{part, pairs, entries, blocks}
 use Rattle.format.specs.declared.records.RegisterPair.{RegisterPair}
 use Rattle.format.proofs.Written.{length-written}
@@ -39,6 +39,9 @@ blocks-wholly (b ∷ bs) =
 entries-wholly : (ps : List RegisterPair) (ss : List Slot) → Wholly ss → Wholly (entries ps ++ ss)
 entries-wholly ps ss h = ap (λ (l : List Slot). whole (length ps) ∷ l) (pairs-wholly ps ss h)
 
+last-wholly : (ps : List RegisterPair) → Wholly (entries ps)
+last-wholly ps = subst (λ (l : List Slot). Wholly l) (append-nil (entries ps)) (entries-wholly ps [] refl)
+
 bytes-wholly : (bytes : List ℕ) → Wholly (map whole bytes)
 bytes-wholly bytes = sym (ap (map whole) (written-whole bytes))
 
@@ -47,12 +50,15 @@ part-wholly (digital d) = refl
 part-wholly (analogue a) = refl
 part-wholly (fan f) = refl
 part-wholly (led l) = refl
+part-wholly (water w) = refl
+part-wholly (pump f) = refl
+part-wholly (voltage v) = refl
 part-wholly (current c) = refl
 part-wholly (controller d bs) = blocks-wholly bs
-part-wholly (tachometer d a b) =
-    entries-wholly a (entries b) (subst (λ (l : List Slot). Wholly l) (append-nil (entries b)) (entries-wholly b [] refl))
+part-wholly (tachometer d a b) = entries-wholly a (entries b) (last-wholly b)
 part-wholly (zone bytes) = bytes-wholly bytes
 part-wholly (string bytes) = bytes-wholly bytes
+part-wholly (external x r g b) = entries-wholly r (entries g ++ entries b) (entries-wholly g (entries b) (last-wholly b))
 part-wholly (rgb r) = refl
 
 wholly-there : (bs p rest : List ℕ) → Starts bs (map whole p) rest → p ≡ take (length p) bs

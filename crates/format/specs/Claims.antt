@@ -6,13 +6,14 @@ use mathlib.Core.List.{List, [], _∷_, _++_}
 use mathlib.Core.Option.{Option, none}
 use lib.ListN.{length}
 use lib.Dec.{eqb}
-use Rattle.format.specs.Records.{Record, digital, analogue, fan, led, current, controller, tachometer, zone, string, rgb}
+use Rattle.format.specs.Records.{Record, digital, analogue, fan, led, water, pump, voltage, current, controller, tachometer, zone, string, external, rgb}
 use Rattle.format.specs.Layout.{layout}
 use Rattle.format.specs.Rules.{unlessKept}
 use Rattle.format.specs.declared.pins.Pin.{Pin}
 use Rattle.format.specs.declared.pins.OptionalPin.{OptionalPin}
 use Rattle.format.specs.declared.pins.OptionalPin.the-variants.{Unused, Used}
 use Rattle.format.specs.declared.records.Description.{Description}
+use Rattle.format.specs.declared.records.PwmFan.{PwmFan}
 use Rattle.format.specs.declared.records.Address.{Address}
 use Rattle.format.specs.declared.records.Address.the-variants.{Bus, Select}
 
@@ -75,21 +76,29 @@ abbrev pub onBus : Address → List Claim
 onBus (Bus a) = claim shared 0x03 ∷ claim shared 0x04 ∷ []
 onBus (Select p) = claim shared 0x00 ∷ claim shared 0x01 ∷ claim shared 0x02 ∷ claim select (p .0) ∷ []
 
--- 'P0.7 for 02h and 08h'
+-- 'P0.7 for 02h and 08h'; 1/14: 'water level and voltage are analogue sensors and claim P0.7 as a shared pin like 02h'
 abbrev pub reference : Claim
 reference = claim shared 0x07
+
+-- a fan's pins, and a pump's
+abbrev pub ofMotor : PwmFan → List Claim
+ofMotor f = own (f .pwm) ∷ ownUsed (f .tachometer)
 
 -- 'An element first claims its shared pins .. Then come its own pins in field order'
 abbrev pub claimsOf : Record → List Claim
 claimsOf (digital d) = onBus (d .address)
 claimsOf (analogue a) = reference ∷ own (a .pin) ∷ []
-claimsOf (fan f) = own (f .pwm) ∷ ownUsed (f .tachometer)
+claimsOf (fan f) = ofMotor f
 claimsOf (led l) = ownUsed (l .one .pin) ++ ownUsed (l .two .pin) ++ ownUsed (l .three .pin)
+claimsOf (water w) = reference ∷ own (w .pin) ∷ []
+claimsOf (pump f) = ofMotor f
+claimsOf (voltage v) = reference ∷ own (v .pin) ∷ []
 claimsOf (current c) = reference ∷ own (c .pin) ∷ []
 claimsOf (controller d bs) = onBus (d .address)
 claimsOf (tachometer d a b) = onBus (d .address)
 claimsOf (zone bytes) = []
 claimsOf (string bytes) = []
+claimsOf (external x r g b) = onBus (x .device .address)
 claimsOf (rgb r) = own (r .red) ∷ own (r .green) ∷ own (r .blue) ∷ []
 
 -- those of elements that start at a place, each made at its element

@@ -7,7 +7,7 @@ use mathlib.Core.Option.{Option, none, some}
 use lib.ListN.{length, take, drop}
 use lib.Dec.{eqb, leb}
 use Rattle.format.specs.Slots.{byte}
-use Rattle.format.specs.Records.{Block, Record, digital, analogue, fan, led, current, controller, tachometer, zone, string, rgb}
+use Rattle.format.specs.Records.{Block, Record, digital, analogue, fan, led, water, pump, voltage, current, controller, tachometer, zone, string, external, rgb}
 use Rattle.format.specs.Verdict.{stated}
 use Rattle.format.specs.declared.pins.Chip.{Chip}
 use Rattle.format.specs.declared.pins.Pin.{Pin}
@@ -20,8 +20,11 @@ use Rattle.format.specs.declared.records.AnalogueSensor.{AnalogueSensor}
 use Rattle.format.specs.declared.records.PwmFan.{PwmFan}
 use Rattle.format.specs.declared.records.Lamp.{Lamp}
 use Rattle.format.specs.declared.records.StatusLed.{StatusLed}
+use Rattle.format.specs.declared.records.WaterLevel.{WaterLevel}
+use Rattle.format.specs.declared.records.VoltageSensor.{VoltageSensor}
 use Rattle.format.specs.declared.records.CurrentSensor.{CurrentSensor}
 use Rattle.format.specs.declared.records.BusDevice.{BusDevice}
+use Rattle.format.specs.declared.records.ExternalRgb.{ExternalRgb}
 use Rattle.format.specs.declared.records.RgbLed.{RgbLed}
 use Rattle.format.specs.declared.records.RegisterPair.{RegisterPair}
 use Rattle.format.specs.declared.records.Address.{Address}
@@ -88,12 +91,23 @@ lampOf pin c u = record { pin = pin; colour = c; purpose = u }
 abbrev pub ledOf : Placement → Lamp → Lamp → Lamp → StatusLed
 ledOf p a b c = record { placement = p; one = a; two = b; three = c }
 
+abbrev pub waterOf : Placement → Pin → ℕ → ℕ → ℕ → WaterLevel
+waterOf p pin a b c =
+    record { placement = p; pin = pin; full = record { 0 = a }; empty = record { 0 = b }; warning = record { 0 = c } }
+
+abbrev pub voltageOf : Placement → Pin → ℕ → ℕ → VoltageSensor
+voltageOf p pin a b =
+    record { placement = p; pin = pin; vmax = record { 0 = a }; vmin = record { 0 = b } }
+
 abbrev pub currentOf : Placement → Pin → ℕ → ℕ → CurrentSensor
 currentOf p pin a b =
     record { placement = p; pin = pin; imin = record { 0 = a }; imax = record { 0 = b } }
 
 abbrev pub deviceOf : Placement → ℕ → Address → BusDevice
 deviceOf p bus a = record { placement = p; bus = bus; address = a }
+
+abbrev pub externalOf : BusDevice → ℕ → ExternalRgb
+externalOf d i = record { device = d; identifier = i }
 
 abbrev pub rgbOf : Placement → Pin → Pin → Pin → RgbLed
 rgbOf p r g b = record { placement = p; red = r; green = g; blue = b }
@@ -148,11 +162,20 @@ readLamp c f i = lampOf (optionalOf c (f i)) (f (suc i) / 16) (f (suc i) % 16)
 abbrev pub readLed : Chip → (ℕ → ℕ) → StatusLed
 readLed c f = ledOf (readPlacement f) (readLamp c f 5) (readLamp c f 7) (readLamp c f 9)
 
+abbrev pub readWater : Chip → (ℕ → ℕ) → WaterLevel
+readWater c f = waterOf (readPlacement f) (pinOf c (f 5)) (wordAt f 6) (wordAt f 8) (wordAt f 10)
+
+abbrev pub readVoltage : Chip → (ℕ → ℕ) → VoltageSensor
+readVoltage c f = voltageOf (readPlacement f) (pinOf c (f 5)) (f 6) (f 7)
+
 abbrev pub readCurrent : Chip → (ℕ → ℕ) → CurrentSensor
 readCurrent c f = currentOf (readPlacement f) (pinOf c (f 5)) (wordAt f 7) (wordAt f 9)
 
 abbrev pub readDevice : Chip → (ℕ → ℕ) → BusDevice
 readDevice c f = deviceOf (readPlacement f) (f 5 % 16) (readAddress c f)
+
+abbrev pub readExternal : Chip → (ℕ → ℕ) → ExternalRgb
+readExternal c f = externalOf (readDevice c f) (f 8)
 
 abbrev pub readRgb : Chip → (ℕ → ℕ) → RgbLed
 readRgb c f = rgbOf (readPlacement f) (pinOf c (f 5)) (pinOf c (f 6)) (pinOf c (f 7))
@@ -191,13 +214,16 @@ cutBlocks (suc n) [] = some []
 cutBlocks (suc n) (s ∷ bs) =
     bind (cutEntries bs) (λ c. bind (cutBlocks n (c .1)) (λ more. some (blockOf s (c .0) ∷ more)))
 
--- two blocks of ENTRIES and pairs, to the end
+-- two blocks of ENTRIES and pairs, to the end, and three
 abbrev pub whenNil : {A : Type 0} → List ℕ → A → Option A
 whenNil [] a = some a
 whenNil (b ∷ bs) a = none
 
 abbrev pub cutTwo : List ℕ → Option (List RegisterPair × List RegisterPair)
 cutTwo bs = bind (cutEntries bs) (λ c. bind (cutEntries (c .1)) (λ d. whenNil (d .1) (c .0, d .0)))
+
+abbrev pub cutThree : List ℕ → Option (List RegisterPair × List RegisterPair × List RegisterPair)
+cutThree bs = bind (cutEntries bs) (λ c. bind (cutTwo (c .1)) (λ t. some (c .0, t .0, t .1)))
 
 abbrev pub pick : Bool → Option Record → Option Record → Option Record
 pick true a b = a
@@ -210,6 +236,9 @@ decode k id c =
     (pick (eqb id 0x02) (guard (eqb (length c) 17) (some (analogue (readAnalogue k (byte c)))))
     (pick (eqb id 0x03) (guard (eqb (length c) 13) (some (fan (readFan k (byte c)))))
     (pick (eqb id 0x04) (guard (eqb (length c) 11) (some (led (readLed k (byte c)))))
+    (pick (eqb id 0x05) (guard (eqb (length c) 12) (some (water (readWater k (byte c)))))
+    (pick (eqb id 0x06) (guard (eqb (length c) 13) (some (pump (readFan k (byte c)))))
+    (pick (eqb id 0x07) (guard (eqb (length c) 8) (some (voltage (readVoltage k (byte c)))))
     (pick (eqb id 0x08) (guard (eqb (length c) 11) (some (current (readCurrent k (byte c)))))
     (pick (eqb id 0x09)
     (guard (leb 8 (length c)) (bind (cutBlocks (length c) (drop 8 c)) (λ l. some (controller (readDevice k (byte c)) l))))
@@ -217,4 +246,7 @@ decode k id c =
     (guard (leb 9 (length c)) (bind (cutTwo (drop 9 c)) (λ t. some (tachometer (readDevice k (byte c)) (t .0) (t .1)))))
     (pick (eqb id 0x0b) (some (zone c))
     (pick (eqb id 0x0c) (some (string c))
-    (pick (eqb id 0x0e) (guard (eqb (length c) 8) (some (rgb (readRgb k (byte c))))) none)))))))))
+    (pick (eqb id 0x0d)
+    (guard (leb 9 (length c))
+    (bind (cutThree (drop 9 c)) (λ t. some (external (readExternal k (byte c)) (t .0) (t .1) (t .2)))))
+    (pick (eqb id 0x0e) (guard (eqb (length c) 8) (some (rgb (readRgb k (byte c))))) none)))))))))))))

@@ -1,11 +1,12 @@
--- One element of each of the ten kinds as raw bytes, every field another number, and beside it the record that the tables of the
--- specification put there, field by field, its pins of the chip that the caller names. Reserved places are not zero. The bytes were derived from the tables by hand and not
--- from the layout. 31h to 3Ah fill fields of one byte, 41h to 4Ch those of two, lowest byte first, and 96h to 99h reserved bytes.
+-- One element of each of the fourteen kinds as raw bytes, every field another number, and beside it the record that the tables of
+-- the specification put there, field by field, its pins of the chip that the caller names. Reserved places are not zero. The bytes
+-- were derived from the tables by hand and not from the layout. 31h to 3Ah fill fields of one byte, 41h to 4Ch those of two, lowest
+-- byte first, and 96h to 99h reserved bytes.
 -- Assumes nothing.
 use Prim.Native.Nat.{ℕ}
 use mathlib.Core.Bool.{Bool, true, false}
 use mathlib.Core.List.{List, [], _∷_}
-use Rattle.format.specs.Records.{Block, Record, digital, analogue, fan, led, current, controller, tachometer, zone, string, rgb}
+use Rattle.format.specs.Records.{Block, Record, digital, analogue, fan, led, water, pump, voltage, current, controller, tachometer, zone, string, external, rgb}
 use Rattle.format.specs.declared.pins.Chip.{Chip}
 use Rattle.format.specs.declared.pins.Pin.{Pin}
 use Rattle.format.specs.declared.pins.OptionalPin.the-variants.{Unused, Used}
@@ -22,7 +23,7 @@ infixr 4 _holds_
 abbrev pub _holds_ : List ℕ → Record → FieldRow
 bytes holds r = record { bytes = bytes; holds = r }
 
--- bytes 3 to 7 of eight of the kinds: STRING INDEX, X POS, Y POS, Z POS, ZONE IDENTIFIER
+-- bytes 3 to 7 of twelve of the kinds: STRING INDEX, X POS, Y POS, Z POS, ZONE IDENTIFIER
 abbrev pub placed : Placement
 placed = record { string = 0x31; x = record { 0 = 0x32 }; y = record { 0 = 0x33 }; z = record { 0 = 0x34 }; zone = 0x35 }
 
@@ -128,6 +129,36 @@ fieldRows c =
       two = record { pin = Used (pinAt c 0x37); colour = 4; purpose = 5 };
       three = record { pin = Used (pinAt c 0x38); colour = 7; purpose = 8 };
     }))
+    -- Table 18
+    ∷ (0x05 ∷ 0x0f ∷ 0x00 ∷ 0x31 ∷ 0x32 ∷ 0x33 ∷ 0x34 ∷ 0x35
+    ∷ 0x36 ∷ 0x41 ∷ 0x42 ∷ 0x43 ∷ 0x44 ∷ 0x45 ∷ 0x46 ∷ []
+    holds water (record {
+      placement = placed;
+      pin = pinAt c 0x36;
+      full = record { 0 = 0x4241 };
+      empty = record { 0 = 0x4443 };
+      warning = record { 0 = 0x4645 };
+    }))
+    -- 8.9: Table 14 under 06h
+    ∷ (0x06 ∷ 0x10 ∷ 0x00 ∷ 0x31 ∷ 0x32 ∷ 0x33 ∷ 0x34 ∷ 0x35
+    ∷ 0x36 ∷ 0x37 ∷ 0x38 ∷ 0x41 ∷ 0x42 ∷ 0x43 ∷ 0x44 ∷ 0x39 ∷ []
+    holds pump (record {
+      placement = placed;
+      pwm = pinAt c 0x36;
+      tachometer = Used (pinAt c 0x37);
+      ppr = 0x38;
+      minrpm = record { 0 = 0x4241 };
+      maxrpm = record { 0 = 0x4443 };
+      duty = 0x39;
+    }))
+    -- Table 19, VMAX in byte 9 and VMIN in byte 10
+    ∷ (0x07 ∷ 0x0b ∷ 0x00 ∷ 0x31 ∷ 0x32 ∷ 0x33 ∷ 0x34 ∷ 0x35 ∷ 0x36 ∷ 0x37 ∷ 0x38 ∷ []
+    holds voltage (record {
+      placement = placed;
+      pin = pinAt c 0x36;
+      vmax = record { 0 = 0x37 };
+      vmin = record { 0 = 0x38 };
+    }))
     -- Table 20
     ∷ (0x08 ∷ 0x0e ∷ 0x00 ∷ 0x31 ∷ 0x32 ∷ 0x33 ∷ 0x34 ∷ 0x35
     ∷ 0x36 ∷ 0x99 ∷ 0x41 ∷ 0x42 ∷ 0x43 ∷ 0x44 ∷ []
@@ -150,6 +181,16 @@ fieldRows c =
     -- Table 30, Table 29
     ∷ (0x0b ∷ 0x1e ∷ 0x00 ∷ zonePart holds zone zonePart)
     ∷ (0x0c ∷ 0x0a ∷ 0x00 ∷ stringPart holds string stringPart)
+    -- Table 27, byte 8 with BUS TYPE 1, byte 9 with BUS ADDRESS 36h; one red pair, no green and two blue
+    ∷ (0x0d ∷ 0x1b ∷ 0x00 ∷ 0x31 ∷ 0x32 ∷ 0x33 ∷ 0x34 ∷ 0x35 ∷ 0xf1 ∷ 0x6d ∷ 0x99 ∷ 0x37
+    ∷ 0x01 ∷ 0x41 ∷ 0x42 ∷ 0x43 ∷ 0x44
+    ∷ 0x00
+    ∷ 0x02 ∷ 0x45 ∷ 0x46 ∷ 0x47 ∷ 0x48 ∷ 0x49 ∷ 0x4a ∷ 0x4b ∷ 0x4c ∷ []
+    holds external
+    (record { device = record { placement = placed; bus = 1; address = Bus 0x36 }; identifier = 0x37 })
+    (pair1 ∷ [])
+    []
+    (pair2 ∷ pair3 ∷ []))
     -- Table 26
     ∷ (0x0e ∷ 0x0b ∷ 0x00 ∷ 0x31 ∷ 0x32 ∷ 0x33 ∷ 0x34 ∷ 0x35 ∷ 0x36 ∷ 0x37 ∷ 0x38 ∷ []
     holds rgb (record {

@@ -4,18 +4,19 @@ use Prim.Native.Nat.{ℕ, _+_}
 use mathlib.Core.List.{List, [], _∷_, _++_, map}
 use lib.ListN.{length}
 use Rattle.format.specs.Slots.{Slot, whole, low, high, halves, flag, reserved, word, triple}
-use Rattle.format.specs.Records.{Block, Record, digital, analogue, fan, led, current, controller, tachometer, zone, string, rgb, elementOf}
+use Rattle.format.specs.Records.{Block, Record, digital, analogue, fan, led, water, pump, voltage, current, controller, tachometer, zone, string, external, rgb, elementOf}
 use Rattle.format.specs.declared.pins.Pin.{Pin}
 use Rattle.format.specs.declared.pins.OptionalPin.{OptionalPin}
 use Rattle.format.specs.declared.pins.OptionalPin.the-variants.{Unused, Used}
 use Rattle.format.specs.declared.records.Description.{Description}
 use Rattle.format.specs.declared.records.Placement.{Placement}
+use Rattle.format.specs.declared.records.PwmFan.{PwmFan}
 use Rattle.format.specs.declared.records.Lamp.{Lamp}
 use Rattle.format.specs.declared.records.RegisterPair.{RegisterPair}
 use Rattle.format.specs.declared.records.Address.{Address}
 use Rattle.format.specs.declared.records.Address.the-variants.{Bus, Select}
 use Rattle.format.specs.declared.records.Element.{Element}
-use Rattle.format.specs.declared.records.Element.the-variants.{Digital, Analogue, Fan, Led, Current, Controller, Tachometer, Zone, Text, Rgb}
+use Rattle.format.specs.declared.records.Element.the-variants.{Digital, Analogue, Fan, Led, Water, Pump, Voltage, Current, Controller, Tachometer, Zone, Text, External, Rgb}
 
 -- a pin byte: 'the port in bits 7-4 and the pin in bits 3-0', which a record holds as one number; the
 -- layout does not say the chip
@@ -65,6 +66,18 @@ device bus a = low bus ∷ address a ∷ reserved ∷ []
 abbrev pub lamp : Lamp → List Slot
 lamp l = optionalPinSlot (l .pin) ∷ halves (l .colour) (l .purpose) ∷ []
 
+-- Table 14, from byte 3 on
+abbrev pub motor : PwmFan → List Slot
+motor f =
+    placement (f .placement)
+    ++ pinSlot (f .pwm)
+    ∷ optionalPinSlot (f .tachometer)
+    ∷ whole (f .ppr)
+    ∷ word (f .minrpm .0)
+    ++ word (f .maxrpm .0)
+    ++ whole (f .duty)
+    ∷ []
+
 -- what follows the header and does not vary in length
 abbrev pub fixed : Element → List Slot
 -- Table 11
@@ -89,17 +102,17 @@ fixed (Analogue a) =
     ++ word (a .at75 .0)
     ++ word (a .at100 .0)
 -- Table 14
-fixed (Fan f) =
-    placement (f .placement)
-    ++ pinSlot (f .pwm)
-    ∷ optionalPinSlot (f .tachometer)
-    ∷ whole (f .ppr)
-    ∷ word (f .minrpm .0)
-    ++ word (f .maxrpm .0)
-    ++ whole (f .duty)
-    ∷ []
+fixed (Fan f) = motor f
 -- Table 15
 fixed (Led l) = placement (l .placement) ++ lamp (l .one) ++ lamp (l .two) ++ lamp (l .three)
+-- Table 18
+fixed (Water w) =
+    placement (w .placement) ++ pinSlot (w .pin) ∷ word (w .full .0) ++ word (w .empty .0) ++ word (w .warning .0)
+-- 8.9: Table 14 with another identifier
+fixed (Pump f) = motor f
+-- Table 19, each voltage a whole byte
+fixed (Voltage v) =
+    placement (v .placement) ++ pinSlot (v .pin) ∷ whole (v .vmax .0) ∷ whole (v .vmin .0) ∷ []
 -- Table 20
 fixed (Current c) =
     placement (c .placement) ++ pinSlot (c .pin) ∷ reserved ∷ word (c .imin .0) ++ word (c .imax .0)
@@ -110,6 +123,9 @@ fixed (Tachometer d) = placement (d .placement) ++ device (d .bus) (d .address) 
 -- Table 30, Table 29
 fixed Zone = []
 fixed Text = []
+-- Table 27
+fixed (External x) =
+    placement (x .device .placement) ++ device (x .device .bus) (x .device .address) ++ whole (x .identifier) ∷ []
 -- Table 26
 fixed (Rgb r) =
     placement (r .placement) ++ pinSlot (r .red) ∷ pinSlot (r .green) ∷ pinSlot (r .blue) ∷ []
@@ -119,7 +135,7 @@ abbrev pub pairs : List RegisterPair → List Slot
 pairs [] = []
 pairs (p ∷ ps) = word (p .address) ++ word (p .«data») ++ pairs ps
 
--- Table 25: ENTRIES and that many pairs
+-- Table 25, and each colour of Table 27: ENTRIES and that many pairs
 abbrev pub entries : List RegisterPair → List Slot
 entries ps = whole (length ps) ∷ pairs ps
 
@@ -134,11 +150,15 @@ part (digital d) = []
 part (analogue a) = []
 part (fan f) = []
 part (led l) = []
+part (water w) = []
+part (pump f) = []
+part (voltage v) = []
 part (current c) = []
 part (controller d bs) = blocks bs
 part (tachometer d a b) = entries a ++ entries b
 part (zone bytes) = map whole bytes
 part (string bytes) = map whole bytes
+part (external x r g b) = entries r ++ (entries g ++ entries b)
 part (rgb r) = []
 
 -- the identifiers, as the text under each table gives them
@@ -147,11 +167,15 @@ idOf (Digital d) = 0x01
 idOf (Analogue a) = 0x02
 idOf (Fan f) = 0x03
 idOf (Led l) = 0x04
+idOf (Water w) = 0x05
+idOf (Pump f) = 0x06
+idOf (Voltage v) = 0x07
 idOf (Current c) = 0x08
 idOf (Controller d) = 0x09
 idOf (Tachometer d) = 0x0a
 idOf Zone = 0x0b
 idOf Text = 0x0c
+idOf (External x) = 0x0d
 idOf (Rgb r) = 0x0e
 
 -- Table 7: 'an identifier and a two-byte length that counts the header', and what follows

@@ -12,6 +12,7 @@ pub mod Answers
 pub mod Cleared
 pub mod Asked
 pub mod Known
+pub mod WaterKit
 pub mod FieldRows
 pub mod Bargain
 pub mod Decode

@@ -1,4 +1,4 @@
--- The record of an element: its fixed fields and, taken apart, its variable part. One case for each of the ten kinds.
+-- The record of an element: its fixed fields and, taken apart, its variable part. One case for each of the fourteen kinds.
 -- Assumes nothing.
 use Prim.Native.Nat.{ℕ}
 use mathlib.Core.Bool.{Bool, _&&_}
@@ -11,12 +11,15 @@ use Rattle.format.specs.declared.records.DigitalSensor.{DigitalSensor}
 use Rattle.format.specs.declared.records.AnalogueSensor.{AnalogueSensor}
 use Rattle.format.specs.declared.records.PwmFan.{PwmFan}
 use Rattle.format.specs.declared.records.StatusLed.{StatusLed}
+use Rattle.format.specs.declared.records.WaterLevel.{WaterLevel}
+use Rattle.format.specs.declared.records.VoltageSensor.{VoltageSensor}
 use Rattle.format.specs.declared.records.CurrentSensor.{CurrentSensor}
 use Rattle.format.specs.declared.records.BusDevice.{BusDevice}
+use Rattle.format.specs.declared.records.ExternalRgb.{ExternalRgb}
 use Rattle.format.specs.declared.records.RgbLed.{RgbLed}
 use Rattle.format.specs.declared.records.RegisterPair.{RegisterPair}
 use Rattle.format.specs.declared.records.Element.{Element}
-use Rattle.format.specs.declared.records.Element.the-variants.{Digital, Analogue, Fan, Led, Current, Controller, Tachometer, Zone, Text, Rgb}
+use Rattle.format.specs.declared.records.Element.the-variants.{Digital, Analogue, Fan, Led, Water, Pump, Voltage, Current, Controller, Tachometer, Zone, Text, External, Rgb}
 
 -- 01: 'A speed block is SPEED (in units of 100 RPM), ENTRIES and that many pairs'; the layout supplies ENTRIES
 pub record Block : Type 0 where
@@ -28,6 +31,10 @@ pub data Record : Type 0 where
   analogue : AnalogueSensor → Record
   fan : PwmFan → Record
   led : StatusLed → Record
+  water : WaterLevel → Record
+  -- 8.9: 'shares the same format'; a kind of its own
+  pump : PwmFan → Record
+  voltage : VoltageSensor → Record
   current : CurrentSensor → Record
   -- 'Element 09h holds the default block and then 0 to 5 more'
   controller : BusDevice → List Block → Record
@@ -36,6 +43,8 @@ pub data Record : Type 0 where
   -- 'of a string or zone all bytes after the header, which are its whole record'
   zone : List ℕ → Record
   string : List ℕ → Record
+  -- Table 27: RED, GREEN and BLUE ENTRIES, each with its register pairs
+  external : ExternalRgb → List RegisterPair → List RegisterPair → List RegisterPair → Record
   rgb : RgbLed → Record
 
 -- Table 30: the zone's number and its string index; Table 29: the string's number and its text
@@ -62,9 +71,13 @@ elementOf (digital d) = Digital d
 elementOf (analogue a) = Analogue a
 elementOf (fan f) = Fan f
 elementOf (led l) = Led l
+elementOf (water w) = Water w
+elementOf (pump f) = Pump f
+elementOf (voltage v) = Voltage v
 elementOf (current c) = Current c
 elementOf (controller d bs) = Controller d
 elementOf (tachometer d a b) = Tachometer d
 elementOf (zone bytes) = Zone
 elementOf (string bytes) = Text
+elementOf (external x r g b) = External x
 elementOf (rgb r) = Rgb r

@@ -7,7 +7,7 @@ use mathlib.Core.List.{List, [], _∷_}
 use mathlib.Core.Option.{Option, none, some}
 use lib.ListN.{length}
 use lib.Dec.{eqb, ltb, leb}
-use Rattle.format.specs.Records.{Block, Record, digital, analogue, fan, led, current, controller, tachometer, zone, string, rgb, stringNumber, elementOf}
+use Rattle.format.specs.Records.{Block, Record, digital, analogue, fan, led, water, pump, voltage, current, controller, tachometer, zone, string, external, rgb, stringNumber, elementOf}
 use Rattle.format.specs.Slots.{allRoomy}
 use Rattle.format.specs.Layout.{opening, fixed}
 use Rattle.format.specs.Pins.{among, ofChip, allowed, unused, allowedOrUnused, standing}
@@ -22,8 +22,9 @@ use Rattle.format.specs.declared.settings.Rules.{Rules}
 use Rattle.format.specs.declared.settings.Rules.the-variants.{Ordinary, Archive}
 use Rattle.format.specs.declared.records.Description.{Description}
 use Rattle.format.specs.declared.records.Lamp.{Lamp}
+use Rattle.format.specs.declared.records.PwmFan.{PwmFan}
 use Rattle.format.specs.declared.records.Element.{Element}
-use Rattle.format.specs.declared.records.Element.the-variants.{Digital, Analogue, Fan, Led, Current, Controller, Tachometer, Zone, Text, Rgb}
+use Rattle.format.specs.declared.records.Element.the-variants.{Digital, Analogue, Fan, Led, Water, Pump, Voltage, Current, Controller, Tachometer, Zone, Text, External, Rgb}
 use Rattle.format.specs.declared.records.Address.{Address}
 use Rattle.format.specs.declared.records.Address.the-variants.{Bus, Select}
 
@@ -73,11 +74,15 @@ shaped (digital d) = true
 shaped (analogue a) = true
 shaped (fan f) = true
 shaped (led l) = true
+shaped (water w) = true
+shaped (pump f) = true
+shaped (voltage v) = true
 shaped (current c) = true
 shaped (controller d bs) = leb 1 (length bs) && leb (length bs) 6
 shaped (tachometer d a b) = true
 shaped (zone bytes) = eqb (3 + length bytes) 30
 shaped (string bytes) = leb 6 (3 + length bytes)
+shaped (external x r g b) = true
 shaped (rgb r) = true
 
 -- 9: 'a reserved code in bus type' (Table 8), and 'an address of the other kind than its bus type has': SPI, 3h, has a chip
@@ -96,7 +101,7 @@ addressed bus a = among bus busTypes && ofItsBus bus a
 abbrev pub thermalTypes : List ℕ
 thermalTypes = 1 ∷ []
 
--- 9: 'a calibration value over 1023'
+-- 9: 'a calibration value over 1023', a water level being one (8.8: 'calibration fields on a ten bit scale')
 abbrev pub scaled : Counts → Bool
 scaled c = leb (c .0) 1023
 
@@ -109,19 +114,31 @@ abbrev pub filled : List Block → Bool
 filled [] = true
 filled (b ∷ bs) = leb 1 (length (b .pairs)) && filled bs
 
--- 9: 'no tachometer but PPR not 0', 'a string numbered 0', and those above
+-- 9: a chip identifier that is not 'coded in Table 28'
+abbrev pub chipIdentifiers : List ℕ
+chipIdentifiers = 1 ∷ 2 ∷ 3 ∷ []
+
+-- 9: 'no tachometer but PPR not 0', of a fan and of a pump
+abbrev pub counted : PwmFan → Bool
+counted f = not (unused (f .tachometer)) || eqb (f .ppr) 0
+
+-- 9: 'a string numbered 0', and those above
 abbrev pub coded : Record → Bool
 coded (digital d) = addressed (d .bus) (d .address)
 coded (analogue a) =
     among (a .thermal) thermalTypes
     && (scaled (a .at0) && (scaled (a .at25) && (scaled (a .at50) && (scaled (a .at75) && scaled (a .at100)))))
-coded (fan f) = not (unused (f .tachometer)) || eqb (f .ppr) 0
+coded (fan f) = counted f
 coded (led l) = coloured (l .one) && (coloured (l .two) && coloured (l .three))
+coded (water w) = scaled (w .full) && (scaled (w .empty) && scaled (w .warning))
+coded (pump f) = counted f
+coded (voltage v) = true
 coded (current c) = true
 coded (controller d bs) = addressed (d .bus) (d .address) && filled bs
 coded (tachometer d a b) = addressed (d .bus) (d .address)
 coded (zone bytes) = true
 coded (string bytes) = not (eqb (stringNumber bytes) 0)
+coded (external x r g b) = addressed (x .device .bus) (x .device .address) && among (x .identifier) chipIdentifiers
 coded (rgb r) = true
 
 -- 23 (12/14): which bus types are in use, by the rules that the caller names: 2h, 'SMBUS block mode', 'is retired', and 'an archive
@@ -139,11 +156,15 @@ inUse k (Digital d) = typeInUse k (d .bus)
 inUse k (Analogue a) = true
 inUse k (Fan f) = true
 inUse k (Led l) = true
+inUse k (Water w) = true
+inUse k (Pump f) = true
+inUse k (Voltage v) = true
 inUse k (Current c) = true
 inUse k (Controller d) = typeInUse k (d .bus)
 inUse k (Tachometer d) = typeInUse k (d .bus)
 inUse k Zone = true
 inUse k Text = true
+inUse k (External x) = typeInUse k (x .device .bus)
 inUse k (Rgb r) = true
 
 -- 10, of a chip select
@@ -156,19 +177,27 @@ abbrev pub rises : Pin → OptionalPin → Bool
 rises p Unused = true
 rises p (Used q) = ltb (p .0) (q .0)
 
+-- 10 of a fan and of a pump
+abbrev pub fanned : Chip → PwmFan → Bool
+fanned c f = allowed c FanPin (f .pwm) && (allowedOrUnused c FanPin (f .tachometer) && rises (f .pwm) (f .tachometer))
+
 -- 10: 'a used pin that does not exist, is not permitted, or breaks the rising order'; red, green, blue rise too
 abbrev pub pinned : Chip → Record → Bool
 pinned c (digital d) = selected c (d .address)
 pinned c (analogue a) = allowed c AnaloguePin (a .pin)
-pinned c (fan f) = allowed c FanPin (f .pwm) && (allowedOrUnused c FanPin (f .tachometer) && rises (f .pwm) (f .tachometer))
+pinned c (fan f) = fanned c f
 pinned c (led l) =
     allowedOrUnused c StatusLed (l .one .pin)
     && (allowedOrUnused c StatusLed (l .two .pin) && allowedOrUnused c StatusLed (l .three .pin))
+pinned c (water w) = allowed c AnaloguePin (w .pin)
+pinned c (pump f) = fanned c f
+pinned c (voltage v) = allowed c AnaloguePin (v .pin)
 pinned c (current x) = allowed c AnaloguePin (x .pin)
 pinned c (controller d bs) = selected c (d .address)
 pinned c (tachometer d a b) = selected c (d .address)
 pinned c (zone bytes) = true
 pinned c (string bytes) = true
+pinned c (external x r g b) = selected c (x .device .address)
 pinned c (rgb r) =
     allowed c FanPin (r .red)
     && (allowed c FanPin (r .green)
@@ -195,16 +224,23 @@ chosen c (Select p) = ofChip c p
 abbrev pub ofItsDevice : Chip → ℕ → Address → Bool
 ofItsDevice c bus a = ofItsBus bus a && chosen c a
 
+abbrev pub ofItsMotor : Chip → PwmFan → Bool
+ofItsMotor c f = ofChip c (f .pwm) && standing c (f .tachometer)
+
 abbrev pub ofItsKind : Chip → Record → Bool
 ofItsKind c (digital d) = ofItsDevice c (d .bus) (d .address)
 ofItsKind c (analogue a) = ofChip c (a .pin)
-ofItsKind c (fan f) = ofChip c (f .pwm) && standing c (f .tachometer)
+ofItsKind c (fan f) = ofItsMotor c f
 ofItsKind c (led l) = standing c (l .one .pin) && (standing c (l .two .pin) && standing c (l .three .pin))
+ofItsKind c (water w) = ofChip c (w .pin)
+ofItsKind c (pump f) = ofItsMotor c f
+ofItsKind c (voltage v) = ofChip c (v .pin)
 ofItsKind c (current x) = ofChip c (x .pin)
 ofItsKind c (controller d bs) = ofItsDevice c (d .bus) (d .address)
 ofItsKind c (tachometer d a b) = ofItsDevice c (d .bus) (d .address)
 ofItsKind c (zone bytes) = true
 ofItsKind c (string bytes) = true
+ofItsKind c (external x r g b) = ofItsDevice c (x .device .bus) (x .device .address)
 ofItsKind c (rgb r) = ofChip c (r .red) && (ofChip c (r .green) && ofChip c (r .blue))
 
 abbrev pub descriptionKind : Chip → Description → Bool

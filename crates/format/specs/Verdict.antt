@@ -29,9 +29,9 @@ stated bs = byte bs 1 + 256 * byte bs 2
 abbrev pub framed : List ℕ → Bool
 framed bs = leb 3 (length bs) && (leb 3 (stated bs) && leb (stated bs) (length bs))
 
--- 7: 'identifier not in the list above'
+-- 7: 'identifier not in the list above', to which request 1/14 adds 'the four elements of clause 8 still left out'
 abbrev pub known : ℕ → Bool
-known id = among id (0x01 ∷ 0x02 ∷ 0x03 ∷ 0x04 ∷ 0x08 ∷ 0x09 ∷ 0x0a ∷ 0x0b ∷ 0x0c ∷ 0x0e ∷ [])
+known id = among id (0x01 ∷ 0x02 ∷ 0x03 ∷ 0x04 ∷ 0x05 ∷ 0x06 ∷ 0x07 ∷ 0x08 ∷ 0x09 ∷ 0x0a ∷ 0x0b ∷ 0x0c ∷ 0x0d ∷ 0x0e ∷ [])
 
 -- What stands at the head of the bytes: a record whose layout they start with, reserved places aside, and which is of
 -- its kind: an address by its bus type ('A device address is either .. or .., by the bus type'), each pin of the named chip.

@@ -7,18 +7,18 @@ use mathlib.Core.Option.{Option, none, some}
 use lib.ListN.{length, take, drop}
 use lib.Dec.{leb}
 use Rattle.format.specs.Slots.{Slot, whole, word, written}
-use Rattle.format.specs.Records.{Record, digital, analogue, fan, led, current, controller, tachometer, zone, string, rgb}
+use Rattle.format.specs.Records.{Record, digital, analogue, fan, led, water, pump, voltage, current, controller, tachometer, zone, string, external, rgb}
 use Rattle.format.specs.Layout.{opening, fixed, idOf, headed}
 use Rattle.format.specs.Rules.{firstBroken, ownRules, descriptionRoomy, elementRoomy}
 use Rattle.format.specs.Table.{descriptionBreaks}
 use Rattle.format.specs.Verdict.{stated}
-use Rattle.format.specs.Decode.{bind, whenNil, cutBlocks, cutTwo}
+use Rattle.format.specs.Decode.{bind, whenNil, cutBlocks, cutTwo, cutThree}
 use Rattle.format.specs.declared.pins.Chip.{Chip}
 use Rattle.format.specs.declared.settings.Settings.{Settings}
 use Rattle.format.specs.declared.settings.Rules.the-variants.{Ordinary}
 use Rattle.format.specs.declared.records.Description.{Description}
 use Rattle.format.specs.declared.records.Element.{Element}
-use Rattle.format.specs.declared.records.Element.the-variants.{Digital, Analogue, Fan, Led, Current, Controller, Tachometer, Zone, Text, Rgb}
+use Rattle.format.specs.declared.records.Element.the-variants.{Digital, Analogue, Fan, Led, Water, Pump, Voltage, Current, Controller, Tachometer, Zone, Text, External, Rgb}
 use Rattle.format.specs.declared.answers.Written.{Written}
 use Rattle.format.specs.declared.answers.Written.the-variants.{Length, Refused}
 
@@ -28,11 +28,15 @@ assemble (Digital d) p = whenNil p (digital d)
 assemble (Analogue a) p = whenNil p (analogue a)
 assemble (Fan f) p = whenNil p (fan f)
 assemble (Led l) p = whenNil p (led l)
+assemble (Water w) p = whenNil p (water w)
+assemble (Pump f) p = whenNil p (pump f)
+assemble (Voltage v) p = whenNil p (voltage v)
 assemble (Current c) p = whenNil p (current c)
 assemble (Controller d) p = bind (cutBlocks (length p) p) (λ l. some (controller d l))
 assemble (Tachometer d) p = bind (cutTwo p) (λ t. some (tachometer d (t .0) (t .1)))
 assemble Zone p = some (zone p)
 assemble Text p = some (string p)
+assemble (External x) p = bind (cutThree p) (λ t. some (external x (t .0) (t .1) (t .2)))
 assemble (Rgb r) p = whenNil p (rgb r)
 
 -- the first of 8, 9, 23 and 10 that an element with its part breaks

@@ -6,7 +6,7 @@ use mathlib.Core.List.{List, [], _∷_, _++_}
 use mathlib.Core.Option.{Option, none}
 use lib.ListN.{length}
 use lib.Dec.{leb}
-use Rattle.format.specs.Records.{Record, digital, analogue, fan, led, current, controller, tachometer, zone, string, rgb, zoneNumber, zoneString, stringNumber}
+use Rattle.format.specs.Records.{Record, digital, analogue, fan, led, water, pump, voltage, current, controller, tachometer, zone, string, external, rgb, zoneNumber, zoneString, stringNumber}
 use Rattle.format.specs.Layout.{layout}
 use Rattle.format.specs.Pins.{among}
 use Rattle.format.specs.Rules.{Rule, rule, unlessKept}
@@ -24,11 +24,15 @@ role (digital d) = placed (d .placement)
 role (analogue a) = placed (a .placement)
 role (fan f) = placed (f .placement)
 role (led l) = placed (l .placement)
+role (water w) = placed (w .placement)
+role (pump f) = placed (f .placement)
+role (voltage v) = placed (v .placement)
 role (current c) = placed (c .placement)
 role (controller d bs) = placed (d .placement)
 role (tachometer d a b) = placed (d .placement)
 role (zone bytes) = zoning bytes
 role (string bytes) = naming bytes
+role (external x r g b) = placed (x .device .placement)
 role (rgb r) = placed (r .placement)
 
 -- the zone number and the string number that an element declares, if any

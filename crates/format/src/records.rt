@@ -4,6 +4,7 @@ use crate::pins::Pin;
 use crate::units::Centimetres;
 use crate::units::Counts;
 use crate::units::Deciamps;
+use crate::units::Decivolts;
 use crate::units::Degrees;
 use crate::units::FourMilliamps;
 use crate::units::Rpm;
@@ -60,7 +61,7 @@ pub struct AnalogueSensor {
     pub at100: Counts,
 }
 
-// 03h (000, Table 14).
+// 03h, and 06h (000, Table 14 and 8.9).
 pub struct PwmFan {
     pub placement: Placement,
     pub pwm: Pin,
@@ -86,6 +87,23 @@ pub struct StatusLed {
     pub three: Lamp,
 }
 
+// 05h (000, Table 18): the converter's count at each of three levels.
+pub struct WaterLevel {
+    pub placement: Placement,
+    pub pin: Pin,
+    pub full: Counts,
+    pub empty: Counts,
+    pub warning: Counts,
+}
+
+// 07h (000, Table 19).
+pub struct VoltageSensor {
+    pub placement: Placement,
+    pub pin: Pin,
+    pub vmax: Decivolts,
+    pub vmin: Decivolts,
+}
+
 // 08h (000, Table 20).
 pub struct CurrentSensor {
     pub placement: Placement,
@@ -94,11 +112,17 @@ pub struct CurrentSensor {
     pub imax: Deciamps,
 }
 
-// 09h and 0Ah before their blocks (000, Tables 21 and 24).
+// 09h and 0Ah before their blocks, and what 0Dh has in common with them (000, Tables 21, 24 and 27).
 pub struct BusDevice {
     pub placement: Placement,
     pub bus: u8,
     pub address: Address,
+}
+
+// 0Dh before its blocks (000, Table 27), with the identifier of its chip (Table 28).
+pub struct ExternalRgb {
+    pub device: BusDevice,
+    pub identifier: u8,
 }
 
 // 0Eh (000, Table 26).
@@ -115,17 +139,22 @@ pub struct RegisterPair {
     pub data: u16,
 }
 
-// An element of each of the ten kinds. What varies in length is handed on beside it, as the element's part: the
-// blocks of a controller and of a tachometer, and of a zone descriptor and a string all bytes after the header.
+// An element of each of the fourteen kinds. What varies in length is handed on beside it, as the element's part: the
+// blocks of a controller, of a tachometer and of an external RGB LED, and of a zone descriptor and a string all bytes after the
+// header.
 pub enum Element {
     Digital(DigitalSensor),
     Analogue(AnalogueSensor),
     Fan(PwmFan),
     Led(StatusLed),
+    Water(WaterLevel),
+    Pump(PwmFan),
+    Voltage(VoltageSensor),
     Current(CurrentSensor),
     Controller(BusDevice),
     Tachometer(BusDevice),
     Zone,
     Text,
+    External(ExternalRgb),
     Rgb(RgbLed),
 }

@@ -6,11 +6,14 @@ pub struct Centimetres(pub u8);
 // MINIMUM TEMP and MAXIMUM TEMP, in degrees centigrade (000, 8.4).
 pub struct Degrees(pub u8);
 
-// The calibration values of the ten-bit converter, 0 to 1023 (000, 8.5).
+// The calibration values of the ten-bit converter, 0 to 1023 (000, 8.5 and 8.8).
 pub struct Counts(pub u16);
 
 // MINIMUM RPM and MAXIMUM RPM (000, 8.6).
 pub struct Rpm(pub u16);
+
+// VMAX and VMIN (000, 8.10).
+pub struct Decivolts(pub u8);
 
 // IMIN and IMAX (000, 8.11).
 pub struct Deciamps(pub u16);

@@ -11,16 +11,17 @@ use lib.Seq.{take-all}
 use lib.Dec.{eqb, leb}
 use borrow.Author.Tests.{eq-eqb, ne-eqb, le-leb, lt-leb, leb-true}
 use Rattle.format.specs.Slots.{byte}
-use Rattle.format.specs.Records.{Record, controller, tachometer}
-use Rattle.format.specs.Rules.{ownRules, pinned}
-use Rattle.format.specs.Decode.{decode, guard, bind, readDevice, cutBlocks, cutTwo}
+use Rattle.format.specs.Pins.{among}
+use Rattle.format.specs.Records.{Record, controller, tachometer, external}
+use Rattle.format.specs.Rules.{ownRules, pinned, chipIdentifiers}
+use Rattle.format.specs.Decode.{decode, guard, bind, readDevice, readExternal, cutBlocks, cutTwo, cutThree}
 use Rattle.format.specs.declared.settings.Settings.{Settings}
 use Rattle.format.specs.declared.records.BusDevice.{BusDevice}
 use Rattle.format.proofs.Kept.{own-numbered, zero-none, own-kept}
 use Rattle.rules.specs.Broken.{DeviceBreaks}
-use Rattle.blocks.specs.Cutting.{SpeedPart, PairsPart}
+use Rattle.blocks.specs.Cutting.{isSome, exact, SpeedPart, PairsPart}
 use Rattle.blocks.specs.declared.Part.{Part}
-use Rattle.blocks.proofs.EachKind.{two}
+use Rattle.blocks.proofs.EachKind.{two, three}
 use Rattle.blocks.proofs.Faults.{speed-fault, pairs-fault}
 use Rattle.claims.specs.declared.Claims.{Claims}
 use Rattle.found.specs.Judged.{ownFault, Judged, ClaimsOf, BusClaims, DeviceFound}
@@ -121,6 +122,10 @@ module _ (s : Settings) (c : List ℕ) (r : Found) where
   unfolding decode
   tachometer-short h p = none-there s 10 c r (simp (lt-leb 9 (length c) h)) p
 
+  pub external-short : length c < 9 → r .fault ≡ 8 → Judged s 13 c r
+  unfolding decode
+  external-short h p = none-there s 13 c r (simp (lt-leb 9 (length c) h)) p
+
   module _ (part : Part) (f : DeviceFound s (readDevice (s .chip) (byte c)) part r) where
     -- 09h
     pub controller-judged : 8 ≤ length c → SpeedPart (drop 8 c) part → Judged s 9 c r
@@ -136,4 +141,13 @@ module _ (s : Settings) (c : List ℕ) (r : Found) where
     tachometer-judged h e =
         device-judged s 10 c r (λ q. tachometer (readDevice (s .chip) (byte c)) (q .0) (q .1)) (cutTwo (drop 9 c)) (simp (le-leb 9 (length c) h)) (omega arith)
         (pairs-fault s part (r .fault) (f .misshapen) (λ q. tachometer (readDevice (s .chip) (byte c)) (q .0) (q .1)) (cutTwo (drop 9 c)) (e .0 ∙ two (drop 9 c)) (λ w q. f .breaks w .of-tachometer (q .0) (q .1) (e .1)))
+        (λ n q. f .claimed n)
+
+    -- 0Dh
+    pub external-judged :
+        9 ≤ length c → part .whole ≡ isSome (exact 3 0 (drop 9 c)) → part .full ≡ among (byte c 8) chipIdentifiers → Judged s 13 c r
+    unfolding decode
+    external-judged h e i =
+        device-judged s 13 c r (λ q. external (readExternal (s .chip) (byte c)) (q .0) (q .1) (q .2)) (cutThree (drop 9 c)) (simp (le-leb 9 (length c) h)) (omega arith)
+        (pairs-fault s part (r .fault) (f .misshapen) (λ q. external (readExternal (s .chip) (byte c)) (q .0) (q .1) (q .2)) (cutThree (drop 9 c)) (e ∙ three (drop 9 c)) (λ w q. f .breaks w .of-external (byte c 8) (q .0) (q .1) (q .2) (sym i)))
         (λ n q. f .claimed n)

@@ -39,7 +39,7 @@ ClaimsOf x cs = (c : Chip) → pinned c x ≡ true → ClaimsAre cs (claimsOf x)
 abbrev pub BusClaims : Address → Claims → Type 0
 BusClaims a cs = (c : Chip) → selected c a ≡ true → ClaimsAre cs (onBus a)
 
--- of the fixed fields of 09h or 0Ah and of what its part says, without the part
+-- of the fixed fields of 09h, 0Ah or 0Dh and of what its part says, without the part
 pub record DeviceFound (s : Settings) (d : BusDevice) (part : Part) (r : Found) : Type 0 where
   pub misshapen : part .whole ≡ false → r .fault ≡ 8
   pub breaks : part .whole ≡ true → DeviceBreaks s d (part .full) (r .fault)

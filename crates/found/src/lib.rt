@@ -55,9 +55,9 @@ pub fn analogue_found(b: &[u8], s: Settings) -> Found
     both(rules::analogue_breaks(a, s), claims::analogue_claims(a.pin))
 }
 
-// 03h
+// 03h and 06h
 pub fn fan_found(b: &[u8], s: Settings) -> Found
-    ensures { λ r. ⌜ Judged s 3 (now (b .entry)) r ⌝ }
+    ensures { λ r. ⌜ Judged s 3 (now (b .entry)) r × Judged s 6 (now (b .entry)) r ⌝ }
 {
     if b.len() != 13 {
         return refused(8);
@@ -79,6 +79,30 @@ pub fn led_found(b: &[u8], s: Settings) -> Found
     both(rules::led_breaks(l, s), claims::led_claims(l))
 }
 
+// 05h
+pub fn water_found(b: &[u8], s: Settings) -> Found
+    ensures { λ r. ⌜ Judged s 5 (now (b .entry)) r ⌝ }
+{
+    if b.len() != 12 {
+        return refused(8);
+    }
+    let chip = s.chip;
+    let w = fields::water(b, chip);
+    both(rules::water_breaks(w, s), claims::analogue_claims(w.pin))
+}
+
+// 07h
+pub fn voltage_found(b: &[u8], s: Settings) -> Found
+    ensures { λ r. ⌜ Judged s 7 (now (b .entry)) r ⌝ }
+{
+    if b.len() != 8 {
+        return refused(8);
+    }
+    let chip = s.chip;
+    let v = fields::voltage(b, chip);
+    both(rules::voltage_breaks(v, s), claims::analogue_claims(v.pin))
+}
+
 // 08h
 pub fn current_found(b: &[u8], s: Settings) -> Found
     ensures { λ r. ⌜ Judged s 8 (now (b .entry)) r ⌝ }
@@ -91,7 +115,7 @@ pub fn current_found(b: &[u8], s: Settings) -> Found
     both(rules::current_breaks(c, s), claims::analogue_claims(c.pin))
 }
 
-// 09h and 0Ah: by their fixed bytes and what their part says.
+// 09h, 0Ah and 0Dh: by their fixed bytes and what their part says.
 pub fn device_found(b: &[u8], part: Part, s: Settings) -> Found
     requires { ⌜ 8 ≤ length (now b) ⌝ }
     ensures { λ r. ⌜ DeviceFound s (readDevice (s .chip) (byte (now (b .entry)))) part r ⌝ }
@@ -123,6 +147,21 @@ pub fn tachometer_found(b: &[u8], s: Settings) -> Found
         return refused(8);
     }
     device_found(b, blocks::pairs_blocks(&b[9..], 2), s)
+}
+
+// 0Dh, whose chip must be identified
+pub fn external_found(b: &[u8], s: Settings) -> Found
+    ensures { λ r. ⌜ Judged s 13 (now (b .entry)) r ⌝ }
+{
+    if b.len() < 9 {
+        return refused(8);
+    }
+    let blocks = blocks::pairs_blocks(&b[9..], 3);
+    let part = Part {
+        whole: blocks.whole,
+        full: rules::identified(b[8]),
+    };
+    device_found(b, part, s)
 }
 
 // 0Eh

@@ -3,17 +3,20 @@ ghost use mathlib.Core.Path.{_≡_};
 ghost use mathlib.Core.Bool.{true};
 ghost use Rattle.format.specs.Slots.{byteOf, halves, roomy, allRoomy, written};
 ghost use Rattle.format.specs.Layout.{address, fixed};
-ghost use Rattle.format.specs.declared.records.Element.the-variants.{Digital, Analogue, Fan, Led, Current, Controller, Tachometer, Rgb};
+ghost use Rattle.format.specs.declared.records.Element.the-variants.{Digital, Analogue, Fan, Led, Water, Voltage, Current, Controller, Tachometer, External, Rgb};
 use elements::byte_of;
 use format::records::Address;
 use format::records::AnalogueSensor;
 use format::records::BusDevice;
 use format::records::CurrentSensor;
 use format::records::DigitalSensor;
+use format::records::ExternalRgb;
 use format::records::Lamp;
 use format::records::PwmFan;
 use format::records::RgbLed;
 use format::records::StatusLed;
+use format::records::VoltageSensor;
+use format::records::WaterLevel;
 
 pub const RESERVED: u8 = 0;
 
@@ -90,7 +93,7 @@ pub fn analogue(a: AnalogueSensor) -> [u8; 17]
     ]
 }
 
-// 03h
+// 03h and 06h
 pub fn fan(f: PwmFan) -> [u8; 13]
     ensures { λ r. ⌜ r ≡ written (fixed (Fan f)) ⌝ }
 {
@@ -136,6 +139,45 @@ pub fn led(l: StatusLed) -> [u8; 11]
         colour_byte(two),
         byte_of(r),
         colour_byte(three),
+    ]
+}
+
+// 05h
+pub fn water(w: WaterLevel) -> [u8; 12]
+    ensures { λ r. ⌜ r ≡ written (fixed (Water w)) ⌝ }
+{
+    let full = w.full.0;
+    let empty = w.empty.0;
+    let warning = w.warning.0;
+    [
+        w.placement.string,
+        w.placement.x.0,
+        w.placement.y.0,
+        w.placement.z.0,
+        w.placement.zone,
+        w.pin.0,
+        (full % 256) as u8,
+        (full / 256) as u8,
+        (empty % 256) as u8,
+        (empty / 256) as u8,
+        (warning % 256) as u8,
+        (warning / 256) as u8,
+    ]
+}
+
+// 07h
+pub fn voltage(v: VoltageSensor) -> [u8; 8]
+    ensures { λ r. ⌜ r ≡ written (fixed (Voltage v)) ⌝ }
+{
+    [
+        v.placement.string,
+        v.placement.x.0,
+        v.placement.y.0,
+        v.placement.z.0,
+        v.placement.zone,
+        v.pin.0,
+        v.vmax.0,
+        v.vmin.0,
     ]
 }
 
@@ -196,6 +238,27 @@ pub fn tachometer(d: BusDevice) -> [u8; 9]
         place,
         RESERVED,
         RESERVED,
+    ]
+}
+
+// 0Dh
+pub fn external(x: ExternalRgb) -> [u8; 9]
+    requires { ⌜ allRoomy (fixed (External x)) ≡ true ⌝ }
+    ensures { λ r. ⌜ r ≡ written (fixed (External x)) ⌝ }
+{
+    let d = x.device;
+    let a = d.address;
+    let place = address_byte(a);
+    [
+        d.placement.string,
+        d.placement.x.0,
+        d.placement.y.0,
+        d.placement.z.0,
+        d.placement.zone,
+        d.bus,
+        place,
+        RESERVED,
+        x.identifier,
     ]
 }
 

@@ -25,11 +25,15 @@ pub fn fixed_length(e: Element) -> usize
         Element::Analogue(_) => 17,
         Element::Fan(_) => 13,
         Element::Led(_) => 11,
+        Element::Water(_) => 12,
+        Element::Pump(_) => 13,
+        Element::Voltage(_) => 8,
         Element::Current(_) => 11,
         Element::Controller(_) => 8,
         Element::Tachometer(_) => 9,
         Element::Zone => 0,
         Element::Text => 0,
+        Element::External(_) => 9,
         Element::Rgb(_) => 8,
     }
 }
@@ -92,11 +96,15 @@ fn put_fixed(buf: &mut [u8], at: usize, e: Element)
         Element::Analogue(a) => copy_into(buf, at, &kinds::analogue(a)),
         Element::Fan(f) => copy_into(buf, at, &kinds::fan(f)),
         Element::Led(l) => copy_into(buf, at, &kinds::led(l)),
+        Element::Water(w) => copy_into(buf, at, &kinds::water(w)),
+        Element::Pump(f) => copy_into(buf, at, &kinds::fan(f)),
+        Element::Voltage(v) => copy_into(buf, at, &kinds::voltage(v)),
         Element::Current(c) => copy_into(buf, at, &kinds::current(c)),
         Element::Controller(d) => copy_into(buf, at, &kinds::controller(d)),
         Element::Tachometer(d) => copy_into(buf, at, &kinds::tachometer(d)),
         Element::Zone => {}
         Element::Text => {}
+        Element::External(x) => copy_into(buf, at, &kinds::external(x)),
         Element::Rgb(c) => copy_into(buf, at, &kinds::rgb(c)),
     }
 }

@@ -5,7 +5,7 @@ use mathlib.Core.Bool.{Bool, true, false, not}
 use mathlib.Core.List.{List}
 use lib.Dec.{eqb}
 use Rattle.format.specs.Slots.{byte}
-use Rattle.format.specs.Decode.{pinOf, optionalOf, digitalOf, analogueOf, lampOf, ledOf, currentOf, deviceOf, descriptionOf, wordAt, readPlacement, readFan, readRgb}
+use Rattle.format.specs.Decode.{pinOf, optionalOf, digitalOf, analogueOf, lampOf, ledOf, currentOf, deviceOf, externalOf, descriptionOf, wordAt, readPlacement, readFan, readWater, readVoltage, readRgb}
 use Rattle.format.specs.declared.pins.Chip.{Chip}
 use Rattle.format.specs.declared.pins.Chip.the-variants.{C8051F320, C8051F321}
 use Rattle.format.specs.declared.records.Description.{Description}
@@ -15,9 +15,10 @@ use Rattle.format.specs.declared.records.Lamp.{Lamp}
 use Rattle.format.specs.declared.records.StatusLed.{StatusLed}
 use Rattle.format.specs.declared.records.CurrentSensor.{CurrentSensor}
 use Rattle.format.specs.declared.records.BusDevice.{BusDevice}
+use Rattle.format.specs.declared.records.ExternalRgb.{ExternalRgb}
 use Rattle.format.specs.declared.records.Address.{Address}
 use Rattle.format.specs.declared.records.Address.the-variants.{Bus, Select}
-use Rattle.format.specs.declared.records.Element.the-variants.{Digital, Analogue, Fan, Led, Current, Controller, Tachometer, Zone, Text, Rgb}
+use Rattle.format.specs.declared.records.Element.the-variants.{Digital, Analogue, Fan, Led, Water, Pump, Voltage, Current, Controller, Tachometer, Zone, Text, External, Rgb}
 use Rattle.words.specs.Widths.{longAt}
 use Rattle.numbers.specs.declared.MaybeElement.{MaybeElement}
 use Rattle.numbers.specs.declared.MaybeElement.the-variants.{Element as Found, Unknown}
@@ -35,8 +36,8 @@ abbrev pub addressFrom : Chip → Bool → ℕ → Address
 addressFrom c true a = Bus a
 addressFrom c false a = Select (pinOf c a)
 
--- the numbers of each kind, given byte by byte; 0-4 are its placement. Those of 03h and 0Eh are the bytes after the header, which
--- `readFan` and `readRgb` of `format` read
+-- the numbers of each kind, given byte by byte; 0-4 are its placement. Those of 03h, 05h, 06h, 07h and 0Eh are the bytes after the
+-- header, which `readFan`, `readWater`, `readVoltage` and `readRgb` of `format` read
 abbrev pub digitalFrom : Chip → (ℕ → ℕ) → DigitalSensor
 digitalFrom c f =
     digitalOf (readPlacement f) (f 5) (addressFrom c (eqb (f 6) 0) (f 7)) (wordAt f 8) (wordAt f 10) (wordAt f 12) (f 14) (wordAt f 15) (f 17)
@@ -57,6 +58,9 @@ currentFrom c f = currentOf (readPlacement f) (pinOf c (f 5)) (wordAt f 6) (word
 abbrev pub deviceFrom : Chip → (ℕ → ℕ) → BusDevice
 deviceFrom c f = deviceOf (readPlacement f) (f 5) (addressFrom c (eqb (f 6) 0) (f 7))
 
+abbrev pub externalFrom : Chip → (ℕ → ℕ) → ExternalRgb
+externalFrom c f = externalOf (deviceFrom c f) (f 8)
+
 abbrev pub describedFrom : Chip → (ℕ → ℕ) → Description
 describedFrom c f =
     descriptionOf (f 0) (f 1) (longAt f 2) (not (eqb (f 6) 0)) (f 7) (optionalOf c (f 8)) (optionalOf c (f 9)) (optionalOf c (f 10))
@@ -76,9 +80,13 @@ elementFrom id n =
     (pick (eqb id 0x02) (Found (Analogue (analogueFrom (chipFrom (byte n)) (byte n))))
     (pick (eqb id 0x03) (Found (Fan (readFan (chipFrom (byte n)) (byte n))))
     (pick (eqb id 0x04) (Found (Led (ledFrom (chipFrom (byte n)) (byte n))))
+    (pick (eqb id 0x05) (Found (Water (readWater (chipFrom (byte n)) (byte n))))
+    (pick (eqb id 0x06) (Found (Pump (readFan (chipFrom (byte n)) (byte n))))
+    (pick (eqb id 0x07) (Found (Voltage (readVoltage (chipFrom (byte n)) (byte n))))
     (pick (eqb id 0x08) (Found (Current (currentFrom (chipFrom (byte n)) (byte n))))
     (pick (eqb id 0x09) (Found (Controller (deviceFrom (chipFrom (byte n)) (byte n))))
     (pick (eqb id 0x0a) (Found (Tachometer (deviceFrom (chipFrom (byte n)) (byte n))))
     (pick (eqb id 0x0b) (Found Zone)
     (pick (eqb id 0x0c) (Found Text)
-    (pick (eqb id 0x0e) (Found (Rgb (readRgb (chipFrom (byte n)) (byte n)))) Unknown)))))))))
+    (pick (eqb id 0x0d) (Found (External (externalFrom (chipFrom (byte n)) (byte n))))
+    (pick (eqb id 0x0e) (Found (Rgb (readRgb (chipFrom (byte n)) (byte n)))) Unknown)))))))))))))

@@ -11,10 +11,12 @@ use Rattle.format.specs.declared.pins.Chip.the-variants.{C8051F320, C8051F321}
 use Rattle.format.specs.declared.records.Description.{Description}
 use Rattle.format.specs.declared.records.Placement.{Placement}
 use Rattle.format.specs.declared.records.Lamp.{Lamp}
+use Rattle.format.specs.declared.records.PwmFan.{PwmFan}
+use Rattle.format.specs.declared.records.BusDevice.{BusDevice}
 use Rattle.format.specs.declared.records.Address.{Address}
 use Rattle.format.specs.declared.records.Address.the-variants.{Bus, Select}
 use Rattle.format.specs.declared.records.Element.{Element}
-use Rattle.format.specs.declared.records.Element.the-variants.{Digital, Analogue, Fan, Led, Current, Controller, Tachometer, Zone, Text, Rgb}
+use Rattle.format.specs.declared.records.Element.the-variants.{Digital, Analogue, Fan, Led, Water, Pump, Voltage, Current, Controller, Tachometer, Zone, Text, External, Rgb}
 use Rattle.words.specs.Widths.{twoBytes, fourBytes}
 
 abbrev pub zeros : ℕ → List ℕ
@@ -47,6 +49,22 @@ addressOf (Select p) = p .0
 abbrev pub lampNumbers : Lamp → List ℕ
 lampNumbers l = optionalByte (l .pin) ∷ l .colour ∷ l .purpose ∷ []
 
+-- 5 PWM pin, 6 tachometer pin, 7 PPR, 8-9 minimum, 10-11 maximum RPM, 12 minimum duty cycle
+abbrev pub motorNumbers : PwmFan → List ℕ
+motorNumbers f =
+    placementNumbers (f .placement)
+    ++ f .pwm .0
+    ∷ optionalByte (f .tachometer)
+    ∷ f .ppr
+    ∷ twoBytes (f .minrpm .0)
+    ++ twoBytes (f .maxrpm .0)
+    ++ f .duty
+    ∷ []
+
+-- 5 bus type, 6 kind of address, 7 address
+abbrev pub deviceNumbers : BusDevice → List ℕ
+deviceNumbers d = placementNumbers (d .placement) ++ d .bus ∷ kindOf (d .address) ∷ addressOf (d .address) ∷ []
+
 -- of an element, beside its variable part
 abbrev pub elementNumbers : Element → List ℕ → List ℕ
 -- 5 bus type, 6 kind of address, 7 address, 8-9 LSB, 10-11 MSB register, 12-13 and 14 minimum, 15-16 and 17 maximum
@@ -72,31 +90,27 @@ elementNumbers (Analogue a) p =
     ++ twoBytes (a .at50 .0)
     ++ twoBytes (a .at75 .0)
     ++ twoBytes (a .at100 .0)
--- 5 PWM pin, 6 tachometer pin, 7 PPR, 8-9 minimum, 10-11 maximum RPM, 12 minimum duty cycle
-elementNumbers (Fan f) p =
-    placementNumbers (f .placement)
-    ++ f .pwm .0
-    ∷ optionalByte (f .tachometer)
-    ∷ f .ppr
-    ∷ twoBytes (f .minrpm .0)
-    ++ twoBytes (f .maxrpm .0)
-    ++ f .duty
-    ∷ []
+elementNumbers (Fan f) p = motorNumbers f
 -- 5-7, 8-10, 11-13 the three lamps
 elementNumbers (Led l) p =
     placementNumbers (l .placement) ++ lampNumbers (l .one) ++ lampNumbers (l .two) ++ lampNumbers (l .three)
+-- 5 pin, 6-7 FULL, 8-9 EMPTY, 10-11 WARNING
+elementNumbers (Water w) p =
+    placementNumbers (w .placement) ++ w .pin .0 ∷ twoBytes (w .full .0) ++ twoBytes (w .empty .0) ++ twoBytes (w .warning .0)
+elementNumbers (Pump f) p = motorNumbers f
+-- 5 pin, 6 VMAX, 7 VMIN
+elementNumbers (Voltage v) p = placementNumbers (v .placement) ++ v .pin .0 ∷ v .vmax .0 ∷ v .vmin .0 ∷ []
 -- 5 pin, 6-7 IMIN, 8-9 IMAX
 elementNumbers (Current c) p =
     placementNumbers (c .placement) ++ c .pin .0 ∷ twoBytes (c .imin .0) ++ twoBytes (c .imax .0)
--- 5 bus type, 6 kind of address, 7 address
-elementNumbers (Controller d) p =
-    placementNumbers (d .placement) ++ d .bus ∷ kindOf (d .address) ∷ addressOf (d .address) ∷ []
-elementNumbers (Tachometer d) p =
-    placementNumbers (d .placement) ++ d .bus ∷ kindOf (d .address) ∷ addressOf (d .address) ∷ []
+elementNumbers (Controller d) p = deviceNumbers d
+elementNumbers (Tachometer d) p = deviceNumbers d
 -- 0 the zone's number, 1 its string index
 elementNumbers Zone p = zoneNumber p ∷ zoneString p ∷ []
 -- 0 the string's number
 elementNumbers Text p = stringNumber p ∷ []
+-- a device's, and 8 the identifier of its chip
+elementNumbers (External x) p = deviceNumbers (x .device) ++ x .identifier ∷ []
 -- 5 red, 6 green, 7 blue pin
 elementNumbers (Rgb r) p = placementNumbers (r .placement) ++ r .red .0 ∷ r .green .0 ∷ r .blue .0 ∷ []
 
@@ -119,11 +133,15 @@ lastOf c (Digital d) = chipNumber c
 lastOf c (Analogue a) = chipNumber c
 lastOf c (Fan f) = chipNumber c
 lastOf c (Led l) = chipNumber c
+lastOf c (Water w) = chipNumber c
+lastOf c (Pump f) = chipNumber c
+lastOf c (Voltage v) = chipNumber c
 lastOf c (Current x) = chipNumber c
 lastOf c (Controller d) = chipNumber c
 lastOf c (Tachometer d) = chipNumber c
 lastOf c Zone = 0
 lastOf c Text = 0
+lastOf c (External x) = chipNumber c
 lastOf c (Rgb r) = chipNumber c
 
 abbrev pub elementInto : Chip → Element → List ℕ → List ℕ

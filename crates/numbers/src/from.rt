@@ -1,10 +1,11 @@
-// From the numbers to the record, one function a kind. Byte 31 names the chip of its pins; the bytes that a kind does not use are not looked at. The numbers of 03h and
-// 0Eh are laid out as the element's bytes after its header, so that `fields` reads them.
+// From the numbers to the record, one function a kind. Byte 31 names the chip of its pins; the bytes that a kind does not use are
+// not looked at. The numbers of 03h, 05h, 06h, 07h and 0Eh are laid out as the element's bytes after its header, so that `fields`
+// reads them.
 ghost use mathlib.Core.Path.{_≡_};
 ghost use Prim.Native.Nat.{_<_};
 ghost use lib.Dec.{eqb};
 ghost use Rattle.format.specs.Slots.{byte};
-ghost use Rattle.numbers.specs.From.{chipFrom, addressFrom, digitalFrom, analogueFrom, lampFrom, ledFrom, currentFrom, deviceFrom, descriptionFrom, elementFrom};
+ghost use Rattle.numbers.specs.From.{chipFrom, addressFrom, digitalFrom, analogueFrom, lampFrom, ledFrom, currentFrom, deviceFrom, externalFrom, descriptionFrom, elementFrom};
 use crate::MaybeElement;
 use fields::optional;
 use fields::placement;
@@ -17,6 +18,7 @@ use format::records::CurrentSensor;
 use format::records::Description;
 use format::records::DigitalSensor;
 use format::records::Element;
+use format::records::ExternalRgb;
 use format::records::Lamp;
 use format::records::StatusLed;
 use format::units::Counts;
@@ -51,11 +53,15 @@ pub fn element(id: u8, n: &[u8; 32]) -> MaybeElement
         2 => MaybeElement::Element(Element::Analogue(analogue(n, chip))),
         3 => MaybeElement::Element(Element::Fan(fields::fan(n, chip))),
         4 => MaybeElement::Element(Element::Led(led(n, chip))),
+        5 => MaybeElement::Element(Element::Water(fields::water(n, chip))),
+        6 => MaybeElement::Element(Element::Pump(fields::fan(n, chip))),
+        7 => MaybeElement::Element(Element::Voltage(fields::voltage(n, chip))),
         8 => MaybeElement::Element(Element::Current(current(n, chip))),
         9 => MaybeElement::Element(Element::Controller(device(n, chip))),
         10 => MaybeElement::Element(Element::Tachometer(device(n, chip))),
         11 => MaybeElement::Element(Element::Zone),
         12 => MaybeElement::Element(Element::Text),
+        13 => MaybeElement::Element(Element::External(external(n, chip))),
         14 => MaybeElement::Element(Element::Rgb(fields::rgb(n, chip))),
         _ => MaybeElement::Unknown,
     }
@@ -126,6 +132,16 @@ fn device(n: &[u8; 32], chip: Chip) -> BusDevice
         placement: placement(n),
         bus: n[5],
         address: address(n[6], n[7], chip),
+    }
+}
+
+// 0Dh, before its blocks
+fn external(n: &[u8; 32], chip: Chip) -> ExternalRgb
+    ensures { λ r. ⌜ r ≡ externalFrom chip (byte (now (n .entry))) ⌝ }
+{
+    ExternalRgb {
+        device: device(n, chip),
+        identifier: n[8],
     }
 }
 

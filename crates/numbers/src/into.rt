@@ -2,7 +2,7 @@
 ghost use mathlib.Core.Path.{_≡_};
 ghost use mathlib.Core.List.{[], _∷_};
 ghost use Rattle.format.specs.Layout.{optionalByte};
-ghost use Rattle.format.specs.declared.records.Element.the-variants.{Digital, Analogue, Fan, Led, Current, Controller, Rgb};
+ghost use Rattle.format.specs.declared.records.Element.the-variants.{Digital, Analogue, Fan, Led, Water, Voltage, Current, Controller, External, Rgb};
 ghost use Rattle.numbers.specs.Into.{padded, chipNumber, placementNumbers, kindOf, addressOf, elementInto, descriptionInto};
 use format::pins::Chip;
 use format::pins::OptionalPin;
@@ -13,10 +13,13 @@ use format::records::CurrentSensor;
 use format::records::Description;
 use format::records::DigitalSensor;
 use format::records::Element;
+use format::records::ExternalRgb;
 use format::records::Placement;
 use format::records::PwmFan;
 use format::records::RgbLed;
 use format::records::StatusLed;
+use format::records::VoltageSensor;
+use format::records::WaterLevel;
 
 pub fn description(d: Description, chip: Chip) -> [u8; 32]
     ensures { λ r. ⌜ r ≡ descriptionInto chip d ⌝ }
@@ -49,11 +52,15 @@ pub fn element(e: Element, part: &[u8], chip: Chip) -> [u8; 32]
         Element::Analogue(a) => analogue(a, chip),
         Element::Fan(f) => fan(f, chip),
         Element::Led(l) => led(l, chip),
+        Element::Water(w) => water(w, chip),
+        Element::Pump(f) => fan(f, chip),
+        Element::Voltage(v) => voltage(v, chip),
         Element::Current(c) => current(c, chip),
         Element::Controller(d) => device(d, chip),
         Element::Tachometer(d) => device(d, chip),
         Element::Zone => two(parts::zone_number(part), parts::zone_string(part)),
         Element::Text => two(parts::string_number(part), 0),
+        Element::External(x) => external(x, chip),
         Element::Rgb(r) => rgb(r, chip),
     }
 }
@@ -102,7 +109,7 @@ fn analogue(a: AnalogueSensor, chip: Chip) -> [u8; 32]
     n
 }
 
-// 03h
+// 03h and 06h
 fn fan(f: PwmFan, chip: Chip) -> [u8; 32]
     ensures { λ r. ⌜ r ≡ elementInto chip (Fan f) [] ⌝ }
 {
@@ -144,6 +151,34 @@ fn led(l: StatusLed, chip: Chip) -> [u8; 32]
     n
 }
 
+// 05h
+fn water(w: WaterLevel, chip: Chip) -> [u8; 32]
+    ensures { λ r. ⌜ r ≡ elementInto chip (Water w) [] ⌝ }
+{
+    let p = w.placement;
+    let mut n = placement(p, chip);
+    n[5] = w.pin.0;
+    n[6] = (w.full.0 % 256) as u8;
+    n[7] = (w.full.0 / 256) as u8;
+    n[8] = (w.empty.0 % 256) as u8;
+    n[9] = (w.empty.0 / 256) as u8;
+    n[10] = (w.warning.0 % 256) as u8;
+    n[11] = (w.warning.0 / 256) as u8;
+    n
+}
+
+// 07h
+fn voltage(v: VoltageSensor, chip: Chip) -> [u8; 32]
+    ensures { λ r. ⌜ r ≡ elementInto chip (Voltage v) [] ⌝ }
+{
+    let p = v.placement;
+    let mut n = placement(p, chip);
+    n[5] = v.pin.0;
+    n[6] = v.vmax.0;
+    n[7] = v.vmin.0;
+    n
+}
+
 // 08h
 fn current(c: CurrentSensor, chip: Chip) -> [u8; 32]
     ensures { λ r. ⌜ r ≡ elementInto chip (Current c) [] ⌝ }
@@ -168,6 +203,16 @@ fn device(d: BusDevice, chip: Chip) -> [u8; 32]
     n[5] = d.bus;
     n[6] = kind(a);
     n[7] = address(a);
+    n
+}
+
+// 0Dh, before its blocks: a device's numbers, and the identifier of its chip
+fn external(x: ExternalRgb, chip: Chip) -> [u8; 32]
+    ensures { λ r. ⌜ r ≡ elementInto chip (External x) [] ⌝ }
+{
+    let d = x.device;
+    let mut n = device(d, chip);
+    n[8] = x.identifier;
     n
 }
 

@@ -4,7 +4,7 @@ pub mod into;
 
 use format::records::Element;
 
-// The element of an identifier, or nothing where that is none of the ten.
+// The element of an identifier, or nothing where that is none of the fourteen.
 pub enum MaybeElement {
     Element(Element),
     Unknown,

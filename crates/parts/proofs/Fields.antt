@@ -1,9 +1,9 @@
 -- Demand 2, of the variable parts: every field read from what is written of the records is the field, and past the last there is
--- nothing. One law reads ENTRIES and its pairs; speed blocks and the lists of 0Ah go through it.
+-- nothing. One law reads ENTRIES and its pairs; speed blocks and the lists of 0Ah and 0Dh go through it.
 -- Assumes nothing.
 use Prim.Native.Nat.{ℕ, zero, suc, _+_, _*_, _/_, _%_}
 use native.Mathlib.Omega.{arith}
-use mathlib.Core.Path.{_≡_, refl, sym, ap}
+use mathlib.Core.Path.{_≡_, refl, sym, _∙_, ap, subst}
 use mathlib.Core.Bool.{true}
 use mathlib.Core.List.{List, [], _∷_, _++_, append-nil}
 use mathlib.Core.Option.{Option, none, some}
@@ -11,15 +11,15 @@ use lib.ListN.{length, drop, length-append, getElem?}
 use lib.Seq.{drop-at, getD-drop}
 use lib.Dec.{ltb, leb·suc-suc, leb·suc-zero}
 use borrow.Author.Tests.{le-leb, lt-ltb}
-use Rattle.format.specs.Slots.{byte, written}
+use Rattle.format.specs.Slots.{Slot, byte, written}
 use Rattle.format.specs.Records.{Block}
 use Rattle.format.specs.Layout.{pairs, entries, blocks}
 use Rattle.format.specs.Decode.{wordAt, pairOf}
 use Rattle.format.specs.declared.records.RegisterPair.{RegisterPair}
 use Rattle.format.proofs.Whole.{written-append}
 use Rattle.parts.specs.declared.MaybeEntries.the-variants.{Entries}
-use Rattle.parts.specs.Inside.{whenPair, wholeList, afterList, listAt, pairAt, withSpeed, blockAt, blocksFrom, listsFrom, blockIn, pairIn, listIn, listPairIn}
-use Rattle.parts.specs.Fields.{blockField, pairField, blockPairField, listOf, listField, listPairField}
+use Rattle.parts.specs.Inside.{whenPair, wholeList, afterList, listAt, pairAt, withSpeed, blockAt, blocksFrom, listsFrom, blockIn, pairIn, listIn, listPairIn, colourIn, colourPairIn}
+use Rattle.parts.specs.Fields.{blockField, pairField, blockPairField, listField, listPairField}
 use Rattle.parts.proofs.Reading.{none-left}
 
 length-pairs : (ps : List RegisterPair) → length (written (pairs ps)) ≡ 4 * length ps
@@ -89,22 +89,54 @@ pub pair-fields : (l : List Block) (j i : ℕ) → pairIn (written (blocks l)) j
 pair-fields l j i =
     at-block (λ r. pairAt (drop 1 r) i) (blockPairField i) refl (λ b more. pair-there (b .pairs) more i) l j
 
--- and at each of the two lists of 0Ah
+-- lists one after the other, and an answer about the head of the bytes at each of them
+abbrev lists : List (List RegisterPair) → List Slot
+lists [] = []
+lists (ps ∷ ls) = entries ps ++ lists ls
+
 module _
     {A : Type 0} (f : List ℕ → A) (g : Option (List RegisterPair) → A)
     (last : f [] ≡ g none)
     (each : (ps : List RegisterPair) (more : List ℕ) → f (bytes ps more) ≡ g (some ps))
   where
-    at-list : (a b : List RegisterPair) (w : ℕ) → f (listsFrom (written (entries a ++ entries b)) w) ≡ g (listOf a b w)
-    at-list a b zero = rw (written-append (entries a) (entries b)) (each a (written (entries b)))
-    at-list a b (suc zero) =
-        rw (written-append (entries a) (entries b), past-there a (written (entries b))) (rw append-nil at (each b []))
-    at-list a b (suc (suc w)) = last
+    at-list : (ls : List (List RegisterPair)) (w : ℕ) → f (listsFrom (length ls) (written (lists ls)) w) ≡ g (getElem? ls w)
+    at-list [] w = last
+    at-list (ps ∷ ls) zero = rw (written-append (entries ps) (lists ls)) (each ps (written (lists ls)))
+    at-list (ps ∷ ls) (suc w) =
+        let e = ap afterList (written-append (entries ps) (lists ls)) ∙ past-there ps (written (lists ls)) in
+        ap (λ (q : List ℕ). f (listsFrom (length ls) q w)) e ∙ at-list ls w
+
+    -- two of them, and three
+    of-two : (a b : List RegisterPair) (w : ℕ) → f (listsFrom 2 (written (entries a ++ entries b)) w) ≡ g (getElem? (a ∷ b ∷ []) w)
+    of-two a b w =
+        subst (λ (ss : List Slot). f (listsFrom 2 (written (entries a ++ ss)) w) ≡ g (getElem? (a ∷ b ∷ []) w)) (append-nil (entries b))
+        (at-list (a ∷ b ∷ []) w)
+
+    of-three :
+        (a b c : List RegisterPair) (w : ℕ)
+        → f (listsFrom 3 (written (entries a ++ (entries b ++ entries c))) w) ≡ g (getElem? (a ∷ b ∷ c ∷ []) w)
+    of-three a b c w =
+        subst (λ (ss : List Slot). f (listsFrom 3 (written (entries a ++ (entries b ++ ss))) w) ≡ g (getElem? (a ∷ b ∷ c ∷ []) w))
+        (append-nil (entries c))
+        (at-list (a ∷ b ∷ c ∷ []) w)
 
 -- 0Ah: block w, and register pair i of it
-pub list-fields : (a b : List RegisterPair) (w : ℕ) → listIn (written (entries a ++ entries b)) w ≡ listField (listOf a b w)
-list-fields = at-list listAt listField refl list-there
+pub list-fields :
+    (a b : List RegisterPair) (w : ℕ) → listIn (written (entries a ++ entries b)) w ≡ listField (getElem? (a ∷ b ∷ []) w)
+list-fields = of-two listAt listField refl list-there
 
 pub list-pair-fields :
-    (a b : List RegisterPair) (w i : ℕ) → listPairIn (written (entries a ++ entries b)) w i ≡ listPairField i (listOf a b w)
-list-pair-fields a b w i = at-list (λ q. pairAt q i) (listPairField i) refl (λ ps more. pair-there ps more i) a b w
+    (a b : List RegisterPair) (w i : ℕ)
+    → listPairIn (written (entries a ++ entries b)) w i ≡ listPairField i (getElem? (a ∷ b ∷ []) w)
+list-pair-fields a b w i = of-two (λ q. pairAt q i) (listPairField i) refl (λ ps more. pair-there ps more i) a b w
+
+-- 0Dh: the same of red, green, blue
+pub colour-fields :
+    (r g b : List RegisterPair) (w : ℕ)
+    → colourIn (written (entries r ++ (entries g ++ entries b))) w ≡ listField (getElem? (r ∷ g ∷ b ∷ []) w)
+colour-fields = of-three listAt listField refl list-there
+
+pub colour-pair-fields :
+    (r g b : List RegisterPair) (w i : ℕ)
+    → colourPairIn (written (entries r ++ (entries g ++ entries b))) w i ≡ listPairField i (getElem? (r ∷ g ∷ b ∷ []) w)
+colour-pair-fields r g b w i = of-three (λ q. pairAt q i) (listPairField i) refl (λ ps more. pair-there ps more i) r g b w

@@ -60,11 +60,20 @@ pub turn : (r q s : List ℕ) (j : ℕ) → 0 < j → q ≡ drop 1 r → s ≡ a
 turn r q s zero h d e = absurd (omega arith)
 turn r q s (suc j) h d e = let z : suc j - 1 ≡ j = omega arith in rw (z, e, d) refl
 
--- the two blocks of 0Ah
-pub second : (bs : List ℕ) (w : ℕ) {s : List ℕ} → w ≡ 1 → s ≡ afterList bs → s ≡ listsFrom bs w
-second bs w h e = rw h e
+-- blocks of which there are so many: none past the last, and from one to the next
+pub no-more : (n : ℕ) (bs : List ℕ) (w : ℕ) → n ≤ w → [] ≡ listsFrom n bs w
+no-more zero bs w h = refl
+no-more (suc n) bs zero h = absurd (omega arith)
+no-more (suc n) bs (suc w) h = no-more n (afterList bs) w (omega arith)
 
-pub no-third : (bs : List ℕ) (w : ℕ) {s : List ℕ} → (w ≡ 0 → ⊥) → (w ≡ 1 → ⊥) → s ≡ drop (length bs) bs → s ≡ listsFrom bs w
-no-third bs zero h g e = absurd (h refl)
-no-third bs (suc zero) h g e = absurd (g refl)
-no-third bs (suc (suc w)) h g e = e ∙ drop-length bs
+pub here : (n : ℕ) (bs : List ℕ) → 0 < n → bs ≡ listsFrom n bs 0
+here zero bs h = absurd (omega arith)
+here (suc n) bs h = refl
+
+pub list-turn :
+    (r s : List ℕ) (left more : ℕ) → 0 < left → s ≡ afterList r → listsFrom (left - 1 + more) s (left - 1) ≡ listsFrom (left + more) r left
+list-turn r s zero more h e = absurd (omega arith)
+list-turn r s (suc left) more h e =
+    let z : suc left - 1 ≡ left = omega arith in
+    let y : suc left + more ≡ suc (left + more) = omega arith in
+    rw (z, e, y) refl

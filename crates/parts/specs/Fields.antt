@@ -1,6 +1,6 @@
--- The same answers by the records: speed block j of a list of blocks, block w of the two lists of 0Ah, and pair i of either.
+-- The same answers by the records: speed block j of a list of blocks, block w of the lists of 0Ah or 0Dh, and pair i of either.
 -- Assumes nothing.
-use Prim.Native.Nat.{ℕ, zero, suc}
+use Prim.Native.Nat.{ℕ}
 use mathlib.Core.List.{List}
 use mathlib.Core.Option.{Option, none, some}
 use lib.ListN.{length, getElem?}
@@ -27,12 +27,6 @@ pairField (some p) = Pair p
 abbrev pub blockPairField : ℕ → Option Block → MaybePair
 blockPairField i none = NoPair
 blockPairField i (some b) = pairField (getElem? (b .pairs) i)
-
--- the first list, the second, and there is no third
-abbrev pub listOf : List RegisterPair → List RegisterPair → ℕ → Option (List RegisterPair)
-listOf a b zero = some a
-listOf a b (suc zero) = some b
-listOf a b (suc (suc w)) = none
 
 -- how many pairs a list has
 abbrev pub listField : Option (List RegisterPair) → MaybeEntries

@@ -64,15 +64,22 @@ blockIn bs j = blockAt (blocksFrom bs j)
 abbrev pub pairIn : List ℕ → ℕ → ℕ → MaybePair
 pairIn bs j i = pairAt (drop 1 (blocksFrom bs j)) i
 
--- the bytes from the first block of 0Ah on, from the second, and there is no third
-abbrev pub listsFrom : List ℕ → ℕ → List ℕ
-listsFrom bs zero = bs
-listsFrom bs (suc zero) = afterList bs
-listsFrom bs (suc (suc w)) = []
+-- of so many blocks of ENTRIES and pairs, the bytes from block w on; none past the last
+abbrev pub listsFrom : ℕ → List ℕ → ℕ → List ℕ
+listsFrom zero bs w = []
+listsFrom (suc n) bs zero = bs
+listsFrom (suc n) bs (suc w) = listsFrom n (afterList bs) w
 
--- 0Ah: how many register pairs block w has, and pair i of it
+-- 0Ah, which has two: how many register pairs block w has, and pair i of it
 abbrev pub listIn : List ℕ → ℕ → MaybeEntries
-listIn bs w = listAt (listsFrom bs w)
+listIn bs w = listAt (listsFrom 2 bs w)
 
 abbrev pub listPairIn : List ℕ → ℕ → ℕ → MaybePair
-listPairIn bs w i = pairAt (listsFrom bs w) i
+listPairIn bs w i = pairAt (listsFrom 2 bs w) i
+
+-- the same of 0Dh, which has three: red, green, blue
+abbrev pub colourIn : List ℕ → ℕ → MaybeEntries
+colourIn bs w = listAt (listsFrom 3 bs w)
+
+abbrev pub colourPairIn : List ℕ → ℕ → ℕ → MaybePair
+colourPairIn bs w i = pairAt (listsFrom 3 bs w) i

@@ -1,12 +1,12 @@
-// The fields inside a variable part: the speed blocks of 09h, the two blocks of 0Ah and their register pairs; the number and the
-// string index of a zone descriptor, the number and the text of a string. A part is any bytes: of what does not stand whole in it
-// the answer is `Nothing`, a byte past its end is 0.
+// The fields inside a variable part: the speed blocks of 09h, the two blocks of 0Ah, the three of 0Dh and their register pairs; the
+// number and the string index of a zone descriptor, the number and the text of a string. A part is any bytes: of what does not stand
+// whole in it the answer is `Nothing`, a byte past its end is 0.
 ghost use mathlib.Core.Path.{_≡_};
 ghost use Prim.Native.Nat.{_+_, _*_};
 ghost use lib.ListN.{drop};
 ghost use Rattle.format.specs.Slots.{byte};
 ghost use Rattle.format.specs.Records.{zoneNumber, zoneString, stringNumber, textOf};
-ghost use Rattle.parts.specs.Inside.{wholeList, afterList, listAt, pairAt, blockAt, blocksFrom, listsFrom, blockIn, pairIn, listIn, listPairIn};
+ghost use Rattle.parts.specs.Inside.{wholeList, afterList, listAt, pairAt, blockAt, blocksFrom, listsFrom, blockIn, pairIn, listIn, listPairIn, colourIn, colourPairIn};
 use format::records::RegisterPair;
 use format::units::HundredRpm;
 use words::wide;
@@ -28,7 +28,7 @@ pub enum MaybePair {
     Nothing,
 }
 
-// How many pairs a block of 0Ah has.
+// How many pairs a block of 0Ah or 0Dh has.
 pub enum MaybeEntries {
     Entries(u8),
     Nothing,
@@ -52,14 +52,28 @@ pub fn pair(part: &[u8], j: usize, i: usize) -> MaybePair
 pub fn list(part: &[u8], w: usize) -> MaybeEntries
     ensures { λ r. ⌜ r ≡ listIn (now (part .entry)) w ⌝ }
 {
-    list_at(lists_from(part, w))
+    list_at(lists_from(part, 2, w))
 }
 
 // 0Ah: register pair i of block w.
 pub fn list_pair(part: &[u8], w: usize, i: usize) -> MaybePair
     ensures { λ r. ⌜ r ≡ listPairIn (now (part .entry)) w i ⌝ }
 {
-    pair_at(lists_from(part, w), i)
+    pair_at(lists_from(part, 2, w), i)
+}
+
+// 0Dh: how many register pairs block w has, 0 for red, 1 for green and 2 for blue.
+pub fn colour(part: &[u8], w: usize) -> MaybeEntries
+    ensures { λ r. ⌜ r ≡ colourIn (now (part .entry)) w ⌝ }
+{
+    list_at(lists_from(part, 3, w))
+}
+
+// 0Dh: register pair i of block w.
+pub fn colour_pair(part: &[u8], w: usize, i: usize) -> MaybePair
+    ensures { λ r. ⌜ r ≡ colourPairIn (now (part .entry)) w i ⌝ }
+{
+    pair_at(lists_from(part, 3, w), i)
 }
 
 // 0Bh: the zone's own number.
@@ -184,17 +198,21 @@ fn blocks_from(part: &[u8], j: usize) -> &[u8]
     r
 }
 
-// The bytes from block w of 0Ah on.
-fn lists_from(part: &[u8], w: usize) -> &[u8]
-    ensures { λ r. ⌜ now r ≡ listsFrom (now (part .entry)) w ⌝ }
+// The bytes from block w on, of so many; none past the last.
+fn lists_from(part: &[u8], blocks: usize, w: usize) -> &[u8]
+    ensures { λ r. ⌜ now r ≡ listsFrom blocks (now (part .entry)) w ⌝ }
 {
-    if w == 0 {
-        return part;
+    if blocks <= w {
+        return past(part, part.len());
     }
-    if w == 1 {
-        return after_list(part);
+    let mut r = part;
+    let mut left = w;
+    while left > 0 {
+        let q = r;
+        r = after_list(q);
+        left -= 1;
     }
-    past(part, part.len())
+    r
 }
 
 // The bytes past a list.

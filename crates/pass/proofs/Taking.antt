@@ -11,7 +11,7 @@ use lib.ListN.{length, getD, set, drop}
 use lib.Dec.{eqb, ltb, leb}
 use borrow.Author.Tests.{eqb-true, ltb-true, leb-true, ne-eqb}
 use Rattle.format.specs.Slots.{byte, Bytes}
-use Rattle.format.specs.Records.{Record, zone, string, controller, tachometer}
+use Rattle.format.specs.Records.{Record, zone, string, controller, tachometer, external}
 use Rattle.format.specs.Layout.{placeAfter}
 use Rattle.format.specs.Rules.{numbered, firstBroken, ownRules}
 use Rattle.format.specs.Pins.{among}
@@ -19,7 +19,7 @@ use Rattle.format.specs.ZonesAndStrings.{placed, role, gathered, zones, strings
 use Rattle.format.specs.Claims.{Claim, Made, madeAt, claimsOf, claims}
 use Rattle.format.specs.Table.{elementBreaks}
 use Rattle.format.specs.Verdict.{known}
-use Rattle.format.specs.Decode.{readPlacement, readDevice, guard, bind, pick, decode, cutBlocks, cutTwo}
+use Rattle.format.specs.Decode.{readPlacement, readDevice, readExternal, guard, bind, pick, decode, cutBlocks, cutTwo, cutThree}
 use Rattle.format.specs.Reader.{unlessBroken, judge}
 use Rattle.format.specs.declared.settings.Settings.{Settings}
 use Rattle.format.specs.declared.settings.Rules.the-variants.{Ordinary}
@@ -235,16 +235,20 @@ decode-placed chip id c z s =
     (pick-cases P id 2 _ _ (λ _. guarded c (eqb (length c) 17) _ refl)
     (pick-cases P id 3 _ _ (λ _. guarded c (eqb (length c) 13) _ refl)
     (pick-cases P id 4 _ _ (λ _. guarded c (eqb (length c) 11) _ refl)
+    (pick-cases P id 5 _ _ (λ _. guarded c (eqb (length c) 12) _ refl)
+    (pick-cases P id 6 _ _ (λ _. guarded c (eqb (length c) 13) _ refl)
+    (pick-cases P id 7 _ _ (λ _. guarded c (eqb (length c) 8) _ refl)
     (pick-cases P id 8 _ _ (λ _. guarded c (eqb (length c) 11) _ refl)
     (pick-cases P id 9 _ _ (λ _. guarded c (leb 8 (length c)) _ (bound c (cutBlocks (length c) (drop 8 c)) (λ l. controller (readDevice chip (byte c)) l) (λ l. refl)))
     (pick-cases P id 10 _ _ (λ _. guarded c (leb 9 (length c)) _ (bound c (cutTwo (drop 9 c)) (λ t. tachometer (readDevice chip (byte c)) (t .0) (t .1)) (λ t. refl)))
     (pick-cases P id 11 _ _ (λ e. absurd (z e))
     (pick-cases P id 12 _ _ (λ e. absurd (s e))
-    (pick-cases P id 14 _ _ (λ _. guarded c (eqb (length c) 8) _ refl) tt)))))))))
+    (pick-cases P id 13 _ _ (λ _. guarded c (leb 9 (length c)) _ (bound c (cutThree (drop 9 c)) (λ t. external (readExternal chip (byte c)) (t .0) (t .1) (t .2)) (λ t. refl)))
+    (pick-cases P id 14 _ _ (λ _. guarded c (eqb (length c) 8) _ refl) tt)))))))))))))
 
 -- the identifiers of the kinds that stand in a zone
 abbrev placedId : ℕ → Bool
-placedId id = among id (1 ∷ 2 ∷ 3 ∷ 4 ∷ 8 ∷ 9 ∷ 10 ∷ 14 ∷ [])
+placedId id = among id (1 ∷ 2 ∷ 3 ∷ 4 ∷ 5 ∷ 6 ∷ 7 ∷ 8 ∷ 9 ∷ 10 ∷ 13 ∷ 14 ∷ [])
 
 known-placed : (k : ℕ) → (k ≡ 11 → ⊥) → (k ≡ 12 → ⊥) → placedId k ≡ true → known k ≡ true
 known-placed k z s p = simp (ne-eqb k 11 z, ne-eqb k 12 s) p
@@ -284,12 +288,16 @@ pub not-known :
     → (id ≡ 2 → ⊥)
     → (id ≡ 3 → ⊥)
     → (id ≡ 4 → ⊥)
+    → (id ≡ 5 → ⊥)
+    → (id ≡ 6 → ⊥)
+    → (id ≡ 7 → ⊥)
     → (id ≡ 8 → ⊥)
     → (id ≡ 9 → ⊥)
     → (id ≡ 10 → ⊥)
     → (id ≡ 11 → ⊥)
     → (id ≡ 12 → ⊥)
+    → (id ≡ 13 → ⊥)
     → (id ≡ 14 → ⊥)
     → known id ≡ false
-not-known id a b c d e f g h i j =
-    simp (ne-eqb id 1 a, ne-eqb id 2 b, ne-eqb id 3 c, ne-eqb id 4 d, ne-eqb id 8 e, ne-eqb id 9 f, ne-eqb id 10 g, ne-eqb id 11 h, ne-eqb id 12 i, ne-eqb id 14 j)
+not-known id a b c d e f g h i j k l m n =
+    simp (ne-eqb id 1 a, ne-eqb id 2 b, ne-eqb id 3 c, ne-eqb id 4 d, ne-eqb id 5 e, ne-eqb id 6 f, ne-eqb id 7 g, ne-eqb id 8 h, ne-eqb id 9 i, ne-eqb id 10 j, ne-eqb id 11 k, ne-eqb id 12 l, ne-eqb id 13 m, ne-eqb id 14 n)

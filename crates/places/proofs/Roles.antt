@@ -11,7 +11,7 @@ use lib.ListN.{length, getD, drop, length-drop}
 use lib.Seq.{getD-drop}
 use borrow.Author.Tests.{eqb-true}
 use Rattle.format.specs.Slots.{Starts, byte}
-use Rattle.format.specs.Records.{Record, digital, analogue, fan, led, current, controller, tachometer, zone, string, rgb, zoneString}
+use Rattle.format.specs.Records.{Record, digital, analogue, fan, led, water, pump, voltage, current, controller, tachometer, zone, string, external, rgb, zoneString}
 use Rattle.format.specs.Layout.{layout}
 use Rattle.format.specs.Rules.{shaped}
 use Rattle.format.specs.Pins.{among}
@@ -77,6 +77,12 @@ module _ (t : List ℕ) (at : ℕ) where
       of-placed (fan f) rest h (omega arith) (λ o. (o .0, o .1 .1 .1 .0, o .1 .1 .1 .1 .1 .1 .1 .0)) (λ e. omega arith) (λ e. omega arith)
   role-bytes (led l) rest h s =
       of-placed (led l) rest h (omega arith) (λ o. (o .0, o .1 .1 .1 .0, o .1 .1 .1 .1 .1 .1 .1 .0)) (λ e. omega arith) (λ e. omega arith)
+  role-bytes (water w) rest h s =
+      of-placed (water w) rest h (omega arith) (λ o. (o .0, o .1 .1 .1 .0, o .1 .1 .1 .1 .1 .1 .1 .0)) (λ e. omega arith) (λ e. omega arith)
+  role-bytes (pump f) rest h s =
+      of-placed (pump f) rest h (omega arith) (λ o. (o .0, o .1 .1 .1 .0, o .1 .1 .1 .1 .1 .1 .1 .0)) (λ e. omega arith) (λ e. omega arith)
+  role-bytes (voltage v) rest h s =
+      of-placed (voltage v) rest h (omega arith) (λ o. (o .0, o .1 .1 .1 .0, o .1 .1 .1 .1 .1 .1 .1 .0)) (λ e. omega arith) (λ e. omega arith)
   role-bytes (current c) rest h s =
       of-placed (current c) rest h (omega arith) (λ o. (o .0, o .1 .1 .1 .0, o .1 .1 .1 .1 .1 .1 .1 .0)) (λ e. omega arith) (λ e. omega arith)
   role-bytes (controller d bs) rest h s =
@@ -89,6 +95,8 @@ module _ (t : List ℕ) (at : ℕ) where
         sym (at-0 t at) ∙ o .0,
         omega (arith, length-drop at t, starts-length (drop at t) (layout (string bytes)) rest h),
       )
+  role-bytes (external x r g b) rest h s =
+      of-placed (external x r g b) rest h (omega arith) (λ o. (o .0, o .1 .1 .1 .0, o .1 .1 .1 .1 .1 .1 .1 .0)) (λ e. omega arith) (λ e. omega arith)
   role-bytes (rgb r) rest h s =
       of-placed (rgb r) rest h (omega arith) (λ o. (o .0, o .1 .1 .1 .0, o .1 .1 .1 .1 .1 .1 .1 .0)) (λ e. omega arith) (λ e. omega arith)
 

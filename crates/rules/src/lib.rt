@@ -1,8 +1,8 @@
-// What a record breaks by itself: 4, 5, 10 of the description, 8, 9, 23 and 10 of each kind of element (8 of 09h and 0Ah is
-// found in `blocks`). One place for the reader and the writer. A rule's number, or 0.
+// What a record breaks by itself: 4, 5, 10 of the description, 8, 9, 23 and 10 of each kind of element (8 of 09h, 0Ah and 0Dh
+// is found in `blocks`). One place for the reader and the writer. A rule's number, or 0.
 ghost use mathlib.Core.Path.{_≡_};
-ghost use Rattle.format.specs.Records.{Record, digital, analogue, fan, led, current, zone, string, rgb, elementOf};
-ghost use Rattle.format.specs.Rules.{numbered, firstBroken, ownRules, typed, powered, strapped, addressed, selected, scaled, shaped, coded, typeInUse, inUse, pinned, rises, coloured};
+ghost use Rattle.format.specs.Records.{Record, digital, analogue, fan, led, water, pump, voltage, current, zone, string, rgb, elementOf};
+ghost use Rattle.format.specs.Rules.{numbered, firstBroken, ownRules, typed, powered, strapped, addressed, selected, scaled, shaped, coded, typeInUse, inUse, pinned, rises, coloured, chipIdentifiers};
 ghost use Rattle.format.specs.Pins.{among, unused};
 ghost use Rattle.format.specs.declared.settings.Settings.{Settings};
 ghost use Rattle.format.specs.Table.{descriptionBreaks};
@@ -21,6 +21,8 @@ use format::records::Lamp;
 use format::records::PwmFan;
 use format::records::RgbLed;
 use format::records::StatusLed;
+use format::records::VoltageSensor;
+use format::records::WaterLevel;
 use format::settings::Rules;
 use format::settings::Settings;
 use format::units::Counts;
@@ -171,9 +173,9 @@ fn rises(p: Pin, q: OptionalPin) -> bool
     }
 }
 
-// 03h
+// 03h and 06h
 pub fn fan_breaks(f: PwmFan, s: Settings) -> u8
-    ensures { λ r. ⌜ r ≡ numbered (firstBroken (ownRules s (fan f))) ⌝ }
+    ensures { λ r. ⌜ (r ≡ numbered (firstBroken (ownRules s (fan f)))) × (r ≡ numbered (firstBroken (ownRules s (pump f)))) ⌝ }
 {
     let chip = s.chip;
     let p = f.pwm;
@@ -208,6 +210,25 @@ pub fn led_breaks(l: StatusLed, s: Settings) -> u8
     own_breaks(true, coded, true, pinned)
 }
 
+// 05h
+pub fn water_breaks(w: WaterLevel, s: Settings) -> u8
+    ensures { λ r. ⌜ r ≡ numbered (firstBroken (ownRules s (water w))) ⌝ }
+{
+    let chip = s.chip;
+    let p = w.pin;
+    let coded = scaled(w.full) & (scaled(w.empty) & scaled(w.warning));
+    own_breaks(true, coded, true, allowed(chip, Use::AnaloguePin, p))
+}
+
+// 07h
+pub fn voltage_breaks(v: VoltageSensor, s: Settings) -> u8
+    ensures { λ r. ⌜ r ≡ numbered (firstBroken (ownRules s (voltage v))) ⌝ }
+{
+    let chip = s.chip;
+    let p = v.pin;
+    own_breaks(true, true, true, allowed(chip, Use::AnaloguePin, p))
+}
+
 // 08h
 pub fn current_breaks(c: CurrentSensor, s: Settings) -> u8
     ensures { λ r. ⌜ r ≡ numbered (firstBroken (ownRules s (current c))) ⌝ }
@@ -217,7 +238,14 @@ pub fn current_breaks(c: CurrentSensor, s: Settings) -> u8
     own_breaks(true, true, true, allowed(chip, Use::AnaloguePin, p))
 }
 
-// 09h, where `filled` says that each speed block has a pair; 0Ah, with true
+// 9: a chip of Table 28.
+pub fn identified(chip: u8) -> bool
+    ensures { λ r. ⌜ r ≡ among chip chipIdentifiers ⌝ }
+{
+    (1 <= chip) & (chip <= 3)
+}
+
+// 09h, where `filled` says that each speed block has a pair; 0Ah, with true; 0Dh, where it says that its chip is identified
 pub fn device_breaks(d: BusDevice, filled: bool, s: Settings) -> u8
     ensures { λ r. ⌜ DeviceBreaks s d filled r ⌝ }
 {

@@ -10,7 +10,7 @@ use mathlib.Core.Option.{some}
 use lib.ListN.{length, take, drop, length-append}
 use lib.Seq.{drop-drop, getD-drop}
 use Rattle.format.specs.Slots.{whole, word, written, byte}
-use Rattle.format.specs.Records.{Record, digital, analogue, fan, led, current, controller, tachometer, zone, string, rgb, elementOf}
+use Rattle.format.specs.Records.{Record, digital, analogue, fan, led, water, pump, voltage, current, controller, tachometer, zone, string, external, rgb, elementOf}
 use Rattle.format.specs.Layout.{fixed, part, idOf, body, layout}
 use Rattle.format.specs.Verdict.{stated}
 use Rattle.format.specs.Decode.{content, decode}
@@ -27,11 +27,15 @@ starts-at (digital d) = refl
 starts-at (analogue a) = refl
 starts-at (fan f) = refl
 starts-at (led l) = refl
+starts-at (water w) = refl
+starts-at (pump f) = refl
+starts-at (voltage v) = refl
 starts-at (current c) = refl
 starts-at (controller d bs) = refl
 starts-at (tachometer d a b) = refl
 starts-at (zone bytes) = refl
 starts-at (string bytes) = refl
+starts-at (external x r g b) = refl
 starts-at (rgb r) = refl
 
 first-byte : (t : List ℕ) (at : ℕ) → byte t at ≡ byte (drop at t) 0

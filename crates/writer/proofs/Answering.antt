@@ -18,7 +18,7 @@ use Rattle.format.specs.Verdict.{stated}
 use Rattle.format.specs.Writing.{writing, assemble, assembledBreaks, partBreaks, elementSlots, orRefused, unlessBrokenAt, hasRoom, lengthStands, newLength, startAnswer, startLeaves, appendAnswer, appendLeaves, overwritten}
 use Rattle.format.specs.declared.records.Description.{Description}
 use Rattle.format.specs.declared.records.Element.{Element}
-use Rattle.format.specs.declared.records.Element.the-variants.{Digital, Analogue, Fan, Led, Current, Controller, Tachometer, Zone, Text, Rgb}
+use Rattle.format.specs.declared.records.Element.the-variants.{Digital, Analogue, Fan, Led, Water, Pump, Voltage, Current, Controller, Tachometer, Zone, Text, External, Rgb}
 use Rattle.format.specs.declared.answers.Written.{Written}
 use Rattle.format.specs.declared.answers.Written.the-variants.{Length, Refused}
 use Rattle.format.proofs.Kept.{and-true, zero-none, some-number, own-numbered, description-numbered}
@@ -71,11 +71,15 @@ fixed-short (Digital d) = omega arith
 fixed-short (Analogue a) = omega arith
 fixed-short (Fan f) = omega arith
 fixed-short (Led l) = omega arith
+fixed-short (Water w) = omega arith
+fixed-short (Pump f) = omega arith
+fixed-short (Voltage v) = omega arith
 fixed-short (Current c) = omega arith
 fixed-short (Controller d) = omega arith
 fixed-short (Tachometer d) = omega arith
 fixed-short Zone = omega arith
 fixed-short Text = omega arith
+fixed-short (External x) = omega arith
 fixed-short (Rgb r) = omega arith
 
 -- room

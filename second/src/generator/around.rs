@@ -36,14 +36,14 @@ pub fn touches_the_four(table: &[u8]) -> bool {
 /// Where an element has its pins.
 fn places(element: &[u8]) -> &'static [usize] {
     match element[0] {
-        id::DIGITAL_SENSOR | id::CONTROLLER | id::TACHOMETER => {
+        kind if id::ON_A_BUS.contains(&kind) => {
             let spi = element.get(8).is_some_and(|bus| bus & 0x0F == 3);
             &[9][..usize::from(spi)]
         }
         id::ANALOGUE_SENSOR => &[9],
-        id::FAN => &[8, 9],
+        id::FAN | id::PUMP => &[8, 9],
         id::STATUS_LED => &[8, 10, 12],
-        id::CURRENT => &[8],
+        id::WATER_LEVEL | id::VOLTAGE | id::CURRENT => &[8],
         id::RGB_LED => &[8, 9, 10],
         _ => &[],
     }

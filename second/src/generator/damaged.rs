@@ -56,7 +56,7 @@ fn change(random: &mut Random, table: &mut Vec<u8>, starts: &[usize]) {
         0 => random.below(16),
         1..=2 => random.below(table.len()),
         _ if starts.is_empty() => random.below(16),
-        _ => *random.pick(starts) + *random.pick(&[0, 1, 2, 3, 7, 8, 8, 9, 9, 10, 12, 13]),
+        _ => *random.pick(starts) + *random.pick(&[0, 1, 2, 3, 7, 8, 8, 9, 9, 10, 11, 12, 13]),
     };
     let Some(old) = table.get(place).copied() else {
         return;

@@ -110,7 +110,7 @@ fn description_string(random: &mut Random, parts: &mut Parts) {
 }
 
 fn unknown_element(random: &mut Random, parts: &mut Parts) {
-    let identifier = *random.pick(&[0x00, 0x05, 0x06, 0x07, 0x0D, 0x0F, 0x10, 0xFF]);
+    let identifier = *random.pick(&[0x00, 0x0F, 0x10, 0x13, 0x16, 0x77, 0x8D, 0xFF]);
     let length = random.below(20);
     let body = random.bytes(length);
     insert(random, parts, raw::element(identifier, &body));
@@ -156,7 +156,7 @@ fn bytes_left(random: &mut Random, parts: &mut Parts) {
 }
 
 fn wrong_code(random: &mut Random, parts: &mut Parts) {
-    let has_code = |e: &[u8]| matches!(e[0], 1..=4 | 9 | 10) && e.len() > 13;
+    let has_code = |e: &[u8]| matches!(e[0], 1..=6 | 9 | 10 | 13) && e.len() > 13;
     let byte = random.byte();
     let high = random.between(4, 15) as u8;
     let Some(e) = one_of(random, parts, has_code) else {
@@ -164,7 +164,10 @@ fn wrong_code(random: &mut Random, parts: &mut Parts) {
     };
     match e[0] {
         id::ANALOGUE_SENSOR if byte & 1 == 0 => e[11] = high,
-        id::FAN => e[9..11].copy_from_slice(&[0xFF, byte | 1]),
+        id::FAN | id::PUMP => e[9..11].copy_from_slice(&[0xFF, byte | 1]),
+        // FULL or EMPTY: WARNING may be cut off already.
+        id::WATER_LEVEL => e[10 + 2 * usize::from(byte % 2)] = high,
+        id::EXTERNAL_RGB if byte & 1 == 0 => e[11] = byte & 4,
         id::STATUS_LED => e[9] = byte | 8,
         id::CONTROLLER if byte & 1 == 0 => e[12] = 0,
         _ => e[8] = high,
@@ -174,7 +177,9 @@ fn wrong_code(random: &mut Random, parts: &mut Parts) {
 /// Alone this is a fault for the ordinary reader only.
 fn block_mode(random: &mut Random, parts: &mut Parts) {
     let bus = *random.pick(&[0x02, 0x12, 0xF2]);
-    if let Some(e) = one_of(random, parts, |e| matches!(e[0], 1 | 9 | 10) && e.len() > 9) {
+    if let Some(e) = one_of(random, parts, |e| {
+        id::ON_A_BUS.contains(&e[0]) && e.len() > 9
+    }) {
         e[8] = bus;
     }
 }
@@ -191,13 +196,13 @@ fn pin_around_the_four(random: &mut Random, parts: &mut Parts) {
 }
 
 fn place_pin(random: &mut Random, parts: &mut Parts, pin: u8) {
-    let has_pin = |e: &[u8]| matches!(e[0], 1..=4 | 8..=10 | 14) && e.len() > 10;
+    let has_pin = |e: &[u8]| matches!(e[0], 1..=10 | 13 | 14) && e.len() > 10;
     let at = random.between(8, 10);
     let Some(e) = one_of(random, parts, has_pin) else {
         return;
     };
     match e[0] {
-        id::DIGITAL_SENSOR | id::CONTROLLER | id::TACHOMETER => {
+        kind if id::ON_A_BUS.contains(&kind) => {
             e[8] = 3;
             e[9] = pin;
         }

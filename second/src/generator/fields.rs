@@ -14,8 +14,16 @@ impl Pool<'_> {
                 Some(fields)
             }
             id::ANALOGUE_SENSOR => self.analogue_fields(),
-            id::FAN => self.fan_fields(),
+            id::FAN | id::PUMP => self.fan_fields(),
             id::STATUS_LED => Some(self.led_fields(true)),
+            id::WATER_LEVEL => {
+                let pin = self.analogue_pin()?;
+                Some([vec![pin], self.levels(3)].concat())
+            }
+            id::VOLTAGE => {
+                let pin = self.analogue_pin()?;
+                Some([vec![pin], self.random.bytes(2)].concat())
+            }
             id::CURRENT => {
                 let pin = self.analogue_pin()?;
                 let mut fields = vec![pin, self.spare()];
@@ -23,12 +31,23 @@ impl Pool<'_> {
                 Some(fields)
             }
             id::CONTROLLER => self.controller_fields(room),
-            id::TACHOMETER => self.tachometer_fields(room),
+            id::TACHOMETER => {
+                let mut fields = self.attachment()?;
+                fields.push(self.spare());
+                self.register_blocks(2, room, &mut fields);
+                Some(fields)
+            }
+            id::EXTERNAL_RGB => {
+                let mut fields = self.attachment()?;
+                fields.push(self.random.between(1, 3) as u8);
+                self.register_blocks(3, room, &mut fields);
+                Some(fields)
+            }
             _ => self.rgb_fields(),
         }
     }
 
-    /// Bytes 8 to 10 of 01h, 09h and 0Ah.
+    /// Bytes 8 to 10 of 01h, 09h, 0Ah and 0Dh.
     fn attachment(&mut self) -> Option<Vec<u8>> {
         let wanted = *self.random.pick(self.buses);
         let instead = if wanted == 3 { 0 } else { 3 };
@@ -76,11 +95,14 @@ impl Pool<'_> {
     fn analogue_fields(&mut self) -> Option<Vec<u8>> {
         let pin = self.analogue_pin()?;
         let mut fields = vec![self.spare() & 0xF0 | 1, pin];
-        for _ in 0..5 {
-            let value = *self.random.pick(&[0, 1, 511, 850, 1023]) as u16;
-            fields.extend(value.to_le_bytes());
-        }
+        fields.extend(self.levels(5));
         Some(fields)
+    }
+
+    /// So many values of the ten-bit scale.
+    fn levels(&mut self, count: usize) -> Vec<u8> {
+        let level = |_| *self.random.pick(&[0u16, 1, 511, 850, 1023]);
+        (0..count).map(level).flat_map(u16::to_le_bytes).collect()
     }
 
     /// So many different free pins of the fan list, in its order.
@@ -101,7 +123,7 @@ impl Pool<'_> {
     }
 
     fn fan_fields(&mut self) -> Option<Vec<u8>> {
-        let pins = if self.random.chance(50) {
+        let pins = if !self.sparing && self.random.chance(50) {
             self.rising(2).or_else(|| self.rising(1))?
         } else {
             self.rising(1)?
@@ -167,16 +189,14 @@ impl Pool<'_> {
         }
     }
 
-    fn tachometer_fields(&mut self, room: usize) -> Option<Vec<u8>> {
-        let mut fields = self.attachment()?;
-        fields.push(self.spare());
-        for later in [1, 0] {
+    /// So many blocks of ENTRIES and pairs, none of them perhaps.
+    fn register_blocks(&mut self, count: usize, room: usize, fields: &mut Vec<u8>) {
+        for later in (0..count).rev() {
             let left = room.saturating_sub(8 + fields.len() + 1 + later) / 4;
             let most = self.most_entries(left.min(255));
             let entries = self.random.between(0, most);
             fields.push(entries as u8);
             fields.extend(self.random.bytes(4 * entries));
         }
-        Some(fields)
     }
 }

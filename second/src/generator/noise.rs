@@ -44,6 +44,7 @@ fn likely(random: &mut Random) -> Vec<u8> {
         id::TEXT => 6 + random.below(4),
         id::CONTROLLER => 17 + 6 * random.below(2),
         id::TACHOMETER => 14 + 4 * random.below(3),
+        id::EXTERNAL_RGB => 15 + 4 * random.below(4),
         _ => fixed_length(identifier),
     };
     const BYTES: [u8; 23] = [

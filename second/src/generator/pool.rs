@@ -27,6 +27,8 @@ pub struct Pool<'r> {
     junk: bool,
     /// Rather pins around the four than others.
     near: bool,
+    /// One pin of the fan list to each fan and each pump.
+    pub(super) sparing: bool,
 }
 
 /// So many different numbers from `low` to 255.
@@ -62,12 +64,18 @@ impl<'r> Pool<'r> {
             buses: settings.rules.buses(),
             junk,
             near,
+            sparing: false,
         }
     }
 
     /// From now on rather pins around the four than others.
     pub fn stay_near(&mut self) {
         self.near = true;
+    }
+
+    /// From now on one pin to each fan and each pump, so that both kinds and an RGB LED find theirs.
+    pub fn spare_pins(&mut self) {
+        self.sparing = true;
     }
 
     /// A byte for a reserved place.
@@ -149,9 +157,7 @@ impl<'r> Pool<'r> {
 
     /// A device of this kind, or of a kind that still finds its pins, at most so long.
     pub fn device(&mut self, kind: u8, room: usize) -> Vec<u8> {
-        let on_a_bus = *self
-            .random
-            .pick(&[id::DIGITAL_SENSOR, id::CONTROLLER, id::TACHOMETER]);
+        let on_a_bus = *self.random.pick(&id::ON_A_BUS);
         let found = [kind, on_a_bus, id::CURRENT]
             .into_iter()
             .find_map(|kind| Some((kind, self.fields(kind, room)?)));

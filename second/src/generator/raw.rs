@@ -84,7 +84,7 @@ pub fn mend_element(element: &mut [u8]) {
     mend(element);
 }
 
-/// An element of one of the eight kinds that begin with string index, position and zone.
+/// An element of one of the twelve kinds that begin with string index, position and zone.
 fn device(identifier: u8, zone: u8, fields: &[u8]) -> Vec<u8> {
     let mut body = vec![0, 0xFF, 0xFF, 0xFF, zone];
     body.extend_from_slice(fields);
@@ -116,6 +116,22 @@ pub fn led(zone: u8, pins: [u8; 3]) -> Vec<u8> {
     device(id::STATUS_LED, zone, &fields)
 }
 
+/// A pump has a fan's layout.
+pub fn pump(zone: u8, pwm: u8, tachometer: u8) -> Vec<u8> {
+    let mut element = fan(zone, pwm, tachometer);
+    element[0] = id::PUMP;
+    element
+}
+
+pub fn water(zone: u8, pin: u8) -> Vec<u8> {
+    device(id::WATER_LEVEL, zone, &[pin, 0x84, 3, 0x64, 0, 0x2C, 1])
+}
+
+/// 14 volts to 0, the specification's own example.
+pub fn voltage(zone: u8, pin: u8) -> Vec<u8> {
+    device(id::VOLTAGE, zone, &[pin, 140, 0])
+}
+
 pub fn current(zone: u8, pin: u8) -> Vec<u8> {
     device(id::CURRENT, zone, &[pin, 0, 0, 0, 0x2C, 1])
 }
@@ -143,6 +159,15 @@ pub fn tachometer(zone: u8, bus: u8, address: u8, a: u8, b: u8) -> Vec<u8> {
     fields.extend_from_slice(&block(0, a)[1..]);
     fields.extend_from_slice(&block(0, b)[1..]);
     device(id::TACHOMETER, zone, &fields)
+}
+
+/// Of the first chip, with so many register pairs for each colour.
+pub fn external(zone: u8, bus: u8, address: u8, entries: [u8; 3]) -> Vec<u8> {
+    let mut fields = vec![bus, address, 0, 1];
+    for entries in entries {
+        fields.extend_from_slice(&block(0, entries)[1..]);
+    }
+    device(id::EXTERNAL_RGB, zone, &fields)
 }
 
 pub fn rgb(zone: u8, red: u8, green: u8, blue: u8) -> Vec<u8> {

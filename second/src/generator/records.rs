@@ -12,6 +12,9 @@ use crate::units::FourMilliamps;
 /// Values around the ends of the fields of 3, 4 and 7 bits.
 const EDGES: [u8; 14] = [0, 1, 2, 3, 4, 5, 6, 7, 15, 16, 127, 128, 254, 255];
 
+/// Around the end of the ten-bit scale.
+const LEVELS: [u16; 6] = [0, 1022, 1023, 1024, 1025, 65535];
+
 /// The description of an accepted table, at times bent; its pins are of this chip.
 pub fn some_description(random: &mut Random, pins: Chip) -> Description {
     let mut description = read_description(&valid(random, pins.into()), pins);
@@ -79,15 +82,24 @@ fn bend(random: &mut Random, pins: Chip, element: &mut Element) {
         Element::DigitalSensor(e) => bend_attachment(random, pins, &mut e.attachment),
         Element::Controller(e) => bend_attachment(random, pins, &mut e.attachment),
         Element::Tachometer(e) => bend_attachment(random, pins, &mut e.attachment),
+        Element::ExternalRgb(e) => match random.chance(30) {
+            true => e.chip_identifier = *random.pick(&EDGES),
+            false => bend_attachment(random, pins, &mut e.attachment),
+        },
         Element::AnalogueSensor(e) => match random.below(3) {
             0 => e.thermal_type = *random.pick(&EDGES),
             1 => e.pin = any_pin(random, pins),
             _ => {
-                let values = [0, 1022, 1023, 1024, 1025, 65535];
-                e.calibration[random.below(5)] = *random.pick(&values);
+                e.calibration[random.below(5)] = *random.pick(&LEVELS);
             }
         },
-        Element::Fan(e) => match random.below(3) {
+        Element::WaterLevel(e) => match random.below(4) {
+            0 => e.full = *random.pick(&LEVELS),
+            1 => e.empty = *random.pick(&LEVELS),
+            2 => e.warning = *random.pick(&LEVELS),
+            _ => e.pin = any_pin(random, pins),
+        },
+        Element::Fan(e) | Element::Pump(e) => match random.below(3) {
             0 => e.pwm = any_pin(random, pins),
             1 => e.tachometer = any_pin(random, pins),
             _ => e.pulses_per_revolution = *random.pick(&[0, 1, 255]),
@@ -100,6 +112,7 @@ fn bend(random: &mut Random, pins: Chip, element: &mut Element) {
                 _ => light.purpose = *random.pick(&EDGES),
             }
         }
+        Element::Voltage(e) => e.pin = any_pin(random, pins),
         Element::Current(e) => e.pin = any_pin(random, pins),
         Element::RgbLed(e) => {
             let three = [&mut e.red, &mut e.green, &mut e.blue];

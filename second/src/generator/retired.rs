@@ -19,10 +19,7 @@ pub fn only_in_the_archive(random: &mut Random, chip: Chip) -> Vec<u8> {
 /// Is there a bus device in block mode among these bytes, as far as their elements can be cut?
 pub fn has_block_mode(table: &[u8]) -> bool {
     raw::cut(table).any(|element| {
-        let on_a_bus = matches!(
-            element[0],
-            id::DIGITAL_SENSOR | id::CONTROLLER | id::TACHOMETER
-        );
+        let on_a_bus = id::ON_A_BUS.contains(&element[0]);
         let in_block_mode = element.get(8).is_some_and(|bus| bus & 0x0F == BLOCK_MODE);
         on_a_bus && in_block_mode
     })

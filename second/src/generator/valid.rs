@@ -7,31 +7,39 @@ use crate::element::id;
 use crate::random::Random;
 use crate::settings::{Chip, Rules, Settings};
 
-/// The eight kinds that stand in a zone.
-pub const DEVICES: [u8; 8] = [
+/// The twelve kinds that stand in a zone.
+pub const DEVICES: [u8; 12] = [
     id::DIGITAL_SENSOR,
     id::ANALOGUE_SENSOR,
     id::FAN,
     id::STATUS_LED,
+    id::WATER_LEVEL,
+    id::PUMP,
+    id::VOLTAGE,
     id::CURRENT,
     id::CONTROLLER,
     id::TACHOMETER,
+    id::EXTERNAL_RGB,
     id::RGB_LED,
 ];
 
-/// All eight, those first whose pins others may take.
-const HARDEST_FIRST: [u8; 8] = [
+/// All twelve, those first whose pins others may take.
+const HARDEST_FIRST: [u8; 12] = [
     id::RGB_LED,
     id::FAN,
+    id::PUMP,
     id::ANALOGUE_SENSOR,
+    id::WATER_LEVEL,
+    id::VOLTAGE,
     id::CURRENT,
     id::DIGITAL_SENSOR,
     id::CONTROLLER,
     id::TACHOMETER,
+    id::EXTERNAL_RGB,
     id::STATUS_LED,
 ];
 
-/// The longest of the devices without a variable part; 09h and 0Ah can be as short as 17 and 14.
+/// The longest of the devices without a variable part; 09h, 0Ah and 0Dh can be as short as 17, 14 and 15.
 const FIXED_ROOM: usize = 21;
 
 /// How many elements of which sort, and how long the table shall be.
@@ -69,7 +77,7 @@ pub fn valid(random: &mut Random, settings: Settings) -> Vec<u8> {
     valid_parts(random, settings).bytes()
 }
 
-/// A table of exactly 4,096 bytes with all ten kinds that is accepted with these settings.
+/// A table of exactly 4,096 bytes with all fourteen kinds that is accepted with these settings.
 pub fn mixed(random: &mut Random, settings: Settings) -> Vec<u8> {
     let zones = random.between(1, 12);
     let strings = random.between(4, 20);
@@ -86,7 +94,7 @@ pub fn mixed(random: &mut Random, settings: Settings) -> Vec<u8> {
     build(random, settings, &plan).bytes()
 }
 
-/// A table of so many elements, 1 to 96, that is accepted with these settings: all kinds from 10 on, some 42
+/// A table of so many elements, 1 to 96, that is accepted with these settings: all kinds from 15 on, some 42
 /// bytes to each.
 pub fn mixed_of(random: &mut Random, elements: usize, settings: Settings) -> Vec<u8> {
     let zones = 1 + (elements - 1) / 12;
@@ -155,6 +163,9 @@ fn build(random: &mut Random, settings: Settings, plan: &Plan) -> Parts {
     let mut pool = Pool::new(random, settings, plan.zones, plan.strings);
     if plan.near {
         pool.stay_near();
+    }
+    if !plan.forced.is_empty() {
+        pool.spare_pins();
     }
     // Hardware revision pins before the elements' pins, unless certain elements must find theirs.
     let early = plan.forced.is_empty().then(|| pool.description());

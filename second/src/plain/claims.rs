@@ -56,14 +56,15 @@ pub fn claims(description: &Description, found: &[Found]) -> Vec<Claim> {
     claims
 }
 
-/// P0.3 and P0.4 for bus types 0 to 2, P0.0 to P0.2 for SPI, P0.7 for 02h and 08h.
+/// P0.3 and P0.4 for bus types 0 to 2, P0.0 to P0.2 for SPI, P0.7 for 02h, 05h, 07h and 08h.
 fn shared_pins(element: &Element) -> Vec<u8> {
     match (element, element.attachment()) {
         (_, Some(attachment)) => match attachment.address {
             Address::Bus(_) => I2C_BUS.to_vec(),
             Address::Select(_) => SPI_BUS.to_vec(),
         },
-        (Element::AnalogueSensor(_) | Element::Current(_), None) => REFERENCE.to_vec(),
+        (Element::AnalogueSensor(_) | Element::WaterLevel(_), None) => REFERENCE.to_vec(),
+        (Element::Voltage(_) | Element::Current(_), None) => REFERENCE.to_vec(),
         _ => Vec::new(),
     }
 }
@@ -72,8 +73,10 @@ fn shared_pins(element: &Element) -> Vec<u8> {
 pub fn own_pins(element: &Element) -> Vec<Pin> {
     let fields: Vec<Pin> = match element {
         Element::AnalogueSensor(e) => vec![e.pin],
+        Element::WaterLevel(e) => vec![e.pin],
+        Element::Voltage(e) => vec![e.pin],
         Element::Current(e) => vec![e.pin],
-        Element::Fan(e) => vec![e.pwm, e.tachometer],
+        Element::Fan(e) | Element::Pump(e) => vec![e.pwm, e.tachometer],
         Element::StatusLed(e) => e.lights.iter().map(|light| light.pin).collect(),
         Element::RgbLed(e) => vec![e.red, e.green, e.blue],
         _ => match element.attachment().map(|attachment| attachment.address) {

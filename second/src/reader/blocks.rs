@@ -1,4 +1,4 @@
-//! The blocks of 09h and 0Ah, counted out over the bytes.
+//! The blocks of 09h, 0Ah and 0Dh, counted out over the bytes.
 
 use crate::answer::number;
 use std::hint::select_unpredictable;
@@ -54,13 +54,15 @@ fn speed_blocks_slowly(element: &[u8]) -> u8 {
     }
 }
 
-/// Two blocks of one ENTRIES byte and its pairs fill the part exactly.
+/// So many blocks of one ENTRIES byte and its pairs fill the part exactly.
 #[inline(always)]
-pub fn register_blocks(part: &[u8]) -> bool {
-    let Some(&a) = part.first() else { return false };
-    let second = 1 + 4 * usize::from(a);
-    let Some(&b) = part.get(second) else {
-        return false;
-    };
-    part.len() == second + 1 + 4 * usize::from(b)
+pub fn register_blocks<const COUNT: usize>(part: &[u8]) -> bool {
+    let mut at = 0;
+    for _ in 0..COUNT {
+        let Some(&entries) = part.get(at) else {
+            return false;
+        };
+        at += 1 + 4 * usize::from(entries);
+    }
+    at == part.len()
 }

@@ -23,13 +23,16 @@ pub fn take(
     match identifier {
         id::DIGITAL_SENSOR => digital_sensor(element, chosen, claims),
         id::ANALOGUE_SENSOR => analogue_sensor(element, pins, claims),
-        id::FAN => fan(element, pins, claims),
+        id::FAN | id::PUMP => fan(element, pins, claims),
         id::STATUS_LED => status_led(element, pins, claims),
+        id::WATER_LEVEL => water_level(element, pins, claims),
+        id::VOLTAGE => voltage(element, pins, claims),
         id::CURRENT => current(element, pins, claims),
         id::CONTROLLER => controller(element, rest, chosen, claims),
         id::TACHOMETER => tachometer(element, chosen, claims),
         id::ZONE => zone(element, numbers),
         id::TEXT => text(element, numbers),
+        id::EXTERNAL_RGB => external_rgb(element, chosen, claims),
         id::RGB_LED => rgb_led(element, pins, claims),
         _ => number::IDENTIFIER,
     }
@@ -140,6 +143,26 @@ fn bad_led_pin(pin: u8, pins: Pins) -> bool {
 }
 
 #[inline(always)]
+pub fn water_level(element: &[u8], pins: Pins, claims: &mut Claims) -> u8 {
+    let Ok(e) = <&[u8; 15]>::try_from(element) else {
+        return number::LAYOUT;
+    };
+    // As with the values of 02h.
+    if e[10] | e[12] | e[14] > 3 {
+        return number::CODE;
+    }
+    analogue_pin(e[8], pins, claims)
+}
+
+#[inline(always)]
+pub fn voltage(element: &[u8], pins: Pins, claims: &mut Claims) -> u8 {
+    let Ok(e) = <&[u8; 11]>::try_from(element) else {
+        return number::LAYOUT;
+    };
+    analogue_pin(e[8], pins, claims)
+}
+
+#[inline(always)]
 pub fn current(element: &[u8], pins: Pins, claims: &mut Claims) -> u8 {
     let Ok(e) = <&[u8; 14]>::try_from(element) else {
         return number::LAYOUT;
@@ -164,8 +187,22 @@ pub fn tachometer(element: &[u8], chosen: Chosen, claims: &mut Claims) -> u8 {
     let Some((e, blocks)) = element.split_first_chunk::<12>() else {
         return number::LAYOUT;
     };
-    if !register_blocks(blocks) {
+    if !register_blocks::<2>(blocks) {
         return number::LAYOUT;
+    }
+    attachment(e[8], e[9], chosen, claims)
+}
+
+#[inline(always)]
+pub fn external_rgb(element: &[u8], chosen: Chosen, claims: &mut Claims) -> u8 {
+    let Some((e, blocks)) = element.split_first_chunk::<12>() else {
+        return number::LAYOUT;
+    };
+    if !register_blocks::<3>(blocks) {
+        return number::LAYOUT;
+    }
+    if !(1..=3).contains(&e[11]) {
+        return number::CODE;
     }
     attachment(e[8], e[9], chosen, claims)
 }

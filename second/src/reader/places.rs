@@ -55,10 +55,14 @@ pub fn clash(table: &[u8]) -> usize {
     }
     walk(table)
         .find(|(_, e)| match e[0] {
-            id::DIGITAL_SENSOR | id::CONTROLLER | id::TACHOMETER => claims.device(e[8], e[9]),
+            id::DIGITAL_SENSOR | id::CONTROLLER | id::TACHOMETER | id::EXTERNAL_RGB => {
+                claims.device(e[8], e[9])
+            }
             id::ANALOGUE_SENSOR => claims.shared(REFERENCE) || claims.alone([e[9]]),
-            id::CURRENT => claims.shared(REFERENCE) || claims.alone([e[8]]),
-            id::FAN => claims.alone([e[8], e[9]]),
+            id::WATER_LEVEL | id::VOLTAGE | id::CURRENT => {
+                claims.shared(REFERENCE) || claims.alone([e[8]])
+            }
+            id::FAN | id::PUMP => claims.alone([e[8], e[9]]),
             id::RGB_LED => claims.alone([e[8], e[9], e[10]]),
             id::STATUS_LED => claims.alone([e[8], e[10], e[12]]),
             _ => false,

@@ -14,8 +14,8 @@ pub struct Numbers {
     pub zone_count: usize,
 }
 
-/// Bit i stands for identifier i: the eight kinds with a string index in byte 3, a zone in byte 7.
-const DEVICES: u64 = 0x471E;
+/// Bit i stands for identifier i: the twelve kinds with a string index in byte 3, a zone in byte 7.
+const DEVICES: u64 = 0x67FE;
 
 impl Numbers {
     #[inline(always)]

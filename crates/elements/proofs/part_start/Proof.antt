@@ -17,9 +17,12 @@ returns-4 : tie.Need-returns-4
 returns-4 c = rw (c .match .keys4)
 
 returns-5 : tie.Need-returns-5
-returns-5 c =
+returns-5 c = rw (c .match .keys5)
+
+returns-6 : tie.Need-returns-6
+returns-6 c =
     let m = c .match .rest in
-    simp (ne-eqb _ 9 (m .0 .0 .0 .1), ne-eqb _ 10 (m .0 .0 .1), ne-eqb _ 11 (m .0 .1), ne-eqb _ 12 (m .1))
+    simp (ne-eqb _ 9 (m .0 .0 .0 .0 .1), ne-eqb _ 10 (m .0 .0 .0 .1), ne-eqb _ 11 (m .0 .0 .1), ne-eqb _ 12 (m .0 .1), ne-eqb _ 13 (m .1))
 
 pub part-start-spec : {M : Type 1} → statement M
-part-start-spec = tie.close (tie.spec returns returns-2 returns-3 returns-4 returns-5)
+part-start-spec = tie.close (tie.spec returns returns-2 returns-3 returns-4 returns-5 returns-6)

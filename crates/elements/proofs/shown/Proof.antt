@@ -25,14 +25,29 @@ returns-5 c =
     rw (c .before .before .before .e5 .given .1) (c .placed4 .ensures .0, c .placed4 .ensures .1 ∙ c .before .own2 .ensures, c .placed4 .ensures .2)
 
 returns-6 : tie.Need-returns-6
-returns-6 c = rw (c .before .before .e6 .given .1) (c .on-bus2 .ensures)
+returns-6 c =
+    rw (c .before .before .before .e6 .given .1) (c .placed5 .ensures .0, c .placed5 .ensures .1 ∙ c .before .fan-pins2 .ensures, c .placed5 .ensures .2)
 
 returns-7 : tie.Need-returns-7
-returns-7 c = rw (c .before .before .e7 .given .1) (c .on-bus3 .ensures)
+returns-7 c =
+    rw (c .before .before .before .e7 .given .1) (c .placed6 .ensures .0, c .placed6 .ensures .1 ∙ c .before .own3 .ensures, c .placed6 .ensures .2)
+
+returns-8 : tie.Need-returns-8
+returns-8 c =
+    rw (c .before .before .before .e8 .given .1) (c .placed7 .ensures .0, c .placed7 .ensures .1 ∙ c .before .own4 .ensures, c .placed7 .ensures .2)
+
+returns-9 : tie.Need-returns-9
+returns-9 c = rw (c .before .before .e9 .given .1) (c .on-bus2 .ensures)
 
 returns-10 : tie.Need-returns-10
-returns-10 c =
-    rw (c .before .before .before .e8 .given .1) (c .placed5 .ensures .0, c .placed5 .ensures .1 ∙ c .before .own3 .ensures, c .placed5 .ensures .2)
+returns-10 c = rw (c .before .before .e10 .given .1) (c .on-bus3 .ensures)
+
+returns-13 : tie.Need-returns-13
+returns-13 c = rw (c .before .before .before .e11 .given .1) (c .on-bus4 .ensures)
+
+returns-14 : tie.Need-returns-14
+returns-14 c =
+    rw (c .before .before .before .e12 .given .1) (c .placed8 .ensures .0, c .placed8 .ensures .1 ∙ c .before .own5 .ensures, c .placed8 .ensures .2)
 
 pub shown-spec : {M : Type 1} → statement M
 shown-spec =
@@ -54,10 +69,21 @@ shown-spec =
     (λ c κs. search needs)
     (λ c. search needs)
     (λ c κs. search needs)
+    (λ c κs. search needs)
+    (λ c. search needs)
+    (λ c κs. search needs)
+    (λ c κs. search needs)
+    (λ c. search needs)
+    (λ c κs. search needs)
+    (λ c κs. search needs)
+    (λ c. search needs)
+    (λ c κs. search needs)
     (λ c. search needs)
     (λ c κs. search needs)
     (λ c. search needs)
     (λ c κs. search needs)
+    (λ c κs. search needs)
+    (λ c. search needs)
     (λ c κs. search needs)
     (λ c. search needs)
     (λ c κs. search needs)
@@ -71,6 +97,10 @@ shown-spec =
     returns-5
     returns-6
     returns-7
+    returns-8
+    returns-9
+    returns-10
     (λ c. search needs)
     (λ c. search needs)
-    returns-10)
+    returns-13
+    returns-14)

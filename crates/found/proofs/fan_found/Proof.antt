@@ -2,7 +2,7 @@
 -- Assumes nothing.
 use mathlib.Core.Path.{refl}
 use borrow.Author.Needs.{needs}
-use Rattle.format.specs.Records.{fan}
+use Rattle.format.specs.Records.{fan, pump}
 use Rattle.format.specs.Decode.{decode, readFan}
 use Rattle.found.proofs.Judging.{wrong-length, right-length}
 use Rattle.found.proofs.fan_found.Statement.{statement}
@@ -10,13 +10,19 @@ use Rattle.found.proofs.fan_found.Tie as tie
 
 returns : tie.Need-returns
 unfolding decode
-returns c = wrong-length _ 3 _ _ fan (readFan _) 13 refl (c .before .if1 .taken) (c .refused .ensures)
+returns c = (
+  wrong-length _ 3 _ _ fan (readFan _) 13 refl (c .before .if1 .taken) (c .refused .ensures),
+  wrong-length _ 6 _ _ pump (readFan _) 13 refl (c .before .if1 .taken) (c .refused .ensures),
+)
 
 returns-2 : tie.Need-returns-2
 unfolding decode
 returns-2 c =
     let r = c .before .before .before in
-    right-length _ 3 _ _ fan (readFan _) 13 refl _ (r .before .if1 .left) refl (r .fan .ensures) (c .before .before .fan-breaks .ensures) (c .before .fan-claims .ensures) (c .both .ensures)
+    let own = c .before .before .fan-breaks .ensures in (
+      right-length _ 3 _ _ fan (readFan _) 13 refl _ (r .before .if1 .left) refl (r .fan .ensures) (own .0) (c .before .fan-claims .ensures) (c .both .ensures),
+      right-length _ 6 _ _ pump (readFan _) 13 refl _ (r .before .if1 .left) refl (r .fan .ensures) (own .1) (c .before .fan-claims .ensures) (c .both .ensures),
+    )
 
 pub fan-found-spec : {M : Type 1} → statement M
 fan-found-spec =

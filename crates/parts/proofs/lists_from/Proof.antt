@@ -1,20 +1,48 @@
--- `lists_from` meets its contract: the first block, the second, and there is no third.
+-- `lists_from` meets its contract: what is left to pass is the invariant, and each turn passes one block.
 -- Assumes nothing.
 use denote.Ref.{now}
-use Rattle.parts.proofs.Reading.{second, no-third}
+use Prim.Native.Nat.{_+_, _-_}
+use native.Mathlib.Omega.{arith}
+use mathlib.Core.Path.{_≡_, refl, _∙_}
+use lib.Seq.{drop-length}
+use Rattle.parts.specs.Inside.{listsFrom}
+use Rattle.parts.proofs.Reading.{no-more, here, list-turn}
 use borrow.Author.Needs.{needs}
 use Rattle.parts.proofs.lists_from.Statement.{statement}
 use Rattle.parts.proofs.lists_from.Tie as tie
 
-returns-2 : tie.Need-returns-2
-returns-2 c =
-    let a = c .before .before .before .before .args in
-    second (now (a .part)) (a .w) (c .before .if2 .taken) (c .after-list .ensures)
+abbrev Inv-loop : tie.InvT-loop
+Inv-loop part blocks w r₀ left₀ r left = listsFrom (left + (blocks - w)) r left ≡ listsFrom blocks part w
 
-returns-3 : tie.Need-returns-3
-returns-3 c =
+abbrev μ-loop : tie.MeasureT-loop
+μ-loop part blocks w r₀ left₀ r left = left
+
+returns : tie.Need-returns Inv-loop μ-loop
+returns c =
+    let a = c .before .before .before .args in
+    c .past .ensures ∙ drop-length (now (a .part)) ∙ no-more (a .blocks) (now (a .part)) (a .w) (c .before .if1 .taken)
+
+loop-holds : tie.Need-loop-holds Inv-loop μ-loop
+loop-holds c =
+    let a = c .before .before .args in
+    let e : a .w + (a .blocks - a .w) ≡ a .blocks = omega arith in
+    rw e refl
+
+loop-again : tie.Need-loop-again Inv-loop μ-loop
+loop-again c =
+    let l = c .before .before .loop in
+    let a = c .before .before .before .before .before .args in
+    list-turn (now (l .r)) (now (c .after-list .result)) (l .left) (a .blocks - a .w) (c .before .loop-test .taken) (c .after-list .ensures)
+    ∙ l .inv
+
+returns-2 : tie.Need-returns-2 Inv-loop μ-loop
+returns-2 c =
+    let l = c .before .loop in
     let a = c .before .before .before .before .args in
-    no-third (now (a .part)) (a .w) (c .before .before .if1 .left) (c .before .if2 .left) (c .past .ensures)
+    let e : l .left ≡ 0 = omega arith in
+    here (0 + (a .blocks - a .w)) (now (l .r)) (omega arith) ∙ rw e at (l .inv)
 
 pub lists-from-spec : {M : Type 1} → statement M
-lists-from-spec = tie.close (tie.spec (λ c. search needs) (λ c κs. search needs) returns-2 (λ c κs. search needs) returns-3)
+lists-from-spec =
+    tie.close
+    (tie.spec Inv-loop μ-loop (λ c κs. search needs) returns loop-holds (λ c κs. search needs) (omega arith) (omega arith) loop-again returns-2)

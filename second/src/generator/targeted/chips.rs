@@ -21,6 +21,9 @@ fn uses(pin: u8) -> Vec<(&'static str, Vec<u8>)> {
     vec![
         ("analogue", raw::analogue(1, pin)),
         ("current", raw::current(1, pin)),
+        ("water level", raw::water(1, pin)),
+        ("voltage", raw::voltage(1, pin)),
+        ("external select", raw::external(1, 3, pin, [0; 3])),
         ("first light", raw::led(1, [pin, 0xFF, 0xFF])),
         ("second light", raw::led(1, [0x14, pin, 0xFF])),
         ("third light", raw::led(1, [0x14, 0x15, pin])),

@@ -27,8 +27,19 @@ fn claimants() -> Vec<(String, Vec<u8>)> {
         all.push((name("light"), raw::led(1, [0xFF, pin, 0xFF])));
         all.push((name("select"), raw::controller(1, 3, pin, &[1])));
     }
+    for pin in [0x14, 0x24, 0x30] {
+        let name = |kind: &str| format!("{kind} {pin:02X}h");
+        all.push((name("water level"), raw::water(1, pin)));
+        all.push((name("voltage"), raw::voltage(1, pin)));
+    }
+    for pin in [0x05, 0x13, 0x14, 0x27, 0x30] {
+        let select = raw::external(1, 3, pin, [0, 0, 1]);
+        all.push((format!("external select {pin:02X}h"), select));
+    }
+    all.push(("external".into(), raw::external(1, 0, 0x22, [0; 3])));
     for pin in [0x05, 0x06, 0x11, 0x12, 0x13] {
         all.push((format!("fan {pin:02X}h"), raw::fan(1, pin, 0xFF)));
+        all.push((format!("pump {pin:02X}h"), raw::pump(1, pin, 0xFF)));
         let select = raw::tachometer(1, 3, pin, 0, 0);
         all.push((format!("select {pin:02X}h"), select));
     }

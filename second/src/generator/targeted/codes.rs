@@ -27,6 +27,8 @@ fn bus_types(cases: &mut Vec<Case>) {
                 add_element(cases, &name("controller"), element);
                 let element = raw::tachometer(1, byte, address, 0, 0);
                 add_element(cases, &name("tachometer"), element);
+                let element = raw::external(1, byte, address, [0; 3]);
+                add_element(cases, &name("external RGB"), element);
             }
         }
     }
@@ -98,13 +100,17 @@ fn reserved_places(cases: &mut Vec<Case>) {
     controller[10] = 0xFF;
     let mut tachometer = raw::tachometer(1, 0xF3, 0x24, 1, 1);
     tachometer[10..12].fill(0xFF);
+    let mut external = raw::external(1, 0xF0, 0x41, [1, 1, 1]);
+    external[10] = 0xFF;
     let mut led = raw::led(1, [0xFF; 3]);
     led[9] = 0xFF;
     led[11] = 0x06;
     led[13] = 0x60;
     let mut zone = raw::zone(1, 0);
     zone[5..].fill(0xFF);
-    let all = [digital, analogue, current, controller, tachometer, led];
+    let all = [
+        digital, analogue, current, controller, tachometer, external, led,
+    ];
     for element in &all {
         let name = format!("reserved places of {:02X}h", element[0]);
         add_element(cases, &name, element.clone());

@@ -41,7 +41,7 @@ fn headers(cases: &mut Vec<Case>) {
 
 fn identifiers(cases: &mut Vec<Case>) {
     for identifier in 0..=255u8 {
-        for body in [0usize, 8, 11, 13, 17, 18, 27] {
+        for body in [0usize, 8, 11, 12, 13, 17, 18, 27] {
             let element = raw::element(identifier, &vec![0; body]);
             let name = format!("identifier {identifier:02X}h of {} bytes", body + 3);
             add(cases, name, raw::table(&[element]));

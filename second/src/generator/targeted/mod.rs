@@ -10,6 +10,7 @@ mod layouts;
 mod names;
 mod pins;
 mod retired;
+mod water;
 
 use super::raw;
 use std::sync::OnceLock;
@@ -31,6 +32,7 @@ pub fn targeted() -> &'static [Case] {
         claims::cases(&mut cases);
         chips::cases(&mut cases);
         retired::cases(&mut cases);
+        water::cases(&mut cases);
         cases
     })
 }
@@ -47,7 +49,7 @@ fn add_element(cases: &mut Vec<Case>, name: &str, element: Vec<u8>) {
     add(cases, format!("{name}, alone"), raw::table(&[element]));
 }
 
-/// One good element of each of the eight kinds that stand in a zone, all in zone 1.
+/// One good element of each of the twelve kinds that stand in a zone, all in zone 1.
 fn devices() -> Vec<(&'static str, Vec<u8>)> {
     vec![
         ("digital", raw::digital(1, 0, 0x90)),
@@ -63,5 +65,10 @@ fn devices() -> Vec<(&'static str, Vec<u8>)> {
         ),
         ("tachometer", raw::tachometer(1, 0, 0x40, 1, 2)),
         ("RGB", raw::rgb(1, 0x06, 0x11, 0x13)),
+        ("water level", raw::water(1, 0x16)),
+        ("pump", raw::pump(1, 0x11, 0x12)),
+        ("voltage", raw::voltage(1, 0x17)),
+        ("external RGB", raw::external(1, 0, 0x40, [1, 0, 2])),
+        ("external RGB on SPI", raw::external(1, 3, 0x13, [0, 1, 0])),
     ]
 }

@@ -14,7 +14,7 @@ pub fn cases(cases: &mut Vec<Case>) {
 }
 
 fn every_field(cases: &mut Vec<Case>, pin: u8) {
-    let fields: [(&str, Vec<u8>); 14] = [
+    let fields: [(&str, Vec<u8>); 19] = [
         ("digital's select", raw::digital(1, 3, pin)),
         ("controller's select", raw::controller(1, 3, pin, &[1])),
         ("tachometer's select", raw::tachometer(1, 3, pin, 0, 1)),
@@ -23,6 +23,11 @@ fn every_field(cases: &mut Vec<Case>, pin: u8) {
         ("PWM alone", raw::fan(1, pin, 0xFF)),
         ("PWM", raw::fan(1, pin, 0x13)),
         ("tachometer", raw::fan(1, 0x05, pin)),
+        ("pump's PWM", raw::pump(1, pin, 0xFF)),
+        ("pump's tachometer", raw::pump(1, 0x05, pin)),
+        ("water level", raw::water(1, pin)),
+        ("voltage", raw::voltage(1, pin)),
+        ("external select", raw::external(1, 3, pin, [0; 3])),
         ("first light", raw::led(1, [pin, 0xFF, 0xFF])),
         ("second light", raw::led(1, [0xFF, pin, 0xFF])),
         ("third light", raw::led(1, [0xFF, 0xFF, pin])),
@@ -46,6 +51,8 @@ fn orders(cases: &mut Vec<Case>) {
         for two in FAN_LIST {
             let element = raw::fan(1, one, two);
             add_element(cases, &format!("fan {one:02X}h {two:02X}h"), element);
+            let element = raw::pump(1, one, two);
+            add_element(cases, &format!("pump {one:02X}h {two:02X}h"), element);
             for three in FAN_LIST {
                 let element = raw::rgb(1, one, two, three);
                 let name = format!("RGB {one:02X}h {two:02X}h {three:02X}h");

@@ -7,10 +7,11 @@ use crate::generator::raw::{self, Parts};
 /// A kind that has a bus type, with this byte 8.
 type Device = fn(u8) -> Vec<u8>;
 
-const DEVICES: [(&str, Device); 3] = [
+const DEVICES: [(&str, Device); 4] = [
     ("digital", |bus| raw::digital(1, bus, 0x41)),
     ("controller", |bus| raw::controller(1, bus, 0x41, &[1, 2])),
     ("tachometer", |bus| raw::tachometer(1, bus, 0x41, 1, 0)),
+    ("external RGB", |bus| raw::external(1, bus, 0x41, [1, 0, 1])),
 ];
 
 pub fn cases(cases: &mut Vec<Case>) {
@@ -92,7 +93,7 @@ fn lengths(cases: &mut Vec<Case>, name: &str, element: &[u8]) {
     }
 }
 
-/// ENTRIES 0 is 9, and comes before 23 too; seven blocks are 8.
+/// ENTRIES 0 and a reserved chip identifier are 9, and come before 23 too; seven blocks are 8.
 fn empty_blocks(cases: &mut Vec<Case>) {
     for blocks in [&[0u8][..], &[1, 0], &[0, 1, 1], &[1; 6], &[1; 7], &[0; 7]] {
         for bus in [0x02, 0xF2] {
@@ -100,5 +101,11 @@ fn empty_blocks(cases: &mut Vec<Case>) {
             let name = format!("blocks {blocks:?} beside bus {bus:02X}h");
             add(cases, name, raw::table(&[raw::zone(1, 0), element]));
         }
+    }
+    for chip in [0, 1, 3, 4] {
+        let mut element = raw::external(1, 0xF2, 0x40, [0; 3]);
+        element[11] = chip;
+        let name = format!("chip identifier {chip} beside block mode");
+        add(cases, name, raw::table(&[raw::zone(1, 0), element]));
     }
 }

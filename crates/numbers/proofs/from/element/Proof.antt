@@ -18,32 +18,63 @@ returns-4 : tie.Need-returns-4
 returns-4 c = rw (c .before .match .keys4, c .led .ensures, c .before .before .chip-of .ensures)
 
 returns-5 : tie.Need-returns-5
-returns-5 c = rw (c .before .match .keys5, c .current .ensures, c .before .before .chip-of .ensures)
+returns-5 c = rw (c .before .before .match .keys5, c .water .ensures, c .before .before .before .chip-of .ensures)
 
 returns-6 : tie.Need-returns-6
-returns-6 c = rw (c .before .match .keys6, c .device .ensures, c .before .before .chip-of .ensures)
+returns-6 c = rw (c .before .before .match .keys6, c .fan2 .ensures, c .before .before .before .chip-of .ensures)
 
 returns-7 : tie.Need-returns-7
-returns-7 c = rw (c .before .match .keys7, c .device2 .ensures, c .before .before .chip-of .ensures)
+returns-7 c = rw (c .before .before .match .keys7, c .voltage .ensures, c .before .before .before .chip-of .ensures)
 
 returns-8 : tie.Need-returns-8
-returns-8 c = rw (c .match .keys8)
+returns-8 c = rw (c .before .match .keys8, c .current .ensures, c .before .before .chip-of .ensures)
 
 returns-9 : tie.Need-returns-9
-returns-9 c = rw (c .match .keys9)
+returns-9 c = rw (c .before .match .keys9, c .device .ensures, c .before .before .chip-of .ensures)
 
 returns-10 : tie.Need-returns-10
-returns-10 c = rw (c .before .before .match .keys10, c .rgb .ensures, c .before .before .before .chip-of .ensures)
+returns-10 c = rw (c .before .match .keys10, c .device2 .ensures, c .before .before .chip-of .ensures)
 
 returns-11 : tie.Need-returns-11
-returns-11 c =
+returns-11 c = rw (c .match .keys11)
+
+returns-12 : tie.Need-returns-12
+returns-12 c = rw (c .match .keys12)
+
+returns-13 : tie.Need-returns-13
+returns-13 c = rw (c .before .match .keys13, c .external .ensures, c .before .before .chip-of .ensures)
+
+returns-14 : tie.Need-returns-14
+returns-14 c = rw (c .before .before .match .keys14, c .rgb .ensures, c .before .before .before .chip-of .ensures)
+
+returns-15 : tie.Need-returns-15
+returns-15 c =
     let m = c .match .rest in
-    simp (ne-eqb _ 1 (m .0 .0 .0 .0 .0 .0 .0 .0 .0 .1), ne-eqb _ 2 (m .0 .0 .0 .0 .0 .0 .0 .0 .1), ne-eqb _ 3 (m .0 .0 .0 .0 .0 .0 .0 .1), ne-eqb _ 4 (m .0 .0 .0 .0 .0 .0 .1), ne-eqb _ 8 (m .0 .0 .0 .0 .0 .1), ne-eqb _ 9 (m .0 .0 .0 .0 .1), ne-eqb _ 10 (m .0 .0 .0 .1), ne-eqb _ 11 (m .0 .0 .1), ne-eqb _ 12 (m .0 .1), ne-eqb _ 14 (m .1))
+    simp (
+      ne-eqb _ 1 (m .0 .0 .0 .0 .0 .0 .0 .0 .0 .0 .0 .0 .0 .1),
+      ne-eqb _ 2 (m .0 .0 .0 .0 .0 .0 .0 .0 .0 .0 .0 .0 .1),
+      ne-eqb _ 3 (m .0 .0 .0 .0 .0 .0 .0 .0 .0 .0 .0 .1),
+      ne-eqb _ 4 (m .0 .0 .0 .0 .0 .0 .0 .0 .0 .0 .1),
+      ne-eqb _ 5 (m .0 .0 .0 .0 .0 .0 .0 .0 .0 .1),
+      ne-eqb _ 6 (m .0 .0 .0 .0 .0 .0 .0 .0 .1),
+      ne-eqb _ 7 (m .0 .0 .0 .0 .0 .0 .0 .1),
+      ne-eqb _ 8 (m .0 .0 .0 .0 .0 .0 .1),
+      ne-eqb _ 9 (m .0 .0 .0 .0 .0 .1),
+      ne-eqb _ 10 (m .0 .0 .0 .0 .1),
+      ne-eqb _ 11 (m .0 .0 .0 .1),
+      ne-eqb _ 12 (m .0 .0 .1),
+      ne-eqb _ 13 (m .0 .1),
+      ne-eqb _ 14 (m .1),
+    )
 
 pub element-spec : {M : Type 1} → statement M
 element-spec =
     tie.close
     (tie.spec
+    (λ c κs. search needs)
+    (λ c κs. search needs)
+    (λ c κs. search needs)
+    (λ c κs. search needs)
     (λ c κs. search needs)
     (λ c κs. search needs)
     (λ c κs. search needs)
@@ -63,4 +94,8 @@ element-spec =
     returns-8
     returns-9
     returns-10
-    returns-11)
+    returns-11
+    returns-12
+    returns-13
+    returns-14
+    returns-15)

@@ -1,0 +1,24 @@
+-- `voltage_found` meets its contract: the length decides whether a record is there, and the record is judged.
+-- Assumes nothing.
+use mathlib.Core.Path.{refl}
+use borrow.Author.Needs.{needs}
+use Rattle.format.specs.Records.{voltage}
+use Rattle.format.specs.Decode.{decode, readVoltage}
+use Rattle.found.proofs.Judging.{wrong-length, right-length}
+use Rattle.found.proofs.voltage_found.Statement.{statement}
+use Rattle.found.proofs.voltage_found.Tie as tie
+
+returns : tie.Need-returns
+unfolding decode
+returns c = wrong-length _ 7 _ _ voltage (readVoltage _) 8 refl (c .before .if1 .taken) (c .refused .ensures)
+
+returns-2 : tie.Need-returns-2
+unfolding decode
+returns-2 c =
+    let r = c .before .before .before in
+    right-length _ 7 _ _ voltage (readVoltage _) 8 refl _ (r .before .if1 .left) refl (r .voltage .ensures) (c .before .before .voltage-breaks .ensures) (c .before .analogue-claims .ensures) (c .both .ensures)
+
+pub voltage-found-spec : {M : Type 1} → statement M
+voltage-found-spec =
+    tie.close
+    (tie.spec (search needs) returns (search needs) (search needs) (search needs) (search needs) returns-2)
