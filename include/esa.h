@@ -46,8 +46,9 @@ enum esa_numbers {
     ESA_IDENTIFIER = 7,        /* not one of the fourteen identifiers; element. Of append: 0 */
     ESA_LAYOUT = 8,            /* the length differs from the layout, or the blocks do not fill it; element */
     ESA_CODE = 9,              /* a reserved code or a number that no rule allows in its field; element */
-    ESA_PIN = 10,              /* a pin that does not exist, is not on the chip, is not permitted, or out of order; element, or
-                                  0. Of start and append also: a pin of the other chip */
+    ESA_PIN = 10,              /* a pin that does not exist, is not on the chip, is not permitted, or out of order, in its
+                                  element or after the fan-list pins of those before; element, or 0. Of start and append also: a
+                                  pin of the other chip; append does not look at the elements before */
     ESA_TOO_MANY = 11,         /* a 97th element, or a 13th zone; element */
     ESA_TWICE = 12,            /* a string or zone number a second time; element */
     ESA_NO_ZONE = 13,          /* the zone of an element has no descriptor; element */
@@ -191,7 +192,8 @@ size_t esa_list(const uint8_t *table, size_t length, uint64_t settings, uint8_t 
 
 /* WRITING. A table is started in a buffer and each element appended to it; bytes 1-2 of the buffer hold the length so far.
    With a refusal no byte of the buffer alters. A table that is still being written may break rules over the whole of it (11
-   to 15): ask esa_check, with the same settings, when it is done. There is no archive's writer: bit 1 of the settings is ignored. */
+   to 15, and 10 where the fan list runs from element to element): ask esa_check, with the same settings, when it is done.
+   There is no archive's writer: bit 1 of the settings is ignored. */
 
 /* Starts a table with the description in the numbers. 0, and beside it 16, the length, with the description in the first 16
    bytes; or, in this order, 1 (a buffer under 16 bytes), 25, 4, 5, 10, all at 0. */

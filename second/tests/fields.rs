@@ -271,6 +271,7 @@ fn of_the_chip() {
         raw::digital(1, 3, 0x14),
         raw::analogue(1, 0x20),
         raw::fan(1, 5, 0xFF),
+        raw::pump(1, 6, 0xFF),
         raw::led(1, [0xFF; 3]),
         raw::current(1, 0x21),
         raw::controller(1, 1, 0x40, &[1]),
@@ -278,7 +279,6 @@ fn of_the_chip() {
         raw::rgb(1, 0x11, 0x12, 0x13),
         raw::text(1, b"x"),
         raw::water(1, 0x15),
-        raw::pump(1, 6, 0xFF),
         raw::voltage(1, 0x16),
         raw::external(1, 0, 0x40, [0; 3]),
     ]);

@@ -194,7 +194,7 @@ fn the_same_seed_gives_the_same_tables() {
         hash
     };
     let found = [0, 3].map(fingerprint);
-    assert_eq!(found, [0x73B8_567E_12DA_3AFA, 0x45A3_A841_4384_D22F]);
+    assert_eq!(found, [0x6D91_1B93_E7FA_6267, 0x1600_F125_67D0_26CD]);
 }
 
 #[test]

@@ -66,6 +66,7 @@ fn fans_and_zone_1() {
     gives(&table, 0, 2);
     let text = String::from_utf8(second::listing(&table, ON_320)).unwrap();
     assert_eq!(text.lines().nth(1), Some("E\t16\t03\t1\tP0.5,P0.6"));
-    gives(&raw::table(&[fan.clone(), fan.clone(), zone]), 15, 32);
-    gives(&raw::table(&[fan.clone(), fan]), 13, 16);
+    // From request 2 on.
+    gives(&raw::table(&[fan.clone(), fan.clone(), zone]), 10, 32);
+    gives(&raw::table(&[fan.clone(), fan]), 10, 32);
 }

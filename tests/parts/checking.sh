@@ -1,7 +1,7 @@
 # Part of tests/esa: ./esa check on files of every sort.
 # shellcheck shell=sh disable=SC2015,SC2154
 
-zone_missing="13 at 32: the PWM fan at byte 32 names zone 1, and no zone descriptor declares it; add the zone descriptor or move the fan to a zone that exists"
+zone_missing="13 at 16: the PWM fan at byte 16 names zone 1, and no zone descriptor declares it; add the zone descriptor or move the fan to a zone that exists"
 too_long="3 at 0: the file has more than 4,096 bytes, and no table is longer; this is another kind of file, or something was added behind the table"
 other_start="2 at 0: byte 0 is 00h, and a table of revision 0.90 starts with 01h; this is another kind of file, or its start was overwritten"
 empty="1 at 0: the file is empty, and a table has at least 16 bytes; copy the table again from where it came"

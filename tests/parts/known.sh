@@ -15,7 +15,7 @@ row() { # NAME HEX LINE
         for way in hold_on hold_archived; do
             $way $chip "$1" "$work/row"
             case $(head -n 1 "$work/list" | tr '\t' ' ') in "$3"*) continue ;; esac
-            printf "wrong: %s: %s the %s document 01 wants '%s'\n" "$1" $way $chip "$3"
+            printf "wrong: %s: %s the %s the documents want '%s'\n" "$1" $way $chip "$3"
             [ "$right" = no ] || wrong=$((wrong + 1))
         done
     done

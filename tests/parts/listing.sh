@@ -3,7 +3,7 @@
 
 refused_listing() {
     ran list bad
-    [ "$status" = 1 ] && [ "$(cat seen.out)" = "R	13	32" ] && [ "$(cat seen.err)" = "bad: $zone_missing" ] || show
+    [ "$status" = 1 ] && [ "$(cat seen.out)" = "R	13	16" ] && [ "$(cat seen.err)" = "bad: $zone_missing" ] || show
 }
 
 # A pipe cannot be read a second time for its sentence.
@@ -11,8 +11,8 @@ complains_piped() {
     status=0
     "$esa" list /dev/stdin <bad >seen.out 2>seen.err || status=$?
     dd if=bad 2>/dev/null | "$esa" list /dev/stdin >piped.out 2>piped.err
-    [ "$status" = 1 ] && [ "$(cat seen.err)" = "/dev/stdin: $zone_missing" ] && [ "$(cat piped.out)" = "R	13	32" ] &&
-        [ "$(cat piped.err)" = "/dev/stdin: 13 at 32: './esa why 13' tells what that means" ] || show
+    [ "$status" = 1 ] && [ "$(cat seen.err)" = "/dev/stdin: $zone_missing" ] && [ "$(cat piped.out)" = "R	13	16" ] &&
+        [ "$(cat piped.err)" = "/dev/stdin: 13 at 16: './esa why 13' tells what that means" ] || show
 }
 
 has_list() {

@@ -53,8 +53,8 @@ sample_with() { # NAME STATUS OPTION STATUS
     try "./esa list $3 of $1 is as its text says" as_the_text_says "list $3" "$1" "$4"
 }
 
-eight_samples() {
-    [ "$(find "$tables" -type f | wc -l)" -eq 16 ]
+nine_samples() {
+    [ "$(find "$tables" -type f | wc -l)" -eq 18 ]
 }
 
 samples() {
@@ -62,9 +62,10 @@ samples() {
     sample every-kind 0
     sample water-kit 0
     sample spring 1
+    sample mute 1
     sample lamp 1
     sample twice 1
     sample_with larger-chip 0 '--chip 321' 1
     sample_with old-box 1 --archive 0
-    try "eight sample tables with a text each, and nothing else" eight_samples
+    try "nine sample tables with a text each, and nothing else" nine_samples
 }

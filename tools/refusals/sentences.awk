@@ -222,7 +222,7 @@ function of_pin(which, i) {
 
 function of_order(    i) {
     for (i = 2; i <= own_count; i++) {
-        if (!in_order(own_use[i]) || rank(byte(own_at[i])) > rank(byte(own_at[i - 1]))) continue
+        if (!in_order(own_use[i]) || byte(own_at[i]) == 255 || rank(byte(own_at[i])) > rank(byte(own_at[i - 1]))) continue
         V["role"] = own_role[i]
         V["pin"] = pin_name(byte(own_at[i]))
         V["earlier"] = own_role[i - 1]
@@ -230,7 +230,27 @@ function of_order(    i) {
         at(own_at[i])
         return of_pin("order", i)
     }
-    return say("other")
+    return of_list()
+}
+
+# The fan list through the whole table: the first pin of the element, and the last one that was used before it.
+function of_list(    p, i, role, pin, owner) {
+    for (p = 16; p < place; p += word(p + 1)) {
+        find_own(p)
+        for (i = 1; i <= own_count; i++) {
+            if (!in_order(own_use[i]) || byte(own_at[i]) == 255) continue
+            role = own_role[i]
+            pin = byte(own_at[i])
+            owner = p
+        }
+    }
+    find_own(place)
+    if (owner == "" || own_count == 0 || !in_order(own_use[1]) || rank(byte(own_at[1])) > rank(pin)) return say("other")
+    V["role"] = own_role[1]
+    V["pin"] = pin_name(byte(own_at[1]))
+    V["earlier"] = role " of the " named(owner)
+    V["other"] = pin_name(pin)
+    return say("list")
 }
 
 # 11 and 12: what stands before the element.

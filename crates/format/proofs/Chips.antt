@@ -16,6 +16,7 @@ use Rattle.format.specs.Layout.{optionalPinSlot, address, layout, layout
 use Rattle.format.specs.Pins.{among, onChip, keptIf, only, listed, permitted, ofChip, allowed, unused, allowedOrUnused}
 use Rattle.format.specs.Rules.{unlessKept, firstBroken, descriptionRules, ownRules, shaped, coded, inUse, pinned, selected, rises, fanned, ofItsBus}
 use Rattle.format.specs.ZonesAndStrings.{Role, role, zoneDeclared, stringDeclared, gathered, zones, strings, rulesAgainst, zoneNamed, stringNamed, allAmong, firstNaming, zoneless, nameless}
+use Rattle.format.specs.FanList.{usedPin, fanPins, allFanPins}
 use Rattle.format.specs.Claims.{Made, madeAt, ownUsed, onBus, claimsOf, firstClaims, claimsFrom, contested}
 use Rattle.format.specs.Table.{elementBreaks, descriptionBreaks, PassKept, Keeps}
 use Rattle.format.specs.Verdict.{Accepts, Verdict, accepted}
@@ -199,9 +200,33 @@ module _ (c : Chip) where
   contested-on : (d : Description) (rs : List Record) → contested (descriptionOn c d) (recordsOn c rs) ≡ contested d rs
   contested-on d rs = rw (used-on (d .revision0), used-on (d .revision1), used-on (d .revision2), claims-from-on 16 rs) refl
 
+  used-pin-on : (p : OptionalPin) → usedPin (optionalOn c p) ≡ usedPin p
+  used-pin-on Unused = refl
+  used-pin-on (Used p) = refl
+
+  fan-pins-on : (r : Record) → fanPins (recordOn c r) ≡ fanPins r
+  fan-pins-on (digital d) = refl
+  fan-pins-on (analogue a) = refl
+  fan-pins-on (fan f) = rw (used-pin-on (f .tachometer)) refl
+  fan-pins-on (led l) = refl
+  fan-pins-on (water w) = refl
+  fan-pins-on (pump f) = rw (used-pin-on (f .tachometer)) refl
+  fan-pins-on (voltage v) = refl
+  fan-pins-on (current x) = refl
+  fan-pins-on (controller d bs) = refl
+  fan-pins-on (tachometer d a b) = refl
+  fan-pins-on (zone bytes) = refl
+  fan-pins-on (string bytes) = refl
+  fan-pins-on (external x r g b) = refl
+  fan-pins-on (rgb r) = refl
+
+  all-fan-pins-on : (rs : List Record) → allFanPins (recordsOn c rs) ≡ allFanPins rs
+  all-fan-pins-on [] = refl
+  all-fan-pins-on (r ∷ rs) = λ i. fan-pins-on r i ++ all-fan-pins-on rs i
+
   against-on : (before : List Record) (r : Record) → rulesAgainst (recordsOn c before) (recordOn c r) ≡ rulesAgainst before r
   unfolding rulesAgainst
-  against-on before r = rw (role-on r, gathered-on zoneDeclared before, gathered-on stringDeclared before) refl
+  against-on before r = rw (all-fan-pins-on before, fan-pins-on r, role-on r, gathered-on zoneDeclared before, gathered-on stringDeclared before) refl
 
 -- A pin that a chip permits is one of the list, all of which the 320 has.
 or-larger : (t u v : Bool) → (u ≡ true → v ≡ true) → t || u ≡ true → t || v ≡ true

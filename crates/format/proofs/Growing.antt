@@ -1,4 +1,4 @@
--- One element more: what numbers, places, claims and the pass's rules of a list become.
+-- One element more: what numbers, places, claims, fan-list pins and the pass's rules of a list become.
 -- Assumes nothing.
 use Prim.Native.Nat.{ℕ, _+_, _<_}
 use native.Mathlib.Omega.{arith}
@@ -10,6 +10,7 @@ use lib.Seq.{append-snoc}
 use Rattle.format.specs.Records.{Record}
 use Rattle.format.specs.Layout.{layout, layouts, placeAfter}
 use Rattle.format.specs.ZonesAndStrings.{Role, role, gathered}
+use Rattle.format.specs.FanList.{fanPins, allFanPins, lastPin, lastUsed}
 use Rattle.format.specs.Claims.{Claim, Made, madeAt, claimsOf, firstClaims, claimsFrom, claims}
 use Rattle.format.specs.Table.{elementBreaks, PassKept}
 use Rattle.format.specs.declared.records.Description.{Description}
@@ -43,6 +44,18 @@ pub claims-snoc :
 claims-snoc d rs r =
     rw (claims-from 16 rs (r ∷ []), append-nil (madeAt (placeAfter rs) (claimsOf r)))
     (sym (append-assoc (madeAt 0 (firstClaims d)) (claimsFrom 16 rs) (madeAt (placeAfter rs) (claimsOf r))))
+
+-- the last fan-list pin
+pub fan-pins-append : (rs ss : List Record) → allFanPins (rs ++ ss) ≡ allFanPins rs ++ allFanPins ss
+fan-pins-append [] ss = refl
+fan-pins-append (r ∷ rs) ss = rw (fan-pins-append rs ss) (sym (append-assoc (fanPins r) (allFanPins rs) (allFanPins ss)))
+
+pub last-append : (p : ℕ) (ps qs : List ℕ) → lastPin p (ps ++ qs) ≡ lastPin (lastPin p ps) qs
+last-append p [] qs = refl
+last-append p (x ∷ ps) qs = last-append x ps qs
+
+pub last-snoc : (rs : List Record) (r : Record) → lastUsed (rs ++ r ∷ []) ≡ lastPin (lastUsed rs) (fanPins r)
+last-snoc rs r = rw (fan-pins-append rs (r ∷ []), append-nil (fanPins r)) (last-append 0 (allFanPins rs) (fanPins r))
 
 -- the pass over a list with one element more
 pub pass-snoc :

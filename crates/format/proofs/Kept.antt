@@ -101,7 +101,7 @@ own-numbered s r = (omega arith, (omega arith, (omega arith, (omega arith, tt)))
 
 pub against-numbered : (before : List Record) (r : Record) → Numbered (rulesAgainst before r)
 unfolding rulesAgainst
-against-numbered before r = (omega arith, (omega arith, tt))
+against-numbered before r = (omega arith, (omega arith, (omega arith, tt)))
 
 pub description-numbered : (c : Chip) (d : Description) → Numbered (descriptionRules c d)
 unfolding descriptionRules

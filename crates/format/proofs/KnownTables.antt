@@ -14,7 +14,7 @@ use Rattle.format.specs.ZonesAndStrings.{rulesAgainst}
 use Rattle.format.specs.Verdict.{Verdict}
 use Rattle.format.specs.Decode.{decode}
 use Rattle.format.specs.Reader.{verdictOf, pass, step}
-use Rattle.format.specs.Known.{Row, starred, twofold, zoned, ofPins, apart, retired}
+use Rattle.format.specs.Known.{Row, starred, twofold, zoned, ofPins, apart, ofTheFanList, retired}
 use Rattle.format.specs.WaterKit.{waterKit, manyPairs, lightRetired}
 use Rattle.format.specs.declared.answers.Answer.{Answer}
 use Rattle.format.specs.declared.answers.Answer.the-variants.{Accepted, Refused}
@@ -125,6 +125,17 @@ computed-apart C8051F321 Archive = refl
 
 pub chips-apart : (s : Settings) → Each s (apart (s .chip))
 chips-apart s = right-each s (apart (s .chip)) (computed-apart (s .chip) (s .rules))
+
+-- the fan list through the whole table
+computed-fan-list : (c : Chip) (k : Rules) → right (on c k) ofTheFanList ≡ true
+unfolding verdictOf pass step decode descriptionRules ownRules rulesAgainst
+computed-fan-list C8051F320 Ordinary = refl
+computed-fan-list C8051F320 Archive = refl
+computed-fan-list C8051F321 Ordinary = refl
+computed-fan-list C8051F321 Archive = refl
+
+pub fan-list-order : (s : Settings) → Each s ofTheFanList
+fan-list-order s = right-each s ofTheFanList (computed-fan-list (s .chip) (s .rules))
 
 -- a bus type that is retired, and 23 among the other rules
 computed-retired : (c : Chip) (k : Rules) → right (on c k) (retired k) ≡ true

@@ -20,3 +20,4 @@ pub mod BadReaders
 pub mod Chips
 pub mod NamedChip
 pub mod Archive
+pub mod FanList

@@ -174,6 +174,45 @@ apart c =
     ∷ (after 66 (sensorT 0x30 ++ zone1) gives Accepted 2)
     ∷ []
 
+-- 'The fan list runs through the whole table': 10 against the elements before.
+
+-- a fan in zone 1 on this pin, without tachometer
+abbrev pub fanAlone : ℕ → List ℕ
+fanAlone pwm =
+    0x03 ∷ 0x10 ∷ 0x00 ∷ 0x00 ∷ 0xff ∷ 0xff ∷ 0xff ∷ 0x01 ∷ pwm ∷ 0xff ∷ 0x00 ∷ 0x2c ∷ 0x01 ∷ 0xdc ∷ 0x05 ∷ 0x40 ∷ []
+
+-- a controller RGB LED in zone 1
+abbrev pub rgbR : ℕ → ℕ → ℕ → List ℕ
+rgbR red green blue = 0x0e ∷ 0x0b ∷ 0x00 ∷ 0x00 ∷ 0xff ∷ 0xff ∷ 0xff ∷ 0x01 ∷ red ∷ green ∷ blue ∷ []
+
+abbrev pub ofTheFanList : List Row
+ofTheFanList =
+    -- '"A, F, F" now answers 10 at 32, with or without the zone'
+    (after 78 (fanF 0x05 0x06 ++ fanF 0x05 0x06 ++ zone1) gives Refused 10 32)
+    ∷ (after 48 (fanF 0x05 0x06 ++ fanF 0x05 0x06) gives Refused 10 32)
+    -- two fans in order, and 'its second fan before its first', next to it and further off
+    ∷ (after 78 (fanF 0x05 0x06 ++ fanF 0x11 0x12 ++ zone1) gives Accepted 3)
+    ∷ (after 78 (fanF 0x11 0x12 ++ fanF 0x05 0x06 ++ zone1) gives Refused 10 32)
+    ∷ (after 78 (fanF 0x11 0x12 ++ zone1 ++ fanF 0x05 0x06) gives Refused 10 62)
+    -- a fan without tachometer between two others, on the last pin used, and before a tachometer
+    ∷ (after 94 (fanF 0x05 0x06 ++ fanAlone 0x11 ++ fanF 0x12 0x13 ++ zone1) gives Accepted 4)
+    ∷ (after 94 (fanF 0x05 0x06 ++ fanAlone 0x12 ++ fanF 0x11 0x13 ++ zone1) gives Refused 10 48)
+    ∷ (after 78 (fanF 0x05 0x06 ++ fanAlone 0x06 ++ zone1) gives Refused 10 32)
+    ∷ (after 78 (fanF 0x05 0x11 ++ fanAlone 0x06 ++ zone1) gives Refused 10 32)
+    -- RGB after a fan and before one
+    ∷ (after 73 (fanF 0x05 0x06 ++ rgbR 0x11 0x12 0x13 ++ zone1) gives Accepted 3)
+    ∷ (after 73 (fanF 0x05 0x11 ++ rgbR 0x06 0x12 0x13 ++ zone1) gives Refused 10 32)
+    ∷ (after 73 (rgbR 0x05 0x06 0x11 ++ fanF 0x12 0x13 ++ zone1) gives Accepted 3)
+    ∷ (after 73 (rgbR 0x05 0x06 0x12 ++ fanF 0x11 0x13 ++ zone1) gives Refused 10 27)
+    -- a chip select and a hardware revision pin on P1.3 are not counted
+    ∷ (after 83 (sensorS 0x13 ++ fanF 0x05 0x06 ++ zone1) gives Accepted 3)
+    ∷ (tableWith 62 0x02 0x00 0x80 0x13 ++ fanF 0x05 0x06 ++ zone1 gives Accepted 2)
+    -- 9 and 10; 10 and 12, of a later element; 10 and 14, of the description
+    ∷ (after 78 (fanF 0x05 0x06 ++ fanF 0x05 0xff ++ zone1) gives Refused 9 32)
+    ∷ (after 108 (fanF 0x05 0x06 ++ fanF 0x05 0x06 ++ zone1 ++ zone1) gives Refused 10 32)
+    ∷ (tableWith 78 0x02 0x09 0x80 0xff ++ fanF 0x05 0x06 ++ fanF 0x05 0x06 ++ zone1 gives Refused 10 32)
+    ∷ []
+
 -- 'SMBUS block mode is retired': 23 'directly after 9, at the element', by the ordinary rules alone.
 
 -- an external tachometer in zone 1 on this bus type, with no entries

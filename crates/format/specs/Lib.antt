@@ -3,6 +3,7 @@ pub mod Records
 pub mod Layout
 pub mod Pins
 pub mod Rules
+pub mod FanList
 pub mod ZonesAndStrings
 pub mod Claims
 pub mod Placed

@@ -16,7 +16,8 @@ use Rattle.format.specs.declared.pins.Chip.{Chip}
 use Rattle.format.specs.declared.settings.Settings.{Settings}
 use Rattle.format.specs.declared.records.Description.{Description}
 
--- the first rule that an element breaks, after those before it: '8, 9', 23, '10, the 13th zone (11), 12'
+-- the first rule that an element breaks, after those before it: '8, 9', 23, '10' of its own pins and of the fan list, 'the 13th
+-- zone (11), 12'
 abbrev pub elementBreaks : Settings → List Record → Record → Option ℕ
 elementBreaks s before r = firstBroken (ownRules s r ++ rulesAgainst before r)
 

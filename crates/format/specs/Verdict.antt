@@ -41,7 +41,7 @@ pub record Stands (c : Chip) (bs : List ℕ) (r : Record) : Type 0 where
   pub kind : ofItsKind c r ≡ true
 
 -- What stands at the head of the bytes, after the elements before, breaks the named rule of the pass and none before it:
--- '6, the 97th (11), 7, 8, 9', 23, '10, the 13th zone (11), 12'.
+-- '6, the 97th (11), 7, 8, 9', 23, '10' of its own pins and of the fan list, 'the 13th zone (11), 12'.
 pub data Breaks (s : Settings) (before : List Record) (bs : List ℕ) : ℕ → Type 0 where
   header : 0 < length bs → framed bs ≡ false → Breaks s before bs 6
   crowded : framed bs ≡ true → 96 ≤ length before → Breaks s before bs 11

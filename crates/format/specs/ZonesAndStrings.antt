@@ -1,4 +1,5 @@
--- Zone numbers and string numbers: 11 and 12, which look at the elements before, 13 and 14, which look at all of them.
+-- Zone numbers and string numbers: 11 and 12, which look at the elements before, as the fan list's 10 does; 13 and 14, which look at
+-- all of them.
 -- Assumes nothing.
 use Prim.Native.Nat.{ℕ, _+_}
 use mathlib.Core.Bool.{Bool, true, _&&_, not}
@@ -10,6 +11,7 @@ use Rattle.format.specs.Records.{Record, digital, analogue, fan, led, wa
 use Rattle.format.specs.Layout.{layout}
 use Rattle.format.specs.Pins.{among}
 use Rattle.format.specs.Rules.{Rule, rule, unlessKept}
+use Rattle.format.specs.FanList.{inOrder}
 use Rattle.format.specs.declared.records.Placement.{Placement}
 use Rattle.format.specs.declared.records.Description.{Description}
 
@@ -71,7 +73,7 @@ fresh before r = noneAmong (zoneDeclared (role r)) (zones before) && noneAmong (
 
 -- the rules of an element against those before it, in their order
 unfoldable pub rulesAgainst : List Record → Record → List Rule
-rulesAgainst before r = rule 11 (zonesFit before r) ∷ rule 12 (fresh before r) ∷ []
+rulesAgainst before r = rule 10 (inOrder before r) ∷ rule 11 (zonesFit before r) ∷ rule 12 (fresh before r) ∷ []
 
 -- the zone that an element names, and its string index, if it has one
 abbrev pub zoneNamed : Role → List ℕ

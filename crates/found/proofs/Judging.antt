@@ -14,6 +14,7 @@ use Rattle.format.specs.Slots.{byte}
 use Rattle.format.specs.Pins.{among}
 use Rattle.format.specs.Records.{Record, controller, tachometer, external}
 use Rattle.format.specs.Rules.{ownRules, pinned, chipIdentifiers}
+use Rattle.format.specs.FanList.{fanPins}
 use Rattle.format.specs.Decode.{decode, guard, bind, readDevice, readExternal, cutBlocks, cutTwo, cutThree}
 use Rattle.format.specs.declared.settings.Settings.{Settings}
 use Rattle.format.specs.declared.records.BusDevice.{BusDevice}
@@ -24,7 +25,8 @@ use Rattle.blocks.specs.declared.Part.{Part}
 use Rattle.blocks.proofs.EachKind.{two, three}
 use Rattle.blocks.proofs.Faults.{speed-fault, pairs-fault}
 use Rattle.claims.specs.declared.Claims.{Claims}
-use Rattle.found.specs.Judged.{ownFault, Judged, ClaimsOf, BusClaims, DeviceFound}
+use Rattle.found.specs.Judged.{ownFault, FansAre, Judged, ClaimsOf, BusClaims, DeviceFound}
+use Rattle.found.specs.declared.Fans.{Fans}
 use Rattle.found.specs.declared.Found.{Found}
 
 -- a record that breaks no rule by itself keeps 10
@@ -35,7 +37,12 @@ module _ (s : Settings) (id : ℕ) (c : List ℕ) (r : Found) where
   -- no record is there
   pub none-there : decode (s .chip) id c ≡ none → r .fault ≡ 8 → Judged s id c r
   none-there d p =
-      record { right = p ∙ sym (ap (ownFault s) d); long = λ e. absurd (omega (arith, p, e)); claimed = λ e. absurd (omega (arith, p, e)) }
+      record {
+        right = p ∙ sym (ap (ownFault s) d);
+        long = λ e. absurd (omega (arith, p, e));
+        claimed = λ e. absurd (omega (arith, p, e));
+        counted = λ e. absurd (omega (arith, p, e));
+      }
 
   -- a record is there: its fault is found, and where it has none its claims are made
   judged :
@@ -44,8 +51,9 @@ module _ (s : Settings) (id : ℕ) (c : List ℕ) (r : Found) where
       → 5 ≤ length c
       → r .fault ≡ ownFault s (some x)
       → (r .fault ≡ 0 → ClaimsOf x (r .claims))
+      → (r .fault ≡ 0 → FansAre (r .fans) (fanPins x))
       → Judged s id c r
-  judged x d l p f =
+  judged x d l p f g =
       record {
         right = p ∙ sym (ap (ownFault s) d);
         long = λ n. l;
@@ -53,6 +61,7 @@ module _ (s : Settings) (id : ℕ) (c : List ℕ) (r : Found) where
             λ n z w.
             let v : x ≡ z = cc in
             subst (λ (z : Record). ClaimsOf z (r .claims)) v (f n) (s .chip) (own-pinned s z (rw v at (sym p ∙ n)));
+        counted = λ n z w. let v : x ≡ z = cc in subst (λ (z : Record). FansAre (r .fans) (fanPins z)) v (g n);
       }
 
   -- a kind of a fixed length
@@ -61,16 +70,17 @@ module _ (s : Settings) (id : ℕ) (c : List ℕ) (r : Found) where
     wrong-length h p = none-there (d ∙ rw (ne-eqb (length c) n h) refl) p
 
     pub right-length :
-        (x : X) {fault : ℕ} {claims : Claims}
+        (x : X) {fault : ℕ} {claims : Claims} {fans : Fans}
         → length c ≡ n
         → leb 5 n ≡ true
         → x ≡ read (byte c)
         → fault ≡ ownFault s (some (kind x))
         → ClaimsOf (kind x) claims
-        → (r .fault ≡ fault) × (r .claims ≡ claims)
+        → FansAre fans (fanPins (kind x))
+        → (r .fault ≡ fault) × (r .claims ≡ claims) × (r .fans ≡ fans)
         → Judged s id c r
-    right-length x l m e p f q =
-        judged (kind x) (d ∙ rw (eq-eqb (length c) n l, ← e) refl) (omega (arith, leb-true 5 n m)) (q .0 ∙ p) (λ z. rw (q .1) f)
+    right-length x l m e p f g q =
+        judged (kind x) (d ∙ rw (eq-eqb (length c) n l, ← e) refl) (omega (arith, leb-true 5 n m)) (q .0 ∙ p) (λ z. rw (q .1) f) (λ z. rw (q .2) g)
 
   -- a device on a bus, by its fixed bytes and what its part says
   device-judged :
@@ -79,9 +89,10 @@ module _ (s : Settings) (id : ℕ) (c : List ℕ) (r : Found) where
       → 5 ≤ length c
       → r .fault ≡ ownFault s (bind o (λ a. some (kind a)))
       → (r .fault ≡ 0 → (a : A) → ClaimsOf (kind a) (r .claims))
+      → (r .fault ≡ 0 → (a : A) → FansAre (r .fans) (fanPins (kind a)))
       → Judged s id c r
-  device-judged kind none d l p f = none-there d p
-  device-judged kind (some a) d l p f = judged (kind a) d l p (λ n. f n a)
+  device-judged kind none d l p f g = none-there d p
+  device-judged kind (some a) d l p f g = judged (kind a) d l p (λ n. f n a) (λ n. g n a)
 
 -- what is found of a device: 8 by its part, or what its fixed fields say
 module _ (s : Settings) (d : BusDevice) (part : Part) (r : Found) where
@@ -91,21 +102,24 @@ module _ (s : Settings) (d : BusDevice) (part : Part) (r : Found) where
         misshapen = λ _. p;
         breaks = λ v. absurd (false≢true (sym w ∙ v));
         claimed = λ n. absurd (omega (arith, n, p));
+        counted = λ n. absurd (omega (arith, n, p));
       }
 
   pub found-whole :
-      (e : BusDevice) {fault : ℕ} {claims : Claims}
+      (e : BusDevice) {fault : ℕ} {claims : Claims} {fans : Fans}
       → part .whole ≡ true
       → e ≡ d
       → DeviceBreaks s e (part .full) fault
       → BusClaims (e .address) claims
-      → (r .fault ≡ fault) × (r .claims ≡ claims)
+      → fans .any ≡ false
+      → (r .fault ≡ fault) × (r .claims ≡ claims) × (r .fans ≡ fans)
       → DeviceFound s d part r
-  found-whole e w q b f p =
+  found-whole e w q b f g p =
       record {
         misshapen = λ v. absurd (false≢true (sym v ∙ w));
         breaks = λ _. rw (p .0, ← q) b;
         claimed = λ _. rw (p .1, ← q) f;
+        counted = λ _. rw (p .2) g;
       }
 
 -- the part of an element, as the code takes it
@@ -134,6 +148,7 @@ module _ (s : Settings) (c : List ℕ) (r : Found) where
         device-judged s 9 c r (λ l. controller (readDevice (s .chip) (byte c)) l) (cutBlocks (length c) (drop 8 c)) (simp (le-leb 8 (length c) h)) (omega arith)
         (speed-fault s part (r .fault) (f .misshapen) (readDevice (s .chip) (byte c)) (cutBlocks (length c) (drop 8 c)) (q (length c) (omega (arith, length-drop 8 c))) (λ w. f .breaks w .of-controller))
         (λ n l. f .claimed n)
+        (λ n l. f .counted n)
 
     -- 0Ah
     pub tachometer-judged : 9 ≤ length c → PairsPart 2 (drop 9 c) part → Judged s 10 c r
@@ -142,6 +157,7 @@ module _ (s : Settings) (c : List ℕ) (r : Found) where
         device-judged s 10 c r (λ q. tachometer (readDevice (s .chip) (byte c)) (q .0) (q .1)) (cutTwo (drop 9 c)) (simp (le-leb 9 (length c) h)) (omega arith)
         (pairs-fault s part (r .fault) (f .misshapen) (λ q. tachometer (readDevice (s .chip) (byte c)) (q .0) (q .1)) (cutTwo (drop 9 c)) (e .0 ∙ two (drop 9 c)) (λ w q. f .breaks w .of-tachometer (q .0) (q .1) (e .1)))
         (λ n q. f .claimed n)
+        (λ n q. f .counted n)
 
     -- 0Dh
     pub external-judged :
@@ -151,3 +167,4 @@ module _ (s : Settings) (c : List ℕ) (r : Found) where
         device-judged s 13 c r (λ q. external (readExternal (s .chip) (byte c)) (q .0) (q .1) (q .2)) (cutThree (drop 9 c)) (simp (le-leb 9 (length c) h)) (omega arith)
         (pairs-fault s part (r .fault) (f .misshapen) (λ q. external (readExternal (s .chip) (byte c)) (q .0) (q .1) (q .2)) (cutThree (drop 9 c)) (e ∙ three (drop 9 c)) (λ w q. f .breaks w .of-external (byte c 8) (q .0) (q .1) (q .2) (sym i)))
         (λ n q. f .claimed n)
+        (λ n q. f .counted n)

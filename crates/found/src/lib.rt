@@ -1,18 +1,71 @@
-// What the bytes of an element that stands in a zone say of it alone: the first of 8, 9, 23 and 10 that it breaks, and the
-// pins that it claims. The slices start after the element's header; pins are read and judged under the caller's settings.
+// What the bytes of an element that stands in a zone say of it alone: the first of 8, 9, 23 and 10 that it breaks, the pins
+// that it claims, and those of the fan list that count through the table. The slices start after the element's header; pins are
+// read and judged under the caller's settings.
 ghost use mathlib.Core.Path.{_≡_};
+ghost use mathlib.Core.Bool.{true, false};
 ghost use Prim.Native.Nat.{_≤_};
 ghost use lib.ListN.{length};
 ghost use Rattle.format.specs.Slots.{byte};
 ghost use Rattle.format.specs.Decode.{readDevice};
-ghost use Rattle.found.specs.Judged.{Judged, DeviceFound};
+ghost use Rattle.format.specs.Records.{fan, rgb};
+ghost use Rattle.format.specs.FanList.{fanPins};
+ghost use Rattle.found.specs.Judged.{FansAre, Judged, DeviceFound};
 use blocks::Part;
 use claims::Claims;
+use format::pins::OptionalPin;
+use format::records::PwmFan;
+use format::records::RgbLed;
 use format::settings::Settings;
+
+// The pins of the fan list that an element counts: whether there is any, the first and the last.
+pub struct Fans {
+    pub any: bool,
+    pub first: u8,
+    pub last: u8,
+}
 
 pub struct Found {
     pub fault: u8,
     pub claims: Claims,
+    pub fans: Fans,
+}
+
+fn no_fans() -> Fans
+    ensures { λ r. ⌜ r .any ≡ false ⌝ }
+{
+    Fans {
+        any: false,
+        first: 0,
+        last: 0,
+    }
+}
+
+// PWM, and the tachometer where there is one.
+fn fan_fans(f: PwmFan) -> Fans
+    ensures { λ r. ⌜ FansAre r (fanPins (fan f)) ⌝ }
+{
+    let t = f.tachometer;
+    match t {
+        OptionalPin::Unused => between(f.pwm.0, f.pwm.0),
+        OptionalPin::Used(q) => between(f.pwm.0, q.0),
+    }
+}
+
+// Red to blue.
+fn rgb_fans(c: RgbLed) -> Fans
+    ensures { λ r. ⌜ FansAre r (fanPins (rgb c)) ⌝ }
+{
+    between(c.red.0, c.blue.0)
+}
+
+fn between(first: u8, last: u8) -> Fans
+    ensures { λ r. ⌜ (r .any ≡ true) × (r .first ≡ first) × (r .last ≡ last) ⌝ }
+{
+    Fans {
+        any: true,
+        first,
+        last,
+    }
 }
 
 fn refused(fault: u8) -> Found
@@ -21,13 +74,18 @@ fn refused(fault: u8) -> Found
     Found {
         fault,
         claims: claims::no_claims(),
+        fans: no_fans(),
     }
 }
 
-fn both(fault: u8, claims: Claims) -> Found
-    ensures { λ r. ⌜ (r .fault ≡ fault) × (r .claims ≡ claims) ⌝ }
+fn together(fault: u8, claims: Claims, fans: Fans) -> Found
+    ensures { λ r. ⌜ (r .fault ≡ fault) × (r .claims ≡ claims) × (r .fans ≡ fans) ⌝ }
 {
-    Found { fault, claims }
+    Found {
+        fault,
+        claims,
+        fans,
+    }
 }
 
 // 01h
@@ -40,7 +98,11 @@ pub fn digital_found(b: &[u8], s: Settings) -> Found
     let chip = s.chip;
     let d = fields::digital(b, chip);
     let a = d.address;
-    both(rules::digital_breaks(d, s), claims::bus_claims(a))
+    together(
+        rules::digital_breaks(d, s),
+        claims::bus_claims(a),
+        no_fans(),
+    )
 }
 
 // 02h
@@ -52,7 +114,11 @@ pub fn analogue_found(b: &[u8], s: Settings) -> Found
     }
     let chip = s.chip;
     let a = fields::analogue(b, chip);
-    both(rules::analogue_breaks(a, s), claims::analogue_claims(a.pin))
+    together(
+        rules::analogue_breaks(a, s),
+        claims::analogue_claims(a.pin),
+        no_fans(),
+    )
 }
 
 // 03h and 06h
@@ -64,7 +130,7 @@ pub fn fan_found(b: &[u8], s: Settings) -> Found
     }
     let chip = s.chip;
     let f = fields::fan(b, chip);
-    both(rules::fan_breaks(f, s), claims::fan_claims(f))
+    together(rules::fan_breaks(f, s), claims::fan_claims(f), fan_fans(f))
 }
 
 // 04h
@@ -76,7 +142,7 @@ pub fn led_found(b: &[u8], s: Settings) -> Found
     }
     let chip = s.chip;
     let l = fields::led(b, chip);
-    both(rules::led_breaks(l, s), claims::led_claims(l))
+    together(rules::led_breaks(l, s), claims::led_claims(l), no_fans())
 }
 
 // 05h
@@ -88,7 +154,11 @@ pub fn water_found(b: &[u8], s: Settings) -> Found
     }
     let chip = s.chip;
     let w = fields::water(b, chip);
-    both(rules::water_breaks(w, s), claims::analogue_claims(w.pin))
+    together(
+        rules::water_breaks(w, s),
+        claims::analogue_claims(w.pin),
+        no_fans(),
+    )
 }
 
 // 07h
@@ -100,7 +170,11 @@ pub fn voltage_found(b: &[u8], s: Settings) -> Found
     }
     let chip = s.chip;
     let v = fields::voltage(b, chip);
-    both(rules::voltage_breaks(v, s), claims::analogue_claims(v.pin))
+    together(
+        rules::voltage_breaks(v, s),
+        claims::analogue_claims(v.pin),
+        no_fans(),
+    )
 }
 
 // 08h
@@ -112,7 +186,11 @@ pub fn current_found(b: &[u8], s: Settings) -> Found
     }
     let chip = s.chip;
     let c = fields::current(b, chip);
-    both(rules::current_breaks(c, s), claims::analogue_claims(c.pin))
+    together(
+        rules::current_breaks(c, s),
+        claims::analogue_claims(c.pin),
+        no_fans(),
+    )
 }
 
 // 09h, 0Ah and 0Dh: by their fixed bytes and what their part says.
@@ -126,7 +204,11 @@ pub fn device_found(b: &[u8], part: Part, s: Settings) -> Found
     let chip = s.chip;
     let d = fields::device(b, chip);
     let a = d.address;
-    both(rules::device_breaks(d, part.full, s), claims::bus_claims(a))
+    together(
+        rules::device_breaks(d, part.full, s),
+        claims::bus_claims(a),
+        no_fans(),
+    )
 }
 
 // 09h
@@ -173,5 +255,5 @@ pub fn rgb_found(b: &[u8], s: Settings) -> Found
     }
     let chip = s.chip;
     let c = fields::rgb(b, chip);
-    both(rules::rgb_breaks(c, s), claims::rgb_claims(c))
+    together(rules::rgb_breaks(c, s), claims::rgb_claims(c), rgb_fans(c))
 }

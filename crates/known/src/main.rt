@@ -1,6 +1,7 @@
 // The rows of 'Known tables' that are not starred, one a line: the table in capital hex, number, place or number of elements,
-// with tabs; below the first, of whose listing document 01 has a line, that listing. Table A and fan F are written out as the
-// document has them, A with its length mended. tools/known holds what is printed to the second program.
+// with tabs; below the first, of whose listing document 01 has a line, that listing. The other two have the answer of request 2/14,
+// 10 at 32. Table A and fan F are written out as the document has them, A with its length mended. tools/known holds what is
+// printed to the second program.
 use format::answers::Answer;
 use format::pins::Chip;
 use format::settings::Rules;

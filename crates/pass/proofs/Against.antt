@@ -13,6 +13,7 @@ use Rattle.format.specs.Slots.{byte}
 use Rattle.format.specs.Records.{Record, zone, string}
 use Rattle.format.specs.Rules.{numbered, firstBroken}
 use Rattle.format.specs.Pins.{among}
+use Rattle.format.specs.FanList.{inOrder}
 use Rattle.format.specs.ZonesAndStrings.{placed, role, zones, strings, rulesAgainst}
 use Rattle.format.specs.declared.records.Description.{Description}
 use Rattle.format.specs.declared.records.Placement.{Placement}
@@ -51,6 +52,11 @@ module _ (d : Description) (s : State) (f : Flags) (before : List Record) (k : T
       rw (enough, k .string .flag (byte c 0) h)
       (simp (numbering, and-true (not (among (byte c 0) (strings before)))))
 
-  pub placed-against : (x : Record) {p : Placement} → role x ≡ placed p → 0 ≡ numbered (firstBroken (rulesAgainst before x))
+  pub placed-against :
+      (x : Record) {p : Placement} (t : Bool)
+      → role x ≡ placed p
+      → inOrder before x ≡ t
+      → orElse t 10 0 ≡ numbered (firstBroken (rulesAgainst before x))
   unfolding rulesAgainst
-  placed-against x e = rw (e, enough) refl
+  placed-against x true e o = rw (o, e, enough) refl
+  placed-against x false e o = rw o refl

@@ -10,12 +10,13 @@ use Rattle.format.specs.Records.{Record}
 use Rattle.format.specs.Layout.{placeAfter}
 use Rattle.format.specs.Rules.{numbered, firstBroken, ownRules}
 use Rattle.format.specs.ZonesAndStrings.{role, gathered, zones, strings, zoneDeclared, stringDeclared, zoneNamed, stringNamed, rulesAgainst}
+use Rattle.format.specs.FanList.{fanPins, lastPin}
 use Rattle.format.specs.Claims.{madeAt, claimsOf, claims}
 use Rattle.format.specs.Table.{elementBreaks}
 use Rattle.format.specs.declared.settings.Settings.{Settings}
 use Rattle.format.specs.declared.records.Description.{Description}
 use Rattle.format.proofs.Kept.{zero-none, some-number, own-numbered, against-numbered, own-breaks, then-against}
-use Rattle.format.proofs.Growing.{gathered-snoc, claims-snoc}
+use Rattle.format.proofs.Growing.{gathered-snoc, claims-snoc, last-snoc}
 use Rattle.flags.specs.Marks.{Marks}
 use Rattle.claims.specs.Taken.{HeldIs}
 use Rattle.pass.specs.Tracks.{Flags, Tracks, Leaves, StepIs}
@@ -34,8 +35,9 @@ pub track :
     → Marks (g .zones-named) (gathered zoneNamed before ++ zoneNamed (role x))
     → Marks (g .strings-named) (d .string ∷ (gathered stringNamed before ++ stringNamed (role x)))
     → HeldIs (t .held) (claims d before ++ madeAt (placeAfter before) (claimsOf x))
+    → t .last ≡ lastPin (s .last) (fanPins x)
     → Tracks d t g (before ++ x ∷ [])
-track d before s f t g x k c z few a b u v w =
+track d before s f t g x k c z few a b u v w l =
     record {
       count = c ∙ omega (arith, k .count, length-append before (x ∷ []));
       zoned = rw (gathered-snoc zoneDeclared before x, length-append (zones before) (zoneDeclared (role x)), z, k .zoned) refl;
@@ -45,6 +47,7 @@ track d before s f t g x k c z few a b u v w =
       zone-use = rw (gathered-snoc zoneNamed before x) u;
       string-use = rw (gathered-snoc stringNamed before x) v;
       held = subst (HeldIs (t .held)) (sym (claims-snoc d before x)) w;
+      fans = l ∙ ap (λ (n : ℕ). lastPin n (fanPins x)) (k .fans) ∙ sym (last-snoc before x);
     }
 
 module _ (σ : Settings) (x : Record) (at : ℕ) (s : State) (f : Flags) (r : Step) (g : Flags) where

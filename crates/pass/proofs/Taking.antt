@@ -16,6 +16,7 @@ use Rattle.format.specs.Layout.{placeAfter}
 use Rattle.format.specs.Rules.{numbered, firstBroken, ownRules}
 use Rattle.format.specs.Pins.{among}
 use Rattle.format.specs.ZonesAndStrings.{placed, role, gathered, zones, strings, zoneNamed, stringNamed, rulesAgainst}
+use Rattle.format.specs.FanList.{fanPins, lastPin, comesAfter}
 use Rattle.format.specs.Claims.{Claim, Made, madeAt, claimsOf, claims}
 use Rattle.format.specs.Table.{elementBreaks}
 use Rattle.format.specs.Verdict.{known}
@@ -31,7 +32,7 @@ use Rattle.flags.proofs.Marked.{marks-put, marks-same}
 use Rattle.claims.specs.Taken.{ClaimsAre, HeldIs}
 use Rattle.claims.specs.declared.Held.{Held}
 use Rattle.rules.specs.Broken.{orElse}
-use Rattle.found.specs.Judged.{ownFault, Judged}
+use Rattle.found.specs.Judged.{FansAre, ownFault, Judged}
 use Rattle.found.specs.declared.Found.{Found}
 use Rattle.pass.specs.Tracks.{Flags, flags, Tracks, Leaves, StepIs, PlacedStep, Went, TakeIs}
 use Rattle.pass.specs.declared.State.{State}
@@ -84,10 +85,11 @@ module _ (σ : Settings) (c : List ℕ) (small : Bytes c) (at : ℕ) (s : State)
         → r .state .count ≡ s .count + 1
         → r .state .zones ≡ s .zones + 1
         → r .state .held ≡ s .held
+        → r .state .last ≡ s .last
         → zs′ ≡ set zs z true
         → su′ ≡ set su t true
         → StepIs σ (zone c) at s (flags zs ss zu su) r (flags zs′ ss zu su′)
-    zone-good {t} {zs′} {su′} n v p a b h q u =
+    zone-good {t} {zs′} {su′} n v p a b h g q u =
         no-fault σ (zone c) at s (flags zs ss zu su) r (flags zs′ ss zu su′) e o (zone-later w l) n p
         (λ d before place tr.
         track d before s (flags zs ss zu su) (r .state) (flags zs′ ss zu su′) (zone c) tr a b
@@ -96,7 +98,8 @@ module _ (σ : Settings) (c : List ℕ) (small : Bytes c) (at : ℕ) (s : State)
         (marks-same ss (strings before) (tr .string))
         (marks-same zu (gathered zoneNamed before) (tr .zone-use))
         (rw (u, v) (marks-put su (d .string ∷ gathered stringNamed before) (byte c 1) (small 1) (tr .string-use)))
-        (no-claims (s .held) (r .state .held) h (tr .held)))
+        (no-claims (s .held) (r .state .held) h (tr .held))
+        g)
 
 -- 0Ch
 module _ (σ : Settings) (c : List ℕ) (small : Bytes c) (at : ℕ) (s : State) (zs ss zu su : List Bool) (r : Step) where
@@ -123,9 +126,10 @@ module _ (σ : Settings) (c : List ℕ) (small : Bytes c) (at : ℕ) (s : State)
         → r .state .count ≡ s .count + 1
         → r .state .zones ≡ s .zones
         → r .state .held ≡ s .held
+        → r .state .last ≡ s .last
         → ss′ ≡ set ss t true
         → StepIs σ (string c) at s (flags zs ss zu su) r (flags zs ss′ zu su)
-    text-good {ss′} f p a b h q =
+    text-good {ss′} f p a b h g q =
         no-fault σ (string c) at s (flags zs ss zu su) r (flags zs ss′ zu su) e o (text-later false f refl) refl p
         (λ d before place tr.
         track d before s (flags zs ss zu su) (r .state) (flags zs ss′ zu su) (string c) tr a
@@ -135,7 +139,8 @@ module _ (σ : Settings) (c : List ℕ) (small : Bytes c) (at : ℕ) (s : State)
         (rw (q, w) (marks-put ss (strings before) (byte c 0) (small 0) (tr .string)))
         (marks-same zu (gathered zoneNamed before) (tr .zone-use))
         (marks-same su (d .string ∷ gathered stringNamed before) (tr .string-use))
-        (no-claims (s .held) (r .state .held) h (tr .held)))
+        (no-claims (s .held) (r .state .held) h (tr .held))
+        g)
 
 -- an element in a zone
 module _ (f : Found) (c : List ℕ) (small : Bytes c) (at : ℕ) (s : State) (zu su : List Bool) (r : Step) where
@@ -143,12 +148,41 @@ module _ (f : Found) (c : List ℕ) (small : Bytes c) (at : ℕ) (s : State) (zu
   placed-fault n p q =
       record {
         faulty = λ _. (p, q, refl, refl);
-        steps = λ σ x v e k zs ss. own-fault σ x at s (flags zs ss zu su) r (flags zs ss zu su) e n p q refl;
+        steps = λ σ x v e k w zs ss. own-fault σ x at s (flags zs ss zu su) r (flags zs ss zu su) e n p q refl;
       }
 
+  -- 10 of the fan list, or not
+  module _
+      {t : Bool} (o : f .fault ≡ 0) (h : (ps : List ℕ) → FansAre (f .fans) ps → t ≡ comesAfter (s .last) ps)
+    where
+      fans-against :
+          (d : Description) (before : List Record) (g : Flags) (x : Record)
+          → Tracks d s g before
+          → role x ≡ placed (readPlacement (byte c))
+          → (f .fault ≡ 0 → FansAre (f .fans) (fanPins x))
+          → orElse t 10 0 ≡ numbered (firstBroken (rulesAgainst before x))
+      fans-against d before g x tr y w =
+          placed-against d s g before tr x t y (sym (h (fanPins x) (w o) ∙ ap (λ (n : ℕ). comesAfter n (fanPins x)) (tr .fans)))
+
+      pub placed-late : t ≡ false → r .stop ≡ 10 → r .state ≡ s → PlacedStep f c at s zu su r zu su
+      placed-late e p q =
+          record {
+            faulty = λ n. absurd (n o);
+            steps =
+                λ σ x y i k w zs ss.
+                later-fault σ x at s (flags zs ss zu su) r (flags zs ss zu su) i o
+                (λ d before tr. ap (λ (b : Bool). orElse b 10 0) (sym e) ∙ fans-against d before (flags zs ss zu su) x tr y w)
+                (λ n. omega (arith, n))
+                p
+                q
+                refl;
+          }
+
   pub placed-good :
-      {z t : ℕ} {zu′ su′ : List Bool} {h : Held}
+      {z t : ℕ} {zu′ su′ : List Bool} {h : Held} {b : Bool}
       → f .fault ≡ 0
+      → ((ps : List ℕ) → FansAre (f .fans) ps → b ≡ comesAfter (s .last) ps)
+      → b ≡ true
       → at < 65536
       → z ≡ byte c 4
       → t ≡ byte c 0
@@ -157,16 +191,17 @@ module _ (f : Found) (c : List ℕ) (small : Bytes c) (at : ℕ) (s : State) (zu
       → r .state .zones ≡ s .zones
       → r .state .held ≡ h
       → ((before : List Made) (cs : List Claim) → at < 65536 → HeldIs (s .held) before → ClaimsAre (f .claims) cs → HeldIs h (before ++ madeAt at cs))
+      → ((ps : List ℕ) → FansAre (f .fans) ps → r .state .last ≡ lastPin (s .last) ps)
       → zu′ ≡ set zu z true
       → su′ ≡ set su t true
       → PlacedStep f c at s zu su r zu′ su′
-  placed-good {z} {t} {zu′} {su′} {h} o low w v p a b m g q u =
+  placed-good {z} {t} {zu′} {su′} {h} o i j low w v p a b m g l q u =
       record {
         faulty = λ n. absurd (n o);
         steps =
-            λ σ x y e k zs ss.
+            λ σ x y e k n zs ss.
             no-fault σ x at s (flags zs ss zu su) r (flags zs ss zu′ su′) e o
-            (λ d before tr. placed-against d s (flags zs ss zu su) before tr x y)
+            (λ d before tr. ap (λ (b : Bool). orElse b 10 0) (sym j) ∙ fans-against o i d before (flags zs ss zu su) x tr y n)
             refl
             p
             (λ d before place tr.
@@ -178,7 +213,8 @@ module _ (f : Found) (c : List ℕ) (small : Bytes c) (at : ℕ) (s : State) (zu
             (rw (y, q, w) (marks-put zu (gathered zoneNamed before) (byte c 4) (small 4) (tr .zone-use)))
             (rw (y, u, v) (marks-put su (d .string ∷ gathered stringNamed before) (byte c 0) (small 0) (tr .string-use)))
             (subst (λ (n : ℕ). HeldIs (r .state .held) (claims d before ++ madeAt n (claimsOf x))) place
-            (rw m (g (claims d before) (claimsOf x) low (tr .held) (k o)))));
+            (rw m (g (claims d before) (claimsOf x) low (tr .held) (k o))))
+            (l (fanPins x) (n o)));
       }
 
 -- by the identifier: a record that is decoded
@@ -280,7 +316,7 @@ module _ (σ : Settings) (id k : ℕ) (c : List ℕ) (at : ℕ) (s : State) (zs 
           }
       by (some x) d =
           take-record σ k c at s (flags zs ss zu su) r (flags zs ss zu′ su′) x (known-placed k zone-not text-not i) d
-          (p .steps σ x (subst (Placed c) d (decode-placed (σ .chip) k c zone-not text-not)) (j .right ∙ ap (ownFault σ) d) (λ n. j .claimed n x d) zs ss)
+          (p .steps σ x (subst (Placed c) d (decode-placed (σ .chip) k c zone-not text-not)) (j .right ∙ ap (ownFault σ) d) (λ n. j .claimed n x d) (λ n. j .counted n x d) zs ss)
 
 pub not-known :
     (id : ℕ)

@@ -11,6 +11,7 @@ use Rattle.format.specs.Records.{Record}
 use Rattle.format.specs.Layout.{placeAfter}
 use Rattle.format.specs.Rules.{numbered, firstBroken, ownRules}
 use Rattle.format.specs.ZonesAndStrings.{placed, role, gathered, zones, strings, zoneNamed, stringNamed}
+use Rattle.format.specs.FanList.{fanPins, lastUsed}
 use Rattle.format.specs.Claims.{claimsOf, claims}
 use Rattle.format.specs.Table.{elementBreaks}
 use Rattle.format.specs.Verdict.{stated, known}
@@ -20,6 +21,7 @@ use Rattle.format.specs.declared.settings.Settings.{Settings}
 use Rattle.format.specs.declared.records.Description.{Description}
 use Rattle.flags.specs.Marks.{Marks}
 use Rattle.claims.specs.Taken.{ClaimsAre, HeldIs}
+use Rattle.found.specs.Judged.{FansAre}
 use Rattle.found.specs.declared.Found.{Found}
 use Rattle.pass.specs.declared.State.{State}
 use Rattle.pass.specs.declared.Step.{Step}
@@ -36,7 +38,7 @@ pub record Flags : Type 0 where
 abbrev pub flags : List Bool → List Bool → List Bool → List Bool → Flags
 flags zs ss zu su = record { zones-declared = zs; strings-declared = ss; zones-named = zu; strings-named = su }
 
--- the state and the flags say what the elements before declare, name and claim, after a description
+-- the state and the flags say what the elements before declare, name, claim and use of the fan list, after a description
 pub record Tracks (d : Description) (s : State) (f : Flags) (before : List Record) : Type 0 where
   pub count : s .count ≡ length before
   pub zoned : s .zones ≡ length (zones before)
@@ -46,6 +48,7 @@ pub record Tracks (d : Description) (s : State) (f : Flags) (before : List Recor
   pub zone-use : Marks (f .zones-named) (gathered zoneNamed before)
   pub string-use : Marks (f .strings-named) (d .string ∷ gathered stringNamed before)
   pub held : HeldIs (s .held) (claims d before)
+  pub fans : s .last ≡ lastUsed before
 
 -- Where the element breaks a rule its number stops the step, and state and flags are as they were; where it breaks none it is
 -- one of those before.
@@ -69,6 +72,7 @@ pub record PlacedStep (f : Found) (c : List ℕ) (at : ℕ) (s : State) (zu su :
       → role x ≡ placed (readPlacement (byte c))
       → f .fault ≡ numbered (firstBroken (ownRules σ x))
       → (f .fault ≡ 0 → ClaimsAre (f .claims) (claimsOf x))
+      → (f .fault ≡ 0 → FansAre (f .fans) (fanPins x))
       → (zs ss : List Bool)
       → StepIs σ x at s (flags zs ss zu su) r (flags zs ss zu′ su′)
 

@@ -1,5 +1,5 @@
-// The pass over the elements from offset 16: 6, the 97th (11), 7, 8, 9, 23, 10, the 13th zone (11), 12. Which numbers have been
-// seen and which are named is kept for all 256 numbers, in flags that are lent.
+// The pass over the elements from offset 16: 6, the 97th (11), 7, 8, 9, 23, 10 (its own pins, then the fan list), the 13th zone (11),
+// 12. Which numbers have been seen and which are named is kept for all 256 numbers, in flags that are lent.
 ghost use mathlib.Core.Path.{_≡_};
 ghost use mathlib.Core.Bool.{Bool, not};
 ghost use mathlib.Core.List.{List, []};
@@ -11,18 +11,22 @@ ghost use Rattle.format.specs.Decode.{readDescription};
 ghost use Rattle.format.specs.Reader.{elementsOf};
 ghost use Rattle.format.specs.Records.{zone, string};
 ghost use Rattle.format.specs.declared.settings.Settings.{Settings};
+ghost use Rattle.format.specs.FanList.{comesAfter, lastPin};
 ghost use Rattle.rules.specs.Broken.{orElse};
+ghost use Rattle.found.specs.Judged.{FansAre};
 ghost use Rattle.pass.specs.Tracks.{flags, Tracks, StepIs, PlacedStep, TakeIs, MoveIs, WalkIs};
 use claims::Held;
 use format::settings::Settings;
+use found::Fans;
 use found::Found;
 use words::wide;
 
-// How many elements and zones there are so far, and who claims which pins.
+// How many elements and zones there are so far, who claims which pins, and the last fan-list pin used; 0 where none is.
 pub struct State {
     pub count: usize,
     pub zones: usize,
     pub held: Held,
+    pub last: u8,
 }
 
 // A step: the rule that stops it, or 0, and what is so far.
@@ -85,6 +89,7 @@ fn zone_step(b: &[u8], s: State, zs: &mut [bool; 256], su: &mut [bool; 256]) -> 
             count: s.count + 1,
             zones: s.zones + 1,
             held,
+            last: s.last,
         },
     }
 }
@@ -110,8 +115,23 @@ fn text_step(b: &[u8], s: State, ss: &mut [bool; 256]) -> Step
             count: s.count + 1,
             zones: s.zones,
             held,
+            last: s.last,
         },
     }
+}
+
+// 10 of the fan list: the first pin of an element comes after the last one used.
+fn follows(fans: Fans, last: u8) -> bool
+    ensures { λ r. ⌜ ((ps : List ℕ) → FansAre fans ps → r ≡ comesAfter last ps) ⌝ }
+{
+    !fans.any | (last < fans.first)
+}
+
+// The last one used then.
+fn last_of(fans: Fans, last: u8) -> u8
+    ensures { λ r. ⌜ ((ps : List ℕ) → FansAre fans ps → r ≡ lastPin last ps) ⌝ }
+{
+    if fans.any { fans.last } else { last }
 }
 
 // An element that stands in a zone: its fault, or what it leaves.
@@ -129,6 +149,10 @@ fn placed_step(
     if f.fault != 0 {
         return stopped(f.fault, s);
     }
+    let fans = f.fans;
+    if !follows(fans, s.last) {
+        return stopped(10, s);
+    }
     let z = wide(b[4]);
     zu[z] = true;
     let t = wide(b[0]);
@@ -141,6 +165,7 @@ fn placed_step(
             count: s.count + 1,
             zones: s.zones,
             held: claims::claim(held, claims, at),
+            last: last_of(fans, s.last),
         },
     }
 }

@@ -38,8 +38,9 @@ pub at-start :
     → s .count ≡ 0
     → s .zones ≡ 0
     → HeldIs (s .held) (madeAt 0 (firstClaims d))
+    → s .last ≡ 0
     → Tracks d s (flags (replicate 256 false) (replicate 256 false) (replicate 256 false) (set (replicate 256 false) n true)) []
-at-start d s n low e c z h =
+at-start d s n low e c z h l =
     record {
       count = c;
       zoned = z;
@@ -50,6 +51,7 @@ at-start d s n low e c z h =
       string-use =
           subst (λ (m : ℕ). Marks (set (replicate 256 false) n true) (m ∷ [])) e (marks-put (replicate 256 false) [] n low marks-clear);
       held = rw append-nil h;
+      fans = l;
     }
 
 -- where the pass stopped

@@ -189,6 +189,7 @@ fn elements(t: &[u8], held: Held, settings: Settings) -> Answer
         count: 0,
         zones: 0,
         held,
+        last: 0,
     };
     let r = walk(t, start, &mut zs, &mut ss, &mut zu, &mut su, settings);
     if r.stop != 0 {

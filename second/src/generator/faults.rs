@@ -9,7 +9,7 @@ use crate::settings::Settings;
 
 type Fault = fn(&mut Random, &mut Parts);
 
-const FAULTS: [Fault; 28] = [
+const FAULTS: [Fault; 31] = [
     wrong_type,
     wrong_power,
     wrong_hardware_pin,
@@ -30,6 +30,9 @@ const FAULTS: [Fault; 28] = [
     wrong_pin,
     wrong_pin,
     pin_around_the_four,
+    fans_exchanged,
+    fans_exchanged,
+    one_more_fan,
     string_zero,
     element_again,
     element_again,
@@ -213,12 +216,33 @@ fn place_pin(random: &mut Random, parts: &mut Parts, pin: u8) {
     }
 }
 
+/// Two of the fans, pumps and RGB LEDs in each other's place.
+fn fans_exchanged(random: &mut Random, parts: &mut Parts) {
+    let counted = |at: &usize| {
+        let kind = parts.elements[*at][0];
+        matches!(kind, id::FAN | id::PUMP | id::RGB_LED)
+    };
+    let places: Vec<usize> = (0..parts.elements.len()).filter(counted).collect();
+    if !places.is_empty() {
+        let [one, other] = [(); 2].map(|()| *random.pick(&places));
+        parts.elements.swap(one, other);
+    }
+}
+
+/// A fan or a pump on any pin of the fan list, in a zone that is there if any is.
+fn one_more_fan(random: &mut Random, parts: &mut Parts) {
+    let zone = one_of(random, parts, |e| e[0] == id::ZONE && e.len() > 3).map_or(1, |e| e[3]);
+    let pin = *random.pick(&crate::pins::FAN_LIST);
+    let made = *random.pick(&[raw::fan, raw::pump]);
+    insert(random, parts, made(zone, pin, 0xFF));
+}
+
 fn string_zero(random: &mut Random, parts: &mut Parts) {
     let text = raw::text(0, b"zero");
     insert(random, parts, text);
 }
 
-/// A zone or string so declared twice (12), a device so claiming its pins twice (15).
+/// A zone or string so declared twice (12), a fan's pins so used twice (10), other pins claimed twice (15).
 fn element_again(random: &mut Random, parts: &mut Parts) {
     if let Some(element) = one_of(random, parts, |_| true) {
         let again = element.clone();

@@ -185,9 +185,34 @@ fn build(random: &mut Random, settings: Settings, plan: &Plan) -> Parts {
     elements.extend(pool.zone_elements());
     elements.extend(pool.string_elements(room, plan.exact));
     random.shuffle(&mut elements);
+    deal_fan_list(&mut elements);
     Parts {
         description,
         elements,
+    }
+}
+
+/// Gives the fan-list pins of all fans, pumps and RGB LEDs out anew, so that they rise from element to element.
+/// Each keeps as many as it has.
+fn deal_fan_list(elements: &mut [Vec<u8>]) {
+    let mut places = Vec::new();
+    for (at, element) in elements.iter().enumerate() {
+        let pins = match element[0] {
+            id::FAN | id::PUMP if element[9] == 0xFF => 8..9,
+            id::FAN | id::PUMP => 8..10,
+            id::RGB_LED => 8..11,
+            _ => continue,
+        };
+        places.extend(pins.map(|byte| (at, byte)));
+    }
+    let mut pins: Vec<u8> = places
+        .iter()
+        .map(|&(at, byte)| elements[at][byte])
+        .collect();
+    // The order of the bytes is the order of the list.
+    pins.sort_unstable();
+    for ((at, byte), pin) in places.into_iter().zip(pins) {
+        elements[at][byte] = pin;
     }
 }
 

@@ -11,6 +11,7 @@ use crate::answer::{
     number, Refusal, Verdict, DESCRIPTION_LENGTH, LARGEST_TABLE, MOST_ELEMENTS, MOST_ZONES,
 };
 use crate::element::{self, id, read_description, read_element, word};
+use crate::pins::{Pin, FAN_LIST};
 use crate::record::{Description, Element};
 use crate::rules;
 use crate::settings::{Chip, Settings};
@@ -70,7 +71,8 @@ fn check_description(table: &[u8], chip: Chip) -> Result<(), Refusal> {
     Ok(())
 }
 
-/// Each element from offset 16 is taken through 6, the 97th, 7, 8, 9, 23, 10, the 13th zone and 12
+/// Each element from offset 16 is taken through 6, the 97th, 7, 8, 9, 23, 10 of its own and 10 of the fan
+/// list through the table, the 13th zone and 12
 /// before the next is looked at.
 fn pass(table: &[u8], settings: Settings) -> Result<Vec<Found<'_>>, Refusal> {
     let mut found: Vec<Found> = Vec::new();
@@ -87,6 +89,7 @@ fn pass(table: &[u8], settings: Settings) -> Result<Vec<Found<'_>>, Refusal> {
             element,
             part,
         };
+        check_fans(&found, &new)?;
         check_number(&found, &new)?;
         found.push(new);
         place += bytes.len();
@@ -125,6 +128,29 @@ fn judge(bytes: &[u8], settings: Settings) -> Result<(Element, &[u8]), u8> {
         return Err(number::PIN);
     }
     Ok((element, part))
+}
+
+/// The fan-list pins of a fan, a pump or an RGB LED on the controller, as places in the list. Chip selects are
+/// not counted.
+fn fan_list_places(element: &Element) -> Vec<usize> {
+    let counted = matches!(
+        element,
+        Element::Fan(_) | Element::Pump(_) | Element::RgbLed(_)
+    );
+    let place = |pin: &Pin| FAN_LIST.iter().position(|&listed| listed == pin.byte());
+    match counted {
+        true => own_pins(element).iter().filter_map(place).collect(),
+        false => Vec::new(),
+    }
+}
+
+/// 10: the fan-list pins of all elements, taken in element order, rise.
+fn check_fans(found: &[Found], new: &Found) -> Result<(), Refusal> {
+    let before = found.iter().flat_map(|one| fan_list_places(&one.element));
+    match (before.last(), fan_list_places(&new.element).first()) {
+        (Some(last), Some(&first)) if first <= last => Err(Refusal::at(number::PIN, new.place)),
+        _ => Ok(()),
+    }
 }
 
 /// The numbers of all zones, or of all strings, among those found.

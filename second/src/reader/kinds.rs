@@ -104,10 +104,11 @@ pub fn fan(element: &[u8], pins: Pins, claims: &mut Claims) -> u8 {
     }
     let pwm = pins.bit(e[8]) & FAN_LIST;
     let tachometer = pins.bit(e[9]) & FAN_LIST;
-    // An absent pin is 0, so the order of the bits also finds a used tachometer off the list.
-    if (pwm == 0) | (used & (tachometer <= pwm)) {
+    // An absent pin is 0, so the order of the bits also finds a used pin off the list.
+    if (pwm <= claims.last_of_fans) | (used & (tachometer <= pwm)) {
         return number::PIN;
     }
+    claims.last_of_fans = pwm.max(tachometer);
     claims.alone(pwm | tachometer);
     0
 }
@@ -215,9 +216,10 @@ pub fn rgb_led(element: &[u8], pins: Pins, claims: &mut Claims) -> u8 {
     let red = pins.bit(e[8]) & FAN_LIST;
     let green = pins.bit(e[9]) & FAN_LIST;
     let blue = pins.bit(e[10]) & FAN_LIST;
-    if red == 0 || green <= red || blue <= green {
+    if red <= claims.last_of_fans || green <= red || blue <= green {
         return number::PIN;
     }
+    claims.last_of_fans = blue;
     claims.alone(red | green | blue);
     0
 }

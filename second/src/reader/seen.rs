@@ -46,6 +46,8 @@ impl Numbers {
 pub struct Claims {
     pub shared: PinSet,
     pub select: PinSet,
+    /// The last pin of the fan list that a fan, a pump or an RGB LED has used; 0 before the first.
+    pub last_of_fans: PinSet,
     alone: PinSet,
     /// Pins that two claims wanted alone.
     twice: PinSet,
@@ -58,6 +60,7 @@ impl Claims {
         Claims {
             shared: 0,
             select: 0,
+            last_of_fans: 0,
             alone: FAULT_LED,
             twice: 0,
         }

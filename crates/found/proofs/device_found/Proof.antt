@@ -11,10 +11,10 @@ returns c = found-8 _ _ _ _ (not-true _ (c .before .if1 .taken)) (c .refused .en
 
 returns-2 : tie.Need-returns-2
 returns-2 c =
-    let r = c .before .before .before in
-    found-whole _ _ _ _ _ (not-false _ (r .before .if1 .left)) (r .device .ensures) (c .before .before .device-breaks .ensures) (c .before .bus-claims .ensures) (c .both .ensures)
+    let r = c .before .before .before .before in
+    found-whole _ _ _ _ _ (not-false _ (r .before .if1 .left)) (r .device .ensures) (c .before .before .before .device-breaks .ensures) (c .before .before .bus-claims .ensures) (c .before .no-fans .ensures) (c .together .ensures)
 
 pub device-found-spec : {M : Type 1} → statement M
 device-found-spec =
     tie.close
-    (tie.spec (search needs) returns (search needs) (search needs) (search needs) (search needs) returns-2)
+    (tie.spec (search needs) returns (search needs) (search needs) (search needs) (search needs) (search needs) returns-2)

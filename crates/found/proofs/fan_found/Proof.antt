@@ -18,13 +18,15 @@ returns c = (
 returns-2 : tie.Need-returns-2
 unfolding decode
 returns-2 c =
-    let r = c .before .before .before in
-    let own = c .before .before .fan-breaks .ensures in (
-      right-length _ 3 _ _ fan (readFan _) 13 refl _ (r .before .if1 .left) refl (r .fan .ensures) (own .0) (c .before .fan-claims .ensures) (c .both .ensures),
-      right-length _ 6 _ _ pump (readFan _) 13 refl _ (r .before .if1 .left) refl (r .fan .ensures) (own .1) (c .before .fan-claims .ensures) (c .both .ensures),
+    let r = c .before .before .before .before in
+    let own = c .before .before .before .fan-breaks .ensures in
+    let claims = c .before .before .fan-claims .ensures in
+    let fans = c .before .fan-fans .ensures in (
+      right-length _ 3 _ _ fan (readFan _) 13 refl _ (r .before .if1 .left) refl (r .fan .ensures) (own .0) claims fans (c .together .ensures),
+      right-length _ 6 _ _ pump (readFan _) 13 refl _ (r .before .if1 .left) refl (r .fan .ensures) (own .1) claims fans (c .together .ensures),
     )
 
 pub fan-found-spec : {M : Type 1} → statement M
 fan-found-spec =
     tie.close
-    (tie.spec (search needs) returns (search needs) (search needs) (search needs) (search needs) returns-2)
+    (tie.spec (search needs) returns (search needs) (search needs) (search needs) (search needs) (search needs) returns-2)

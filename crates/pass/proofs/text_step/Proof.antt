@@ -30,7 +30,7 @@ returns-3 c =
     let w = c .before .before .before .before in
     text-good σ _ (λ i. omega (arith, w .before .shared-slice-known2 .given i)) at _ zs _ zu su _
     (w .before .before .before .text-breaks .ensures σ) (w .before .before .if1 .left) (w .wide .ensures .0)
-    (c .before .before .if2 .left) refl refl refl refl refl
+    (c .before .before .if2 .left) refl refl refl refl refl refl
 
 pub text-step-spec : {M : Type 1} → statement M
 text-step-spec =

@@ -36,7 +36,7 @@ returns-3 c =
     let w = v .before .before .before .before .before in
     zone-good σ _ (λ i. omega (arith, w .before .shared-slice-known2 .given i)) at _ _ ss zu _ _
     (w .before .before .before .zone-breaks .ensures σ) (w .before .before .if1 .left) (w .wide .ensures .0) (v .before .before .before .zone-against .ensures)
-    (v .before .before .if2 .left) (v .wide2 .ensures .0) refl refl refl refl refl refl
+    (v .before .before .if2 .left) (v .wide2 .ensures .0) refl refl refl refl refl refl refl
 
 pub zone-step-spec : {M : Type 1} → statement M
 zone-step-spec =

@@ -19,7 +19,7 @@ walk-requires : tie.Need-walk-requires
 walk-requires c κs =
     let p = c .before .before .before .before .before .before .before .pre in
     let w = c .before .before .before .before .wide in
-    (p .0, p .1, p .2, at-start _ _ (w .result) (w .ensures .1) (w .ensures .0) refl refl (p .3))
+    (p .0, p .1, p .2, at-start _ _ (w .result) (w .ensures .1) (w .ensures .0) refl refl (p .3) refl)
 
 returns : tie.Need-returns
 returns c = stopped-there _ _ _ _ _ _ _ (c .before .before .walk .ensures) (c .if1 .taken)

@@ -6,6 +6,7 @@ mod claims;
 mod codes;
 mod counts;
 mod description;
+mod fans;
 mod layouts;
 mod names;
 mod pins;
@@ -33,6 +34,7 @@ pub fn targeted() -> &'static [Case] {
         chips::cases(&mut cases);
         retired::cases(&mut cases);
         water::cases(&mut cases);
+        fans::cases(&mut cases);
         cases
     })
 }
