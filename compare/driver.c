@@ -32,18 +32,21 @@ __attribute__((weak)) number esa_entries(const byte *part, number length, number
 __attribute__((weak)) number esa_entry(const byte *part, number length, number w, number i);
 __attribute__((weak)) number esa_colours(const byte *part, number length, number w);
 __attribute__((weak)) number esa_colour(const byte *part, number length, number w, number i);
+__attribute__((weak)) number esa_label(const byte *table, number length, number k, number settings, const byte *name,
+                                       number name_length);
 
 enum { CHECK = 0, ELEMENT = 1, PART = 2, START = 3, APPEND = 4, REWRITE = 5, LIST = 6, READINGS = 7 };
 /* exit status; TOUCHED: bytes in front of the buffer, the numbers, the part or the table have changed */
 enum { BROKEN_REQUEST = 3, NO_INPUT_OR_OUTPUT = 4, NO_MEMORY = 5, TOUCHED = 6 };
 enum { HEADER = 21, NUMBERS = 32, LISTING = 4096, LONGEST = 70000, READING = 17, MOST_READINGS = 1 << 15 };
-enum { FRONT = 256, FRONT_BYTE = 0xC3, ROOM = 1 << 17, GUARD = 1 << 16 };
+/* A lent name is no well-formed text: it comes back as it is. */
+enum { FRONT = 256, FRONT_BYTE = 0xC3, NAME_BYTE = 0xD8, ROOM = 1 << 17, GUARD = 1 << 16 };
 #define NO_SUCH_CALL (~0UL)
 
 static byte input[1 << 20];
 static byte output[1 << 16];
 static number waiting; /* bytes of output */
-static byte *table_end, *numbers_end, *part_end, *text_end; /* of four guarded places */
+static byte *table_end, *numbers_end, *part_end, *text_end, *name_end; /* of five guarded places */
 static byte front[FRONT];
 /* What a listing's buffer, and the numbers of a reading, hold before the call: no byte of a text, and no zero. */
 static union {
@@ -162,6 +165,17 @@ static void answer_list(const byte *body, number length, number settings)
     memcpy(buffer, pattern.bytes, count);
 }
 
+/* The label of element k, with a lent name of so many bytes. */
+static number label(const byte *table, number length, number k, number settings, number name_length)
+{
+    if (name_length > LONGEST) _exit(BROKEN_REQUEST);
+    const byte *name = name_end - name_length;
+    number value = esa_label ? esa_label(table, length, k, settings, name, name_length) : NO_SUCH_CALL;
+    for (number i = 0; i < name_length; i += 1 + i / 64)
+        if (name[i] != NAME_BYTE) _exit(TOUCHED);
+    return value;
+}
+
 /* One call of those that read. Those with numbers write them to 'numbers'; those on a part take no settings. */
 static number reading(byte which, const byte *lent, number length, number a, number b, number settings, byte *numbers)
 {
@@ -176,6 +190,7 @@ static number reading(byte which, const byte *lent, number length, number a, num
     case 7: return esa_entry ? esa_entry(lent, length, a, b) : NO_SUCH_CALL;
     case 8: return esa_colours ? esa_colours(lent, length, a) : NO_SUCH_CALL;
     case 9: return esa_colour ? esa_colour(lent, length, a, b) : NO_SUCH_CALL;
+    case 10: return label(lent, length, a, settings, b);
     default: return NO_SUCH_CALL;
     }
 }
@@ -235,6 +250,8 @@ int main(void)
     part_end = guarded_end();
     memset(front, FRONT_BYTE, FRONT);
     text_end = guarded_end();
+    name_end = guarded_end();
+    memset(name_end - LONGEST, NAME_BYTE, LONGEST);
     for (int i = 0; i < LISTING; i++) pattern.bytes[i] = (byte)(0x80 + i % 127);
     memcpy(text_end - LISTING - FRONT, front, FRONT);
     memcpy(text_end - LISTING, pattern.bytes, LISTING);

@@ -44,8 +44,10 @@ enum esa_numbers {
     ESA_POWER = 5,             /* SPWR 0 and power units over 125; 0 */
     ESA_ELEMENT_LENGTH = 6,    /* no room for a header, or an element length under 3 or past the end; element */
     ESA_IDENTIFIER = 7,        /* not one of the fourteen identifiers; element. Of append: 0 */
-    ESA_LAYOUT = 8,            /* the length differs from the layout, or the blocks do not fill it; element */
-    ESA_CODE = 9,              /* a reserved code or a number that no rule allows in its field; element */
+    ESA_LAYOUT = 8,            /* the length differs from the layout, the blocks do not fill it, or 09h has over 6 of them
+                                  or none; element */
+    ESA_CODE = 9,              /* a reserved code, a number that may not stand in its field, or a text that is not well-formed
+                                  UTF-16; element */
     ESA_PIN = 10,              /* a pin that does not exist, is not on the chip, is not permitted, or out of order, in its
                                   element or after the fan-list pins of those before; element, or 0. Of start and append also: a
                                   pin of the other chip; append does not look at the elements before */
@@ -72,8 +74,8 @@ static inline const char *esa_words(unsigned number)
     case ESA_POWER: return "more than 125 power units without SPWR";
     case ESA_ELEMENT_LENGTH: return "an element is cut short, or its length is under 3 or past the end";
     case ESA_IDENTIFIER: return "the identifier is none of the fourteen";
-    case ESA_LAYOUT: return "the length of an element is not that of its layout";
-    case ESA_CODE: return "a reserved code, or a number that no rule allows there";
+    case ESA_LAYOUT: return "the length of an element is not that of its layout, or its blocks do not fill it, or are too many or none";
+    case ESA_CODE: return "a reserved code, a number that may not stand there, or a text that is not well-formed";
     case ESA_PIN: return "a pin that does not exist, is not on the chip, is not permitted there, or stands out of order";
     case ESA_TOO_MANY: return "more than 96 elements or 12 zones";
     case ESA_TWICE: return "a string or zone number a second time";
@@ -133,7 +135,8 @@ uint64_t esa_describe(const uint8_t *table, size_t length, uint64_t settings, ui
    it; or 17 at 0 when the table has no element k. */
 uint64_t esa_element(const uint8_t *table, size_t length, size_t k, uint64_t settings);
 
-/* What does element k say? The answer of esa_element, and with 0 the element in 'numbers': esa_append takes it as it stands. With
+/* What does element k say? The answer of esa_element, and with 0 the element in 'numbers': esa_append takes it as it stands (but
+   for block mode, read with ESA_ARCHIVE: it is 23 there). With
    a refusal no byte of 'numbers' alters. */
 uint64_t esa_fields(const uint8_t *table, size_t length, size_t k, uint64_t settings, uint8_t numbers[ESA_NUMBERS]);
 
@@ -145,7 +148,8 @@ size_t esa_part_length(const uint8_t *table, size_t length, size_t k, uint64_t s
    apart; the place is behind the element's fixed fields also where the part is empty. Or the refusal of esa_element. */
 uint64_t esa_part(const uint8_t *table, size_t length, size_t k, uint64_t settings);
 
-/* The same of the text of a string, which is its part from byte 3 on. 0, and beside it 0, for an element that is no string. */
+/* The same of the text of a string, which is its part from byte 3 on, well-formed UTF-16 with the low byte first. 0, and beside it
+   0, for an element that is no string. */
 uint64_t esa_text(const uint8_t *table, size_t length, size_t k, uint64_t settings);
 
 static inline size_t esa_place(uint64_t answer)
@@ -156,6 +160,34 @@ static inline size_t esa_place(uint64_t answer)
 static inline size_t esa_length(uint64_t answer)
 {
     return (size_t)(answer >> 24);
+}
+
+/* What is element k called? The text of the string that its index names; of a string its own text; 'name', which the caller lends,
+   where the index is 0. No byte is copied: 0, and beside it which of the two lent places has the label (esa_which), where it starts
+   there (esa_label_place) and its length in bytes (esa_label_length); esa_label_start makes a pointer of them. A text of the table is
+   well-formed UTF-16, low byte first; 'name' may be any bytes and comes back as it is, whole (of one of 16,777,216 bytes or more the
+   length is said as 16,777,215). Or the refusal of esa_element; then there is no label. */
+uint64_t esa_label(const uint8_t *table, size_t length, size_t k, uint64_t settings, const uint8_t *name, size_t name_length);
+enum { ESA_OF_THE_TABLE = 0, ESA_OF_THE_NAME = 1 };
+
+static inline unsigned esa_which(uint64_t answer)
+{
+    return (unsigned)(answer >> 8 & 0xFF);
+}
+
+static inline size_t esa_label_place(uint64_t answer)
+{
+    return (size_t)(answer >> 16 & 0xFFFFFF);
+}
+
+static inline size_t esa_label_length(uint64_t answer)
+{
+    return (size_t)(answer >> 40);
+}
+
+static inline const uint8_t *esa_label_start(uint64_t answer, const uint8_t *table, const uint8_t *name)
+{
+    return (esa_which(answer) == ESA_OF_THE_NAME ? name : table) + esa_label_place(answer);
 }
 
 /* Inside a part, which may be any bytes: 17 at 0 where no such block or pair stands whole in it. Of the part of 09h: the speed of

@@ -18,6 +18,7 @@ pub fn all(settings: Settings) -> Vec<Corpus> {
     };
     let controllers = "200 tables of 4,096 bytes, 09h";
     let mixed = "200 tables of 4,096 bytes, all kinds";
+    let texts = "200 tables of 4,096 bytes, text";
     vec![
         Corpus {
             name: "table A",
@@ -25,6 +26,7 @@ pub fn all(settings: Settings) -> Vec<Corpus> {
         },
         made(controllers, 200, generator::controllers),
         made(mixed, 200, generator::mixed),
+        made(texts, 200, generator::texts),
         made("5,000 damaged tables", 5_000, generator::damaged),
     ]
 }

@@ -41,9 +41,9 @@ fn series(name: &str, make: fn(usize) -> Vec<u8>) -> usize {
         .sum()
 }
 
-/// A string element of so many bytes, 6 or more.
+/// A string element of so many bytes, an even number from 6 on: a text has two bytes to a unit.
 fn string(number: usize, length: usize) -> Vec<u8> {
-    raw::text(number as u8, &vec![b'x'; length - 6])
+    raw::text(number as u8, &b"x\0".repeat((length - 6) / 2))
 }
 
 fn of_strings(size: usize) -> Vec<u8> {

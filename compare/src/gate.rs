@@ -1,4 +1,4 @@
-//! The gate: known tables, named cases, and generated tables of fixed seeds.
+//! The gate: known tables, texts, named cases, and generated tables of fixed seeds.
 
 use crate::comparison::Comparison;
 use crate::fields;
@@ -6,6 +6,7 @@ use crate::known;
 use crate::options::Options;
 use crate::question::Origin;
 use crate::tally::Tally;
+use crate::texts;
 use second::generator::{self, raw};
 use second::random::Random;
 use second::{Chip, Settings};
@@ -15,7 +16,7 @@ const TABLES_OF_A_SEED: u64 = 15_000;
 
 pub fn gate(options: &Options) -> Result<bool, String> {
     let mut comparison = Comparison::start(options)?;
-    for row in known::rows() {
+    for row in known::rows().into_iter().chain(texts::rows()) {
         comparison.known(row)?;
     }
     // Two and two, as many cases come in pairs.

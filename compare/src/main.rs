@@ -17,6 +17,7 @@ mod progress;
 mod question;
 mod settings;
 mod tally;
+mod texts;
 mod writer;
 
 use options::{Command, Options};

@@ -1,6 +1,6 @@
 /* A tour of the library from C: is a file a table, what stands in it, how a new one is written, and written again; a lamp that
-   one of the two chips has no pin for; an old sensor that the archive's rules alone take; and a lamp of three colours on a chip of
-   its own.
+   one of the two chips has no pin for; an old sensor that the archive's rules alone take; a lamp of three colours on a chip of its
+   own; and what an element is called.
    tour [FILE]      without FILE it looks at a table of its own. On x86-64:
    rt staticlib esa && cc -std=c99 -I include examples/c/tour.c target/staticlib/libesa.a -o tour */
 #include <stdio.h>
@@ -145,6 +145,44 @@ static void colours(uint8_t *buffer, size_t length)
     }
 }
 
+/* The label of element k: UTF-16 where it is a text of the table, of which the lower halves are shown; else the name as it is lent. */
+static void label(const uint8_t *table, size_t length, size_t k)
+{
+    static const uint8_t name[] = "nameless";
+    uint64_t answer = esa_label(table, length, k, CHIP, name, sizeof name - 1);
+    if (esa_number(answer) != ESA_GOOD) {
+        told("  label", answer, "");
+        return;
+    }
+    const uint8_t *start = esa_label_start(answer, table, name);
+    int lent = esa_which(answer) == ESA_OF_THE_NAME;
+    printf("  element %zu is called ", k);
+    for (size_t i = 0; i < esa_label_length(answer); i += lent ? 1 : 2)
+        putchar(start[i]);
+    if (lent)
+        printf(", as no string says otherwise\n");
+    else
+        printf(", by byte %zu of the table\n", esa_label_place(answer));
+}
+
+/* A fan, its zone, which string 1 names, and that string; and a text that ends with half a character. */
+static void names(uint8_t *buffer, size_t length)
+{
+    const uint8_t nothing[ESA_NUMBERS] = { 0 };
+    const uint8_t zone[27] = { 1, 1 };
+    const uint8_t text[13] = { 1, 9, 4, 'F', 0, 'r', 0, 'o', 0, 'n', 0, 't', 0 };
+    const uint8_t half[5] = { 2, 9, 4, 0x3C, 0xD8 };
+    memcpy(buffer, own_table, 32);
+    buffer[1] = 32;
+    esa_append(buffer, length, ESA_ZONE, CHIP, nothing, zone, sizeof zone);
+    uint64_t answer = esa_append(buffer, length, ESA_STRING, CHIP, nothing, text, sizeof text);
+    if (!told("a name appended", answer, "bytes"))
+        return;
+    for (size_t k = 0; k < 4; k++)
+        label(buffer, esa_beside(answer), k);
+    told("half a character appended", esa_append(buffer, length, ESA_STRING, CHIP, nothing, half, sizeof half), "bytes");
+}
+
 /* Writes a table again: the same table, but for its reserved places, which become zero. */
 static void again(const uint8_t *table, size_t length)
 {
@@ -201,5 +239,8 @@ int main(int count, char **arguments)
 
     printf("\nthe same with a lamp of three colours\n");
     colours(buffer, sizeof buffer);
+
+    printf("\na table with a name\n");
+    names(buffer, sizeof buffer);
     return good ? 0 : 1;
 }

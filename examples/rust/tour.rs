@@ -1,6 +1,6 @@
 //! A tour of the library from Rust: is a file a table, what stands in it, how a new one is written, and written again; a lamp
-//! that one of the two chips has no pin for; an old sensor that the archive's rules alone take; and a lamp of three colours on a
-//! chip of its own.
+//! that one of the two chips has no pin for; an old sensor that the archive's rules alone take; a lamp of three colours on a chip
+//! of its own; and what an element is called.
 //! tour [FILE]      without FILE it looks at a table of its own. On x86-64:
 //! rt staticlib esa && rustc --edition 2021 -L target/staticlib -l static=esa examples/rust/tour.rs
 
@@ -16,6 +16,7 @@ mod esa {
     pub const PWM_FAN: u8 = 0x03;
     pub const STATUS_LED: u8 = 0x04;
     pub const ZONE: u8 = 0x0B;
+    pub const STRING: u8 = 0x0C;
     pub const EXTERNAL_RGB_LED: u8 = 0x0D;
     pub const UNUSED_PIN: u8 = 0xFF;
 
@@ -66,6 +67,14 @@ mod esa {
                 numbers: &mut [u8; 32],
             ) -> u64;
             pub fn esa_part(table: *const u8, length: usize, k: usize, settings: u64) -> u64;
+            pub fn esa_label(
+                table: *const u8,
+                length: usize,
+                k: usize,
+                settings: u64,
+                name: *const u8,
+                name_length: usize,
+            ) -> u64;
             pub fn esa_colours(part: *const u8, length: usize, w: usize) -> u64;
             pub fn esa_colour(part: *const u8, length: usize, w: usize, i: usize) -> u64;
             pub fn esa_start(
@@ -144,6 +153,31 @@ mod esa {
         Ok(place..place + length)
     }
 
+    /// What an element is called: a text of the table, in UTF-16 with the low byte first, or the name that was lent.
+    pub enum Label<'a> {
+        Text(std::ops::Range<usize>, &'a [u8]),
+        Lent(&'a [u8]),
+    }
+
+    /// The label of element k.
+    pub fn label<'a>(
+        table: &'a [u8],
+        k: usize,
+        settings: Settings,
+        name: &'a [u8],
+    ) -> Result<Label<'a>, Refusal> {
+        let (at, length) = (table.as_ptr(), table.len());
+        let (lent, lent_length) = (name.as_ptr(), name.len());
+        let answer =
+            unsafe { c::esa_label(at, length, k, settings.number(), lent, lent_length) };
+        let beside = unpacked(answer)?;
+        if beside & 0xFF == 1 {
+            return Ok(Label::Lent(name)); // it is the whole name
+        }
+        let (place, length) = (beside >> 8 & 0xFF_FFFF, beside >> 32);
+        Ok(Label::Text(place..place + length, &table[place..place + length]))
+    }
+
     /// Of the part of an external RGB LED: how many register pairs there are for colour w (0 red, 1 green, 2 blue).
     pub fn colours(part: &[u8], w: usize) -> Answer {
         unpacked(unsafe { c::esa_colours(part.as_ptr(), part.len(), w) })
@@ -216,8 +250,8 @@ fn words(number: u8) -> &'static str {
         5 => "more than 125 power units without SPWR",
         6 => "an element is cut short, or its length is under 3 or past the end",
         7 => "the identifier is none of the fourteen",
-        8 => "the length of an element is not that of its layout",
-        9 => "a reserved code, or a number that no rule allows there",
+        8 => "the length of an element is not that of its layout, or its blocks do not fill it, or are too many or none",
+        9 => "a reserved code, a number that may not stand there, or a text that is not well-formed",
         10 => "a pin that does not exist, is not on the chip, is not permitted there, or stands out of order",
         11 => "more than 96 elements or 12 zones",
         12 => "a string or zone number a second time",
@@ -371,6 +405,43 @@ fn colours(buffer: &mut [u8]) -> Result<(), esa::Refusal> {
     Ok(())
 }
 
+/// The label of element k.
+fn label(table: &[u8], k: usize) -> Result<(), esa::Refusal> {
+    match esa::label(table, k, READ, b"nameless")? {
+        esa::Label::Text(place, text) => {
+            let units = text.chunks(2).map(|u| u16::from_le_bytes([u[0], u[1]]));
+            let text: String = char::decode_utf16(units).map(|c| c.unwrap_or('?')).collect();
+            println!("  element {k} is called {text}, by byte {} of the table", place.start);
+        }
+        esa::Label::Lent(name) => {
+            let name = String::from_utf8_lossy(name);
+            println!("  element {k} is called {name}, as no string says otherwise");
+        }
+    }
+    Ok(())
+}
+
+/// A fan, its zone, which string 1 names, and that string; and a text that ends with half a character.
+fn names(buffer: &mut [u8]) -> Result<(), esa::Refusal> {
+    let mut zone = [0; 27];
+    zone[..2].copy_from_slice(&[1, 1]);
+    let text = [1, 9, 4, b'F', 0, b'r', 0, b'o', 0, b'n', 0, b't', 0];
+    let half = [2, 9, 4, 0x3C, 0xD8];
+    buffer[..32].copy_from_slice(&own_table()[..32]);
+    buffer[1] = 32;
+    esa::append(buffer, esa::ZONE, CHIP, &[0; 32], &zone)?;
+    let answer = esa::append(buffer, esa::STRING, CHIP, &[0; 32], &text);
+    let length = told("a name appended", answer, "bytes")?;
+    for k in 0..4 {
+        if let Err(refusal) = label(&buffer[..length], k) {
+            println!("  label: {refusal}");
+        }
+    }
+    let answer = esa::append(buffer, esa::STRING, CHIP, &[0; 32], &half);
+    let _ = told("half a character appended", answer, "bytes");
+    Ok(())
+}
+
 /// Writes a table again: the same table, but for its reserved places, which become zero.
 fn again(table: &[u8]) -> Result<(), esa::Refusal> {
     let mut out = [0; esa::LONGEST];
@@ -424,6 +495,9 @@ fn tour(table: &[u8]) -> Result<bool, esa::Refusal> {
 
     println!("\nthe same with a lamp of three colours");
     colours(&mut buffer)?;
+
+    println!("\na table with a name");
+    names(&mut buffer)?;
     Ok(answer.is_ok())
 }
 

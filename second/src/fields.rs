@@ -5,12 +5,10 @@
 use crate::access::{bytes_of, description};
 use crate::answer::Refusal;
 use crate::element::{fixed_length, id, read_element};
+use crate::label::TEXT_DATA;
 use crate::numbers::{put_description, put_element, Numbers};
 use crate::settings::Settings;
 use std::ops::Range;
-
-/// Where a string's text starts (000, Table 29).
-const TEXT_DATA: usize = 6;
 
 /// The description's numbers, as start takes them; all other bytes 0.
 pub fn describe(table: &[u8], settings: Settings, numbers: &mut Numbers) -> Result<(), Refusal> {

@@ -6,6 +6,7 @@ use crate::blocks::{count_speed_blocks, register_blocks_fill, SpeedBlocks};
 use crate::pins::{Pin, ALL, ANALOGUE, CHIP_SELECT, FAN_LIST, STATUS_LED};
 use crate::record::*;
 use crate::settings::{Chip, Rules};
+use crate::text::well_formed;
 
 /// 25 for a description: serial over 24 bits, power units over 7.
 pub fn description_fits(description: &Description) -> bool {
@@ -56,7 +57,7 @@ pub fn part_fits(element: &Element, part: &[u8]) -> bool {
     }
 }
 
-/// 9: no reserved code and no other content that rule 9 names.
+/// 9: no reserved code and no other content that rule 9 names. The part fits.
 pub fn codes_good(element: &Element, part: &[u8]) -> bool {
     if let Some(attachment) = element.attachment() {
         if !attachment_good(attachment) {
@@ -80,7 +81,8 @@ pub fn codes_good(element: &Element, part: &[u8]) -> bool {
         Element::Controller(_) => {
             SpeedBlocks { rest: part }.all(|block| block.pairs.entries() != 0)
         }
-        Element::Text(_) => part.first() != Some(&0),
+        // Number and locale stand before the text.
+        Element::Text(_) => part[0] != 0 && well_formed(&part[3..]),
         _ => true,
     }
 }

@@ -155,11 +155,11 @@ fn pins_carry_the_chip_that_was_named() {
 /// The table's own refusal is that of the chip.
 #[test]
 fn a_table_for_the_320_only_has_no_elements_on_the_321() {
-    let table = zoned(&[raw::text(1, b"x"), raw::current(1, 0x24)]);
+    let table = zoned(&[raw::text(1, b"xy"), raw::current(1, 0x24)]);
     assert!(element(&table, 1, ON_320).is_ok());
-    assert_eq!(element(&table, 1, ON_321), Err(Refusal::at(10, 53)));
-    assert_eq!(element(&table, 9, ON_321), Err(Refusal::at(10, 53)));
-    assert_eq!(description(&table, ON_321), Err(Refusal::at(10, 53)));
-    assert_eq!(part(&table, 1, ON_320).len(), 4);
+    assert_eq!(element(&table, 1, ON_321), Err(Refusal::at(10, 54)));
+    assert_eq!(element(&table, 9, ON_321), Err(Refusal::at(10, 54)));
+    assert_eq!(description(&table, ON_321), Err(Refusal::at(10, 54)));
+    assert_eq!(part(&table, 1, ON_320).len(), 5);
     assert!(part(&table, 1, ON_321).is_empty());
 }

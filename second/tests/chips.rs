@@ -92,7 +92,7 @@ fn the_same_bytes_that_are_no_pins() {
         gives(&zoned(&[raw::digital(1, 0, byte)]), 0, 2);
         gives(&zoned(&[raw::controller(1, 1, byte, &[1])]), 0, 2);
         gives(&zoned(&[with(&[(9, byte)], raw::led(1, [0xFF; 3]))]), 0, 2);
-        gives(&zoned(&[raw::text(1, &[byte; 9])]), 0, 2);
+        gives(&zoned(&[raw::text(1, &[byte; 10])]), 0, 2);
     }
 }
 
@@ -233,7 +233,7 @@ fn append_takes_what_has_no_pins_on_both_chips() {
         raw::tachometer(1, 0, 0x40, 0, 0),
         raw::external(1, 1, 0x40, [0; 3]),
         raw::zone(1, 0),
-        raw::text(1, b"x"),
+        raw::text(1, b"xy"),
     ] {
         for chip in Chip::BOTH {
             let new_length = 20 + bytes.len();

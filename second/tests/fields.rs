@@ -23,7 +23,7 @@ fn numbers(first: &[u8]) -> Numbers {
 /// A table of these elements with zone 7 and strings 8 and 9 behind them.
 fn named(elements: &[&[u8]]) -> Vec<u8> {
     let mut all: Vec<Vec<u8>> = elements.iter().map(|bytes| bytes.to_vec()).collect();
-    all.extend([raw::zone(7, 9), raw::text(8, b"eight"), raw::text(9, b"")]);
+    all.extend([raw::zone(7, 9), raw::text(8, b"eighth"), raw::text(9, b"")]);
     raw::table(&all)
 }
 
@@ -192,19 +192,19 @@ fn parts_and_texts() {
         (157, 157), // 146 + 11
         (169, 184), // from byte 12 on: blocks of 5, of 1 and of 9
         (187, 214), // 27 bytes of a zone
-        (217, 225), // 3 and five of text
-        (228, 231), // 3 and no text
+        (217, 226), // 3 and six of text
+        (229, 232), // 3 and no text
     ];
     for (k, (from, to)) in wanted.into_iter().enumerate() {
         assert_eq!(part_place(&table, k, ON_320), Ok(from..to), "{k}");
         let text = match k {
-            10 => Some(220..225),
-            11 => Some(231..231),
+            10 => Some(220..226),
+            11 => Some(232..232),
             _ => None,
         };
         assert_eq!(text_place(&table, k, ON_320), Ok(text), "{k}");
     }
-    assert_eq!(&table[220..225], b"eight");
+    assert_eq!(&table[220..226], b"eighth");
 }
 
 #[track_caller]
@@ -277,7 +277,7 @@ fn of_the_chip() {
         raw::controller(1, 1, 0x40, &[1]),
         raw::tachometer(1, 3, 0x14, 0, 0),
         raw::rgb(1, 0x11, 0x12, 0x13),
-        raw::text(1, b"x"),
+        raw::text(1, b"xy"),
         raw::water(1, 0x15),
         raw::voltage(1, 0x16),
         raw::external(1, 0, 0x40, [0; 3]),

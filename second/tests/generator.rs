@@ -144,6 +144,9 @@ fn mixed_tables_have_4096_bytes_and_all_kinds() {
         assert_eq!(table.len(), 4096);
         let kinds: HashSet<u8> = kinds(&table).into_iter().collect();
         assert_eq!(kinds.len(), 14, "{kinds:?}");
+        // Texts of up to 64 units.
+        let lengths = walk(&table).filter(|(_, bytes)| bytes[0] == 0x0C);
+        assert!(lengths.map(|(_, bytes)| bytes.len()).max() <= Some(6 + 128));
         different.insert(table);
     }
     assert_eq!(different.len(), 1000);
@@ -194,7 +197,7 @@ fn the_same_seed_gives_the_same_tables() {
         hash
     };
     let found = [0, 3].map(fingerprint);
-    assert_eq!(found, [0x6D91_1B93_E7FA_6267, 0x1600_F125_67D0_26CD]);
+    assert_eq!(found, [0x0D1B_4CCF_C337_1EF7, 0xDD09_5C5E_E2C7_8300]);
 }
 
 #[test]
@@ -207,7 +210,7 @@ fn mixed_tables_have_as_many_elements_as_asked_for() {
             let verdict = second::check(&table, settings);
             assert_eq!(verdict, Verdict::Accepted(elements));
             let kinds: HashSet<u8> = kinds(&table).into_iter().collect();
-            assert_eq!(kinds.len() == 14, elements >= 15, "{elements}: {kinds:?}");
+            assert_eq!(kinds.len() == 14, elements >= 18, "{elements}: {kinds:?}");
         }
     }
 }

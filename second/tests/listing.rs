@@ -53,9 +53,9 @@ fn one_line_for_each_kind() {
         raw::controller(1, 3, 0x14, &[1]),
         raw::tachometer(1, 1, 0x40, 0, 0),
         raw::rgb(1, 0x06, 0x11, 0x13),
-        raw::text(9, b"x"),
+        raw::text(9, b"xy"),
     ]);
-    let wanted = "T\t0.90\t215\t2\t0\t7\tself\t-\t-\t-\n\
+    let wanted = "T\t0.90\t216\t2\t0\t7\tself\t-\t-\t-\n\
         E\t16\t0B\t1\t-\n\
         E\t46\t01\t1\t-\n\
         E\t67\t01\t1\tP1.4\n\

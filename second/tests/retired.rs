@@ -55,7 +55,7 @@ fn byte_8_of_other_kinds_is_no_bus_type() {
     gives(&zoned(&[raw::led(1, [0x02, 0xFF, 0xFF])]), 0, 2);
     gives(&zoned(&[with(&[(8, 2)], raw::analogue(1, 0x20))]), 9, 46);
     gives(&zoned(&[with(&[(8, 2)], raw::current(1, 0x20))]), 10, 46);
-    gives(&zoned(&[raw::text(1, &[2; 9])]), 0, 2);
+    gives(&zoned(&[raw::text(1, &[2; 10])]), 0, 2);
 }
 
 #[test]

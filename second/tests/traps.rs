@@ -108,13 +108,13 @@ fn a_zone_is_30_bytes_and_a_string_6_or_more() {
             gives(&raw::table(&[zone]), 8, 16);
         }
         let string = raw::element(0x0C, &vec![5; length - 3]);
-        if length >= 6 {
-            gives(&raw::table(&[string]), 0, 1);
-        } else {
-            gives(&raw::table(&[string]), 8, 16);
+        match length {
+            ..6 => gives(&raw::table(&[string]), 8, 16),
+            _ if length % 2 == 1 => gives(&raw::table(&[string]), 9, 16),
+            _ => gives(&raw::table(&[string]), 0, 1),
         }
     }
-    gives(&raw::table(&[raw::text(5, &[0x41; 67])]), 0, 1);
+    gives(&raw::table(&[raw::text(5, &[0x41; 68])]), 0, 1);
 }
 
 #[test]
@@ -136,7 +136,7 @@ fn a_13th_zone_that_repeats_a_number_is_11() {
 
 #[test]
 fn one_string_number_in_two_locales_is_12() {
-    let other = with(&[(4, 0x07)], raw::text(7, b"z"));
+    let other = with(&[(4, 0x07)], raw::text(7, b"zz"));
     gives(&raw::table(&[raw::text(7, &[]), other]), 12, 22);
     gives(&raw::table(&[raw::text(7, &[]), raw::zone(7, 0)]), 0, 2);
     gives(&raw::table(&[raw::zone(7, 0), raw::zone(7, 0)]), 12, 46);
@@ -204,7 +204,7 @@ fn rule_14_looks_at_the_description_first() {
 
 #[test]
 fn other_shalls_of_the_specification_are_no_rules() {
-    let orphan = raw::text(50, b"nobody names me");
+    let orphan = raw::text(50, b"nobody names me.");
     let lonely_tachometer = raw::tachometer(1, 0, 0x40, 0, 0);
     let automatic = with(&[(5, 0xFF)], raw::zone(2, 0));
     let msb = with(&[(13, 0xFF)], raw::digital(1, 0, 0x40));

@@ -316,7 +316,7 @@ fn parts_that_fit_no_layout_are_8() {
         let zone = call(&Element::Zone(Zone), &part);
         assert_eq!(zone.is_ok(), length == 27);
         let text = call(&Element::Text(Text), &part);
-        assert_eq!(text.is_ok(), length >= 3);
+        assert_eq!(text.is_ok(), length >= 3 && length % 2 == 1);
     }
     assert_eq!(
         call(&Element::Text(Text), &[0, 9, 4]),
@@ -328,11 +328,12 @@ fn parts_that_fit_no_layout_are_8() {
 #[test]
 fn a_string_too_long_for_a_two_byte_length_is_16() {
     let mut lent = buffer(70_000, 16);
-    for length in [4077, 4078, 65_532, 65_533, 65_536, 69_000] {
-        let wanted = if length == 4077 {
-            Ok(4096)
-        } else {
-            Err(Refusal::at(16, 0))
+    // 9 comes before 16: a length that makes the text odd.
+    for length in [4077, 4078, 4079, 65_532, 65_533, 65_537, 69_001] {
+        let wanted = match length {
+            4077 => Ok(4096),
+            _ if length % 2 == 0 => Err(Refusal::at(9, 16)),
+            _ => Err(Refusal::at(16, 0)),
         };
         let answer = append(&mut lent, &Element::Text(Text), &vec![1; length]);
         assert_eq!(answer, wanted, "{length}");

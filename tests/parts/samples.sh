@@ -53,8 +53,8 @@ sample_with() { # NAME STATUS OPTION STATUS
     try "./esa list $3 of $1 is as its text says" as_the_text_says "list $3" "$1" "$4"
 }
 
-nine_samples() {
-    [ "$(find "$tables" -type f | wc -l)" -eq 18 ]
+ten_samples() {
+    [ "$(find "$tables" -type f | wc -l)" -eq 20 ]
 }
 
 samples() {
@@ -63,9 +63,10 @@ samples() {
     sample water-kit 0
     sample spring 1
     sample mute 1
+    sample blank 1
     sample lamp 1
     sample twice 1
     sample_with larger-chip 0 '--chip 321' 1
     sample_with old-box 1 --archive 0
-    try "nine sample tables with a text each, and nothing else" nine_samples
+    try "ten sample tables with a text each, and nothing else" ten_samples
 }

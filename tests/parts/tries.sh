@@ -54,4 +54,5 @@ first_use() {
     grep '^esa:\|^rt:' "$work/seen.err"
     "$esa" rewrite "$tables/quiet-box.esa" "$work/first" && rm -f "$work/first"
     [ ! -f "$root/crates/list/src/main.rt" ] || "$esa" list "$tables/quiet-box.esa" >/dev/null
+    "$esa" label "$tables/quiet-box.esa" 0 >/dev/null
 }

@@ -123,8 +123,28 @@ function of_codes(    id) {
     if (id == 13) return of_identifier()
     if (id != 12) return say("other")
     at(place + 3)
-    return say("string")
+    return byte(place + 3) == 0 ? say("string") : of_text()
 }
+
+# The first unit of a text that is not well-formed, which stands low byte first from byte 6 of the string on; or half a unit.
+function of_text(    p, end) {
+    end = place + V["length"]
+    for (p = place + 6; p + 1 < end; p += 2) {
+        at(p)
+        V["unit"] = hex(p + 1) hex(p)
+        if (is_low(p)) return say("low")
+        if (!is_high(p)) continue
+        if (p + 3 >= end || !is_low(p + 2)) return say("high")
+        p += 2
+    }
+    at(p)
+    V["bytes"] = end - place - 6
+    return say(p < end ? "odd" : "other")
+}
+
+function is_high(p) { return byte(p + 1) >= 216 && byte(p + 1) < 220 }
+
+function is_low(p) { return byte(p + 1) >= 220 && byte(p + 1) < 224 }
 
 function of_calibration(    p) {
     for (p = place + 10; p < place + 18 && word(p) < 1024; p += 2) continue

@@ -1,4 +1,4 @@
-//! Every field of every element, every part and text, every block and pair, on both sides.
+//! Every field of every element, parts, texts and labels, every block and pair, on both sides.
 
 mod batch;
 mod parts;
@@ -20,6 +20,10 @@ pub use tally::Tally;
 
 /// Readings of one request; the driver takes no more than twice as many.
 const MOST_READINGS: usize = 16_384;
+/// Of a table with more elements only some calls are made on each.
+const MANY: usize = 24;
+/// Lengths of the lent names.
+const NAMES: [u64; 5] = [0, 1, 6, 64, 70_000];
 /// For the parts that are damaged or random.
 const SEED: u64 = 2_311;
 
@@ -42,8 +46,17 @@ fn places(verdict: Verdict, length: usize) -> Vec<u64> {
 fn batches(origin: Origin, settings: u64, table: &Rc<[u8]>, parts: bool) -> Vec<Batch> {
     let verdict = second::check(table, Settings::of_number(settings));
     let mut readings = vec![Reading::Describe];
-    for k in places(verdict, table.len()) {
-        readings.extend([Reading::Fields(k), Reading::Part(k), Reading::Text(k)]);
+    let places = places(verdict, table.len());
+    let all = places.len() <= MANY;
+    for (at, k) in places.into_iter().enumerate() {
+        readings.push(Reading::Fields(k));
+        let name = NAMES[(at + table.len()) % NAMES.len()];
+        let others = [Reading::Part(k), Reading::Text(k), Reading::Label(k, name)];
+        match all {
+            true => readings.extend(others),
+            // One of them in turn, as each call checks the whole table.
+            false => readings.push(others[(at + table.len()) % others.len()]),
+        }
     }
     let mut batches = vec![Batch {
         origin,

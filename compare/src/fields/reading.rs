@@ -5,7 +5,7 @@ use crate::call::index;
 use second::answer::number;
 use second::blocks::{colour_block, register_block, speed_block, Pairs, RegisterPair};
 use second::numbers::Numbers;
-use second::{Refusal, Settings};
+use second::{Lent, Refusal, Settings};
 use std::fmt;
 use std::ops::Range;
 
@@ -25,6 +25,8 @@ pub enum Reading {
     /// Of a part of 0Dh: block w, and pair i of it.
     Colours(u64),
     Colour(u64, u64),
+    /// Of a table: the label of element k, with a lent name of so many bytes.
+    Label(u64, u64),
 }
 
 /// What the numbers hold before a call; the driver has the same.
@@ -33,7 +35,7 @@ pub fn pattern() -> Numbers {
 }
 
 impl Reading {
-    pub const NAMES: [&'static str; 10] = [
+    pub const NAMES: [&'static str; 11] = [
         "esa_describe",
         "esa_fields",
         "esa_part",
@@ -44,6 +46,7 @@ impl Reading {
         "esa_entry",
         "esa_colours",
         "esa_colour",
+        "esa_label",
     ];
     /// Bytes of a reading in a request.
     pub const LENGTH: usize = 17;
@@ -61,6 +64,7 @@ impl Reading {
             Reading::Entry(..) => 7,
             Reading::Colours(_) => 8,
             Reading::Colour(..) => 9,
+            Reading::Label(..) => 10,
         }
     }
 
@@ -74,9 +78,8 @@ impl Reading {
             Reading::Describe => (0, 0),
             Reading::Fields(k) | Reading::Part(k) | Reading::Text(k) => (k, 0),
             Reading::Block(one) | Reading::Entries(one) | Reading::Colours(one) => (one, 0),
-            Reading::Pair(block, i) | Reading::Entry(block, i) | Reading::Colour(block, i) => {
-                (block, i)
-            }
+            Reading::Pair(one, other) | Reading::Entry(one, other) => (one, other),
+            Reading::Colour(one, other) | Reading::Label(one, other) => (one, other),
         };
         to.push(self.which());
         to.extend_from_slice(&first.to_le_bytes());
@@ -123,6 +126,9 @@ impl Reading {
             Reading::Entry(w, i) => entry(register_block(bytes, index(w)), i),
             Reading::Colours(w) => entries(colour_block(bytes, index(w))),
             Reading::Colour(w, i) => entry(colour_block(bytes, index(w)), i),
+            Reading::Label(k, length) => {
+                second::label_place(bytes, index(k), settings, index(length)).map(lent)
+            }
         })
     }
 }
@@ -140,6 +146,15 @@ fn entry(block: Option<Pairs>, i: u64) -> Result<usize, Refusal> {
 /// Place + 65,536 x length.
 fn packed(range: Range<usize>) -> usize {
     range.start + 65_536 * range.len()
+}
+
+/// Which slice, in 8 bits; the place there in 24, and the length in 24.
+fn lent((lent, range): (Lent, Range<usize>)) -> usize {
+    let which = match lent {
+        Lent::Table => 0,
+        Lent::Name => 1,
+    };
+    which + (range.start << 8) + (range.len() << 32)
 }
 
 /// Address + 65,536 x data.
@@ -165,6 +180,9 @@ impl fmt::Display for Reading {
             Reading::Entry(w, i) => write!(to, "pair {i} of register block {w} of the part"),
             Reading::Colours(w) => write!(to, "colour {w} of the part"),
             Reading::Colour(w, i) => write!(to, "pair {i} of colour {w} of the part"),
+            Reading::Label(k, length) => {
+                write!(to, "label of element {k}, a name of {length} bytes lent")
+            }
         }
     }
 }

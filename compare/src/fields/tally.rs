@@ -13,7 +13,7 @@ pub struct Tally {
     pub answers: u64,
     pub differences: Differences,
     /// By call: how often each number came, both sides agreeing.
-    by_call: [Answers; 10],
+    by_call: [Answers; 11],
 }
 
 impl Takes<Batch> for Tally {
@@ -52,7 +52,7 @@ impl Tally {
         let mut all = true;
         for settings in Settings::ALL {
             all &= came(0, settings, &of_a_table(settings, &[]));
-            for call in 1..=3 {
+            for call in [1, 2, 3, 10] {
                 all &= came(call, settings, &of_a_table(settings, &[17]));
             }
         }

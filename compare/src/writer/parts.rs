@@ -61,8 +61,23 @@ fn long(sample: &Sample, to: Sink) -> Result<(), String> {
     Ok(())
 }
 
-/// Long strings in buffers with room for them and without.
+/// Long strings in buffers with room for them and without; texts at the edges of rule 9, with room and without.
 fn strings(sample: &Sample, to: Sink) -> Result<(), String> {
+    const UNITS: [u16; 8] = [
+        0x0041, 0xD7FF, 0xD800, 0xDBFF, 0xDC00, 0xDFFF, 0xE000, 0xFFFE,
+    ];
+    for one in UNITS {
+        for two in UNITS {
+            let text: Vec<u8> = [one, two].into_iter().flat_map(u16::to_le_bytes).collect();
+            for end in 0..=text.len() {
+                for number in [0, 1] {
+                    let part = [&[number, 9, 4], &text[..end]].concat();
+                    with(sample, part.clone(), 100, to)?;
+                    with(sample, part, 16, to)?;
+                }
+            }
+        }
+    }
     for length in lengths() {
         for size in [16, 4_095, 4_096, 4_097, 65_535, 65_536, 70_000] {
             with(sample, vec![1; length], size, to)?;

@@ -77,7 +77,7 @@ pub fn elements(chip: Chip) -> Vec<Sample> {
         raw::voltage(1, 0x22),
         raw::external(1, 0, 0x40, [1, 0, 2]),
         raw::external(1, 3, 0x13, [0; 3]),
-        raw::text(1, b"x"),
+        raw::text(1, b"xy"),
         raw::zone(1, 0),
     ];
     list.iter().map(|bytes| Sample::of(bytes, chip)).collect()

@@ -5,7 +5,7 @@ use super::rewritings;
 use super::runs::{self, noise};
 use crate::settings::writing;
 use second::element::{fixed_length, id};
-use second::generator::{writer_call, What};
+use second::generator::{spoil, text, writer_call, What};
 use second::numbers::{put_description, put_element, Numbers, CHIP};
 use second::random::Random;
 use second::Chip;
@@ -174,8 +174,14 @@ fn likely(id: u8, random: &mut Random) -> Vec<u8> {
         id::TACHOMETER => [pairs(random), pairs(random)].concat(),
         id::EXTERNAL_RGB => [pairs(random), pairs(random), pairs(random)].concat(),
         id::TEXT => {
-            let length = random.below(20);
-            random.bytes(length)
+            let mut body = random.bytes(3);
+            let units = random.below(40);
+            let mut text = text(random, units);
+            if random.chance(30) {
+                spoil(random, &mut text);
+            }
+            body.extend(text);
+            body
         }
         id::ZONE => random.bytes(27),
         _ => Vec::new(),

@@ -7,3 +7,5 @@ pub mod Retired
 pub mod Tried
 pub mod BadWriters
 pub mod OtherChip
+pub mod Malformed
+pub mod Back

@@ -16,6 +16,7 @@ use Rattle.format.specs.declared.answers.Described.{Described}
 use Rattle.format.specs.declared.answers.Asked.{Asked}
 use Rattle.format.specs.declared.answers.Asked.the-variants.{Element, Refused as NotGiven}
 use Rattle.format.proofs.Asking.{gives-unique}
+use Rattle.format.proofs.Strings.{given-text}
 use Rattle.reader.specs.Answered.{GivesElement, GivesPart}
 use Rattle.reader.specs.PartPlace.{GivesPlace}
 use Rattle.reader.specs.declared.Placed.{Placed}
@@ -66,7 +67,14 @@ module _ (σ : Settings) (b : List ℕ) (k : ℕ) (a a′ : Asked) (g : GivesEle
   fields-for p n r after h m l = record { answer = a′; part = p; gives = h; number = m; leaves = l }
 
   pub text-for : (r : ℕ) → TextAsked σ a′ b k r → TextFor σ b k r
-  text-for r t = record { answer = a′; part = gives-as .beside; gives = gives-as .gives; text = t }
+  text-for r t =
+      record {
+        answer = a′;
+        part = gives-as .beside;
+        gives = gives-as .gives;
+        text = t;
+        well = given-text σ b k a′ (gives-as .beside) (gives-as .gives);
+      }
 
 -- the place of its part, and of its text
 module _ (σ : Settings) (b : List ℕ) (k : ℕ) (x x′ : Placed) (g : GivesPlace σ b k x) (is : x ≡ x′) where

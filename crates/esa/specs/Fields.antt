@@ -9,7 +9,7 @@ use Rattle.format.specs.declared.answers.Described.{Described}
 use Rattle.format.specs.declared.answers.Described.the-variants.{Description, Refused as NotDescribed}
 use Rattle.format.specs.declared.answers.Asked.{Asked}
 use Rattle.format.specs.declared.answers.Asked.the-variants.{Element, Refused as NotGiven}
-use Rattle.numbers.specs.Into.{descriptionInto, elementInto}
+use Rattle.numbered.specs.Into.{descriptionInto, elementInto}
 use Rattle.esa.specs.Face.{packs, packedAsked}
 use Rattle.format.specs.declared.settings.Settings.{Settings}
 use Rattle.format.specs.declared.pins.Chip.{Chip}

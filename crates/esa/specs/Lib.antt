@@ -2,5 +2,6 @@ pub mod Settled
 pub mod Face
 pub mod Fields
 pub mod Places
+pub mod Labels
 pub mod Blocks
 pub mod Writing

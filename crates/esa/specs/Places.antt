@@ -8,7 +8,9 @@ use lib.ListN.{length}
 use lib.Dec.{eqb}
 use Rattle.format.specs.Records.{textOf}
 use Rattle.format.specs.Layout.{idOf}
+use Rattle.format.specs.Utf16.{wellFormed}
 use Rattle.format.specs.Asked.{Gives}
+use Rattle.format.specs.declared.records.Element.the-variants.{Text}
 use Rattle.format.specs.declared.answers.Asked.{Asked}
 use Rattle.format.specs.declared.answers.Asked.the-variants.{Element, Refused as NotGiven}
 use Rattle.reader.specs.PartPlace.{GivesPlace}
@@ -57,3 +59,5 @@ pub record TextFor (σ : Settings) (b : List ℕ) (k r : ℕ) : Type 0 where
   pub part : List ℕ
   pub gives : Gives σ b k answer part
   pub text : TextAsked σ answer b k r
+  -- 'String text must now be well-formed UTF-16 ..; the string reader says so'
+  pub well : answer ≡ Element Text → wellFormed (textOf part) ≡ true

@@ -8,6 +8,7 @@ ghost use Rattle.esa.specs.Settled.{chipOf, rulesOf, settingsOf};
 ghost use Rattle.esa.specs.Face.{Checked, AskedFor, PartFor};
 ghost use Rattle.esa.specs.Fields.{DescribedFor, FieldsFor};
 ghost use Rattle.esa.specs.Places.{PlacedFor, TextPlaced, TextFor};
+ghost use Rattle.esa.specs.Labels.{LabelFor};
 ghost use Rattle.esa.specs.Blocks.{packedBlock, packedPair, packedEntries};
 ghost use Rattle.esa.specs.Writing.{StartedFor, AppendedFor, RewrittenFor};
 use format::answers::Asked;
@@ -37,7 +38,7 @@ pub extern "C" fn esa_describe(table: &[u8], settings: u64, numbers: &mut [u8; 3
     match reader::description(table, s) {
         Described::Description(d) => {
             let chip = s.chip;
-            *numbers = numbers::into::description(d, chip);
+            *numbers = numbered::description(d, chip);
             0
         }
         Described::Refused(k, p) => packing::pack(k, p),
@@ -61,7 +62,7 @@ pub extern "C" fn esa_fields(table: &[u8], k: usize, settings: u64, numbers: &mu
     match reader::element(table, k, s) {
         Asked::Element(e) => {
             let chip = s.chip;
-            *numbers = numbers::into::element(e, reader::part(table, k, s), chip);
+            *numbers = numbered::element(e, reader::part(table, k, s), chip);
             packing::pack(0, words::wide(elements::id_of(e)))
         }
         Asked::Refused(j, p) => packing::pack(j, p),
@@ -103,6 +104,16 @@ pub extern "C" fn esa_text(table: &[u8], k: usize, settings: u64) -> u64
         }
         Asked::Refused(j, p) => packing::pack(j, p),
     }
+}
+
+// The label of element k: of which slice it is a part, 0 the table or 1 the lent name, where in it, and how long. It is the whole
+// name, also where that is longer than the 24 bits of the length can say.
+#[no_mangle]
+pub extern "C" fn esa_label(table: &[u8], k: usize, settings: u64, name: &[u8]) -> u64
+    ensures { λ r. ⌜ LabelFor (settingsOf settings) (now (table .entry)) k (now (name .entry)) r ⌝ }
+{
+    let lent = name.len();
+    packing::label(labels::find(table, k, settings_of(settings)), lent)
 }
 
 // 09h: SPEED and ENTRIES of speed block j of a part.
@@ -159,7 +170,7 @@ pub extern "C" fn esa_start(buffer: &mut [u8], settings: u64, numbers: &[u8; 32]
     ensures { λ r. ⌜ StartedFor (chipOf settings) (now (buffer .entry)) (now (numbers .entry)) r (now (buffer .exit)) ⌝ }
 {
     let chip = chip_of(settings);
-    packing::written(writer::start(buffer, numbers::from::description(numbers), chip))
+    packing::written(writer::start(buffer, numbers::description(numbers), chip))
 }
 
 // Appends the element of this identifier in the numbers, with its variable part. Beside 0 stands the new length, beside a
@@ -175,7 +186,7 @@ pub extern "C" fn esa_append(
     ensures { λ r. ⌜ AppendedFor (chipOf settings) (now (buffer .entry)) id (now (numbers .entry)) (now (part .entry)) r (now (buffer .exit)) ⌝ }
 {
     let chip = chip_of(settings);
-    match numbers::from::element(id, numbers) {
+    match numbers::element(id, numbers) {
         MaybeElement::Element(e) => packing::written(writer::append(buffer, e, part, chip)),
         MaybeElement::Unknown => 7,
     }

@@ -4,11 +4,13 @@ ghost use Prim.Native.Nat.{_+_, _≤_, _<_};
 ghost use Rattle.format.specs.Answers.{valueOf, placeOfAsked, valueOfWritten};
 ghost use Rattle.esa.specs.Face.{packs, packed, packedAsked};
 ghost use Rattle.esa.specs.Places.{span as spanOf};
+ghost use Rattle.esa.specs.Labels.{within as withinOf, shown as shownOf, packedLabel, Fitting};
 ghost use Rattle.esa.specs.Blocks.{packedBlock, packedPair, packedEntries};
 ghost use Rattle.esa.specs.Writing.{packedWritten};
 use format::answers::Answer;
 use format::answers::Asked;
 use format::answers::Written;
+use labels::Source;
 use parts::MaybeBlock;
 use parts::MaybeEntries;
 use parts::MaybePair;
@@ -52,6 +54,33 @@ pub fn span(place: usize, len: usize) -> u64
     ensures { λ r. ⌜ r ≡ spanOf place len ⌝ }
 {
     pack(0, place + 65536 * len)
+}
+
+// Of a label: beside 0 from which slice it is, where in it and how long; `lent` is the length of the lent name.
+pub fn label(s: Source, lent: usize) -> u64
+    requires { ⌜ Fitting s ⌝ }
+    ensures { λ r. ⌜ r ≡ packedLabel s lent ⌝ }
+{
+    match s {
+        Source::Text(place, len) => within(0, place, len),
+        Source::Lent => within(1, 0, shown(lent)),
+        Source::Refused(j, p) => pack(j, p),
+    }
+}
+
+// A part of one of two lent slices, beside 0: which slice, the place in it, and the length.
+fn within(which: usize, place: usize, len: usize) -> u64
+    requires { ⌜ (which < 256) × (place < 16777216) × (len < 16777216) ⌝ }
+    ensures { λ r. ⌜ r ≡ withinOf which place len ⌝ }
+{
+    pack(0, which + 256 * (place + 16777216 * len))
+}
+
+// A length in 24 bits: of a longer one, the most that they can say.
+fn shown(len: usize) -> usize
+    ensures { λ r. ⌜ (r ≡ shownOf len) × (r < 16777216) ⌝ }
+{
+    if len < 16777216 { len } else { 16777215 }
 }
 
 // SPEED and ENTRIES.

@@ -14,8 +14,9 @@ use Rattle.format.specs.ZonesAndStrings.{rulesAgainst}
 use Rattle.format.specs.Verdict.{Verdict}
 use Rattle.format.specs.Decode.{decode}
 use Rattle.format.specs.Reader.{verdictOf, pass, step}
-use Rattle.format.specs.Known.{Row, starred, twofold, zoned, ofPins, apart, ofTheFanList, retired}
+use Rattle.format.specs.Known.{Row, starred, twofold, zoned, ofPins, apart, ofTheFanList, retired, texts}
 use Rattle.format.specs.WaterKit.{waterKit, manyPairs, lightRetired}
+use Rattle.format.specs.EachRule.{eachRule}
 use Rattle.format.specs.declared.answers.Answer.{Answer}
 use Rattle.format.specs.declared.answers.Answer.the-variants.{Accepted, Refused}
 use Rattle.format.proofs.Kept.{and-true}
@@ -72,111 +73,91 @@ right-each s (r ∷ rs) h =
 abbrev on : Chip → Rules → Settings
 on c k = record { chip = c; rules = k }
 
-computed : (c : Chip) (k : Rules) → right (on c k) starred ≡ true
+-- all rows of these settings, list by list
+abbrev every : Chip → Rules → List (List Row)
+every c k =
+    starred
+    ∷ twofold
+    ∷ zoned
+    ∷ ofPins
+    ∷ apart c
+    ∷ ofTheFanList
+    ∷ retired k
+    ∷ waterKit
+    ∷ manyPairs
+    ∷ lightRetired k
+    ∷ texts
+    ∷ eachRule
+    ∷ []
+
+abbrev allRight : Settings → List (List Row) → Bool
+allRight s [] = true
+allRight s (l ∷ ls) = right s l && allRight s ls
+
+abbrev Lists : Settings → List (List Row) → Type 0
+Lists s [] = Unit {0}
+Lists s (l ∷ ls) = Each s l × Lists s ls
+
+all-each : (s : Settings) (ls : List (List Row)) → allRight s ls ≡ true → Lists s ls
+all-each s [] h = tt
+all-each s (l ∷ ls) h =
+    let t = and-true (right s l) (allRight s ls) h in
+    (right-each s l (t .0), all-each s ls (t .1))
+
+computed : (c : Chip) (k : Rules) → allRight (on c k) (every c k) ≡ true
 unfolding verdictOf pass step decode descriptionRules ownRules rulesAgainst
 computed C8051F320 Ordinary = refl
 computed C8051F320 Archive = refl
 computed C8051F321 Ordinary = refl
 computed C8051F321 Archive = refl
 
-pub known-tables : (s : Settings) → Each s starred
-known-tables s = right-each s starred (computed (s .chip) (s .rules))
+module _ (s : Settings) where
+  lists : Lists s (every (s .chip) (s .rules))
+  lists = all-each s (every (s .chip) (s .rules)) (computed (s .chip) (s .rules))
 
--- the order of the rules
-computed-twofold : (c : Chip) (k : Rules) → right (on c k) twofold ≡ true
-unfolding verdictOf pass step decode descriptionRules ownRules rulesAgainst
-computed-twofold C8051F320 Ordinary = refl
-computed-twofold C8051F320 Archive = refl
-computed-twofold C8051F321 Ordinary = refl
-computed-twofold C8051F321 Archive = refl
+  pub known-tables : Each s starred
+  known-tables = lists .0
 
-pub order-of-rules : (s : Settings) → Each s twofold
-order-of-rules s = right-each s twofold (computed-twofold (s .chip) (s .rules))
+  -- the order of the rules
+  pub order-of-rules : Each s twofold
+  order-of-rules = lists .1 .0
 
--- a zone descriptor after the element that names it
-computed-zoned : (c : Chip) (k : Rules) → right (on c k) zoned ≡ true
-unfolding verdictOf pass step decode descriptionRules ownRules rulesAgainst
-computed-zoned C8051F320 Ordinary = refl
-computed-zoned C8051F320 Archive = refl
-computed-zoned C8051F321 Ordinary = refl
-computed-zoned C8051F321 Archive = refl
+  -- a zone descriptor after the element that names it
+  pub zone-comes-later : Each s zoned
+  zone-comes-later = lists .1 .1 .0
 
-pub zone-comes-later : (s : Settings) → Each s zoned
-zone-comes-later s = right-each s zoned (computed-zoned (s .chip) (s .rules))
+  -- one chip select for two, and a lamp on the fan list
+  pub pins-of-elements : Each s ofPins
+  pins-of-elements = lists .1 .1 .1 .0
 
--- one chip select for two, and a lamp on the fan list
-computed-pins : (c : Chip) (k : Rules) → right (on c k) ofPins ≡ true
-unfolding verdictOf pass step decode descriptionRules ownRules rulesAgainst
-computed-pins C8051F320 Ordinary = refl
-computed-pins C8051F320 Archive = refl
-computed-pins C8051F321 Ordinary = refl
-computed-pins C8051F321 Archive = refl
+  -- the pins that the 321 lacks
+  pub chips-apart : Each s (apart (s .chip))
+  chips-apart = lists .1 .1 .1 .1 .0
 
-pub pins-of-elements : (s : Settings) → Each s ofPins
-pins-of-elements s = right-each s ofPins (computed-pins (s .chip) (s .rules))
+  -- the fan list through the whole table
+  pub fan-list-order : Each s ofTheFanList
+  fan-list-order = lists .1 .1 .1 .1 .1 .0
 
--- the pins that the 321 lacks
-computed-apart : (c : Chip) (k : Rules) → right (on c k) (apart c) ≡ true
-unfolding verdictOf pass step decode descriptionRules ownRules rulesAgainst
-computed-apart C8051F320 Ordinary = refl
-computed-apart C8051F320 Archive = refl
-computed-apart C8051F321 Ordinary = refl
-computed-apart C8051F321 Archive = refl
+  -- a bus type that is retired, and 23 among the other rules
+  pub readers-apart : Each s (retired (s .rules))
+  readers-apart = lists .1 .1 .1 .1 .1 .1 .0
 
-pub chips-apart : (s : Settings) → Each s (apart (s .chip))
-chips-apart s = right-each s (apart (s .chip)) (computed-apart (s .chip) (s .rules))
+  -- 05h, 06h, 07h and 0Dh
+  pub water-kits : Each s waterKit
+  water-kits = lists .1 .1 .1 .1 .1 .1 .1 .0
 
--- the fan list through the whole table
-computed-fan-list : (c : Chip) (k : Rules) → right (on c k) ofTheFanList ≡ true
-unfolding verdictOf pass step decode descriptionRules ownRules rulesAgainst
-computed-fan-list C8051F320 Ordinary = refl
-computed-fan-list C8051F320 Archive = refl
-computed-fan-list C8051F321 Ordinary = refl
-computed-fan-list C8051F321 Archive = refl
+  -- .. with more pairs than one byte counts
+  pub many-pairs : Each s manyPairs
+  many-pairs = lists .1 .1 .1 .1 .1 .1 .1 .1 .0
 
-pub fan-list-order : (s : Settings) → Each s ofTheFanList
-fan-list-order s = right-each s ofTheFanList (computed-fan-list (s .chip) (s .rules))
+  -- 0Dh in block mode
+  pub light-retired : Each s (lightRetired (s .rules))
+  light-retired = lists .1 .1 .1 .1 .1 .1 .1 .1 .1 .0
 
--- a bus type that is retired, and 23 among the other rules
-computed-retired : (c : Chip) (k : Rules) → right (on c k) (retired k) ≡ true
-unfolding verdictOf pass step decode descriptionRules ownRules rulesAgainst
-computed-retired C8051F320 Ordinary = refl
-computed-retired C8051F320 Archive = refl
-computed-retired C8051F321 Ordinary = refl
-computed-retired C8051F321 Archive = refl
+  -- well-formed text and malformed
+  pub names-can-be-read : Each s texts
+  names-can-be-read = lists .1 .1 .1 .1 .1 .1 .1 .1 .1 .1 .0
 
-pub readers-apart : (s : Settings) → Each s (retired (s .rules))
-readers-apart s = right-each s (retired (s .rules)) (computed-retired (s .chip) (s .rules))
-
--- 05h, 06h, 07h and 0Dh
-computed-water : (c : Chip) (k : Rules) → right (on c k) waterKit ≡ true
-unfolding verdictOf pass step decode descriptionRules ownRules rulesAgainst
-computed-water C8051F320 Ordinary = refl
-computed-water C8051F320 Archive = refl
-computed-water C8051F321 Ordinary = refl
-computed-water C8051F321 Archive = refl
-
-pub water-kits : (s : Settings) → Each s waterKit
-water-kits s = right-each s waterKit (computed-water (s .chip) (s .rules))
-
-computed-many : (c : Chip) (k : Rules) → right (on c k) manyPairs ≡ true
-unfolding verdictOf pass step decode descriptionRules ownRules rulesAgainst
-computed-many C8051F320 Ordinary = refl
-computed-many C8051F320 Archive = refl
-computed-many C8051F321 Ordinary = refl
-computed-many C8051F321 Archive = refl
-
--- .. with more pairs than one byte counts
-pub many-pairs : (s : Settings) → Each s manyPairs
-many-pairs s = right-each s manyPairs (computed-many (s .chip) (s .rules))
-
--- 0Dh in block mode
-computed-light : (c : Chip) (k : Rules) → right (on c k) (lightRetired k) ≡ true
-unfolding verdictOf pass step decode descriptionRules ownRules rulesAgainst
-computed-light C8051F320 Ordinary = refl
-computed-light C8051F320 Archive = refl
-computed-light C8051F321 Ordinary = refl
-computed-light C8051F321 Archive = refl
-
-pub light-retired : (s : Settings) → Each s (lightRetired (s .rules))
-light-retired s = right-each s (lightRetired (s .rules)) (computed-light (s .chip) (s .rules))
+  -- what no other row meets
+  pub each-rule : Each s eachRule
+  each-rule = lists .1 .1 .1 .1 .1 .1 .1 .1 .1 .1 .1 .0

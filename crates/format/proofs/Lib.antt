@@ -2,6 +2,8 @@ pub mod Slots
 pub mod Blocks
 pub mod EachKind
 pub mod Kept
+pub mod Utf16
+pub mod Scalars
 pub mod Growing
 pub mod Placed
 pub mod Decoding
@@ -13,6 +15,7 @@ pub mod Written
 pub mod Whole
 pub mod Lengths
 pub mod Asking
+pub mod Strings
 pub mod KnownTables
 pub mod FieldRows
 pub mod Demand3

@@ -1,6 +1,6 @@
 -- One element of each of the fourteen kinds as raw bytes, every field another number, and beside it the record that the tables of
 -- the specification put there, field by field, its pins of the chip that the caller names. Reserved places are not zero. The bytes
--- were derived from the tables by hand and not from the layout. 31h to 3Ah fill fields of one byte, 41h to 4Ch those of two, lowest
+-- were derived from the tables by hand and not from the layout. 31h to 39h fill fields of one byte, 41h to 4Ch those of two, lowest
 -- byte first, and 96h to 99h reserved bytes.
 -- Assumes nothing.
 use Prim.Native.Nat.{ℕ}

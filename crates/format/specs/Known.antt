@@ -1,9 +1,10 @@
--- The starred rows of 'Known tables', rows of two faults at once, and a row whose zone descriptor comes after the element that
--- names it. Their answers are proved of the verdict itself, under all settings. The last rows tell the chips apart, and the ordinary
--- reader from the archive's.
+-- The starred rows of 'Known tables', rows of two faults at once, of a zone descriptor after the element that names it, of pins and of
+-- the fan list. Others tell the chips apart, the ordinary reader from the archive's, and well-formed text from malformed. Their answers
+-- are proved of the verdict itself, under all settings.
 -- Assumes nothing.
-use Prim.Native.Nat.{ℕ}
+use Prim.Native.Nat.{ℕ, _+_}
 use mathlib.Core.List.{List, [], _∷_, _++_}
+use lib.ListN.{length}
 use Rattle.format.specs.declared.pins.Chip.{Chip}
 use Rattle.format.specs.declared.pins.Chip.the-variants.{C8051F320, C8051F321}
 use Rattle.format.specs.declared.settings.Rules.{Rules}
@@ -19,6 +20,11 @@ headWith revision n device string power pin =
 -- table A, but for byte 0, byte 1, byte 8 and byte 9
 abbrev pub tableA : ℕ → ℕ → ℕ → ℕ → List ℕ
 tableA revision n power pin = headWith revision n 0x02 0x00 power pin ++ 0x00 ∷ []
+
+-- table A, but for its length by its two bytes
+abbrev pub tableOf : ℕ → ℕ → List ℕ
+tableOf low high =
+    0x01 ∷ low ∷ high ∷ 0x02 ∷ 0x00 ∷ 0x07 ∷ 0x00 ∷ 0x00 ∷ 0x80 ∷ 0xff ∷ 0xff ∷ 0xff ∷ 0x00 ∷ 0x00 ∷ 0x00 ∷ 0x00 ∷ []
 
 -- A with its length mended and an element added
 abbrev pub after : ℕ → List ℕ → List ℕ
@@ -93,12 +99,12 @@ twofold =
 
 -- 'Looking a zone up as its element is met: descriptors may come later.'
 
--- zone descriptor 1, with no string
-abbrev pub zone1 : List ℕ
-zone1 =
+-- a zone descriptor with this number and string index
+abbrev pub zoneZ : ℕ → ℕ → List ℕ
+zoneZ number index =
     0x0b
     ∷ 0x1e ∷ 0x00
-    ∷ 0x01 ∷ 0x00 ∷ 0x00
+    ∷ number ∷ index ∷ 0x00
     ∷ 0x00 ∷ 0x00 ∷ 0x00 ∷ 0x00
     ∷ 0x00 ∷ 0x00 ∷ 0x00 ∷ 0x00
     ∷ 0x00 ∷ 0x00 ∷ 0x00 ∷ 0x00
@@ -106,6 +112,9 @@ zone1 =
     ∷ 0x00 ∷ 0x00 ∷ 0x00 ∷ 0x00
     ∷ 0x00 ∷ 0x00 ∷ 0x00 ∷ 0x00
     ∷ []
+
+abbrev pub zone1 : List ℕ
+zone1 = zoneZ 0x01 0x00
 
 -- the row 'A, F, zone 1', and the same with the zone descriptor first
 abbrev pub zoned : List Row
@@ -129,14 +138,18 @@ sensorOn bus address =
 abbrev pub sensorS : ℕ → List ℕ
 sensorS select = sensorOn 0x03 select
 
--- a status LED in zone 1, its first lamp green and on this pin, the others unused
-abbrev pub ledL : ℕ → List ℕ
-ledL pin =
+-- a status LED in zone 1: its first lamp on this pin with this colour and purpose, the others unused and these beside them
+abbrev pub lampL : ℕ → ℕ → ℕ → List ℕ
+lampL pin code other =
     0x04
     ∷ 0x0e ∷ 0x00
     ∷ 0x00 ∷ 0xff ∷ 0xff ∷ 0xff ∷ 0x01
-    ∷ pin ∷ 0x10 ∷ 0xff ∷ 0x00 ∷ 0xff ∷ 0x00
+    ∷ pin ∷ code ∷ 0xff ∷ other ∷ 0xff ∷ other
     ∷ []
+
+-- .. the lamp red
+abbrev pub ledL : ℕ → List ℕ
+ledL pin = lampL pin 0x10 0x00
 
 abbrev pub ofPins : List Row
 ofPins =
@@ -147,15 +160,19 @@ ofPins =
 
 -- 'The smaller chip': a pin that the 320 has and the 321 lacks.
 
--- an analogue sensor in zone 1, on this pin
-abbrev pub sensorT : ℕ → List ℕ
-sensorT pin =
+-- an analogue sensor in zone 1: its thermal type, its pin, and VALUE100 by its two bytes
+abbrev pub sensorN : ℕ → ℕ → ℕ → ℕ → List ℕ
+sensorN thermal pin low high =
     0x02
     ∷ 0x14 ∷ 0x00
     ∷ 0x00 ∷ 0xff ∷ 0xff ∷ 0xff ∷ 0x01
-    ∷ 0x01 ∷ pin
-    ∷ 0x00 ∷ 0x00 ∷ 0x00 ∷ 0x00 ∷ 0x00 ∷ 0x00 ∷ 0x00 ∷ 0x00 ∷ 0x00 ∷ 0x00
+    ∷ thermal ∷ pin
+    ∷ 0x00 ∷ 0x00 ∷ 0x00 ∷ 0x00 ∷ 0x00 ∷ 0x00 ∷ 0x00 ∷ 0x00 ∷ low ∷ high
     ∷ []
+
+-- .. a thermistor on this pin
+abbrev pub sensorT : ℕ → List ℕ
+sensorT pin = sensorN 0x01 pin 0x00 0x00
 
 -- an answer of the 320, and one of the 321
 abbrev pub by : Chip → Answer → Answer → Answer
@@ -247,4 +264,33 @@ retired k =
     ∷ (after 30 (tachometerOn 0x02) gives byRules k (Refused 23 16) (Refused 13 16))
     ∷ (tableWith 60 0x02 0x09 0x80 0xff ++ tachometerOn 0x02 ++ zone1 gives byRules k (Refused 23 16) (Refused 14 0))
     ∷ (tableWith 60 0x02 0x00 0x80 0x03 ++ tachometerOn 0x02 ++ zone1 gives byRules k (Refused 23 16) (Refused 15 16))
+    ∷ []
+
+-- 'Names that can be read': a string with this number and text, and string 1.
+abbrev pub stringN : ℕ → List ℕ → List ℕ
+stringN number text = 0x0c ∷ (6 + length text) ∷ 0x00 ∷ number ∷ 0x09 ∷ 0x04 ∷ text
+
+abbrev pub stringS : List ℕ → List ℕ
+stringS text = stringN 0x01 text
+
+abbrev pub called : List ℕ → List ℕ
+called text = after (22 + length text) (stringS text)
+
+abbrev pub texts : List Row
+texts =
+    -- no text; a pair; FFFEh, D7FFh, E000h
+    (called [] gives Accepted 1)
+    ∷ (called (0x3d ∷ 0xd8 ∷ 0x0a ∷ 0xde ∷ []) gives Accepted 1)
+    ∷ (called (0xfe ∷ 0xff ∷ []) gives Accepted 1)
+    ∷ (called (0xff ∷ 0xd7 ∷ []) gives Accepted 1)
+    ∷ (called (0x00 ∷ 0xe0 ∷ []) gives Accepted 1)
+    -- a lone high surrogate, one at the end, a lone low one, low before high, an odd number of bytes
+    ∷ (called (0x00 ∷ 0xd8 ∷ 0x41 ∷ 0x00 ∷ []) gives Refused 9 16)
+    ∷ (called (0x41 ∷ 0x00 ∷ 0xff ∷ 0xdb ∷ []) gives Refused 9 16)
+    ∷ (called (0x00 ∷ 0xdc ∷ []) gives Refused 9 16)
+    ∷ (called (0x0a ∷ 0xde ∷ 0x3d ∷ 0xd8 ∷ []) gives Refused 9 16)
+    ∷ (called (0x41 ∷ []) gives Refused 9 16)
+    ∷ (called (0x41 ∷ 0x00 ∷ 0x42 ∷ []) gives Refused 9 16)
+    -- malformed and with the number of the string before: 9 before 12
+    ∷ (after 30 (stringS [] ++ stringS (0xff ∷ 0xdf ∷ [])) gives Refused 9 22)
     ∷ []

@@ -2,6 +2,7 @@ pub mod Slots
 pub mod Records
 pub mod Layout
 pub mod Pins
+pub mod Utf16
 pub mod Rules
 pub mod FanList
 pub mod ZonesAndStrings
@@ -14,6 +15,7 @@ pub mod Cleared
 pub mod Asked
 pub mod Known
 pub mod WaterKit
+pub mod EachRule
 pub mod FieldRows
 pub mod Bargain
 pub mod Decode

@@ -7,10 +7,11 @@ use mathlib.Core.List.{List, [], _∷_}
 use mathlib.Core.Option.{Option, none, some}
 use lib.ListN.{length}
 use lib.Dec.{eqb, ltb, leb}
-use Rattle.format.specs.Records.{Block, Record, digital, analogue, fan, led, water, pump, voltage, current, controller, tachometer, zone, string, external, rgb, stringNumber, elementOf}
+use Rattle.format.specs.Records.{Block, Record, digital, analogue, fan, led, water, pump, voltage, current, controller, tachometer, zone, string, external, rgb, stringNumber, textOf, elementOf}
 use Rattle.format.specs.Slots.{allRoomy}
 use Rattle.format.specs.Layout.{opening, fixed}
 use Rattle.format.specs.Pins.{among, ofChip, allowed, unused, allowedOrUnused, standing}
+use Rattle.format.specs.Utf16.{wellFormed}
 use Rattle.format.specs.declared.units.Counts.{Counts}
 use Rattle.format.specs.declared.pins.Use.the-variants.{FanPin, AnaloguePin, ChipSelect, StatusLed, HardwareRevision}
 use Rattle.format.specs.declared.pins.Pin.{Pin}
@@ -122,7 +123,7 @@ chipIdentifiers = 1 ∷ 2 ∷ 3 ∷ []
 abbrev pub counted : PwmFan → Bool
 counted f = not (unused (f .tachometer)) || eqb (f .ppr) 0
 
--- 9: 'a string numbered 0', and those above
+-- 9: 'a string numbered 0', 'malformed text, an odd number of bytes included', and those above
 abbrev pub coded : Record → Bool
 coded (digital d) = addressed (d .bus) (d .address)
 coded (analogue a) =
@@ -137,7 +138,7 @@ coded (current c) = true
 coded (controller d bs) = addressed (d .bus) (d .address) && filled bs
 coded (tachometer d a b) = addressed (d .bus) (d .address)
 coded (zone bytes) = true
-coded (string bytes) = not (eqb (stringNumber bytes) 0)
+coded (string bytes) = not (eqb (stringNumber bytes) 0) && wellFormed (textOf bytes)
 coded (external x r g b) = addressed (x .device .bus) (x .device .address) && among (x .identifier) chipIdentifiers
 coded (rgb r) = true
 

@@ -34,7 +34,8 @@ abbrev pub known : ℕ → Bool
 known id = among id (0x01 ∷ 0x02 ∷ 0x03 ∷ 0x04 ∷ 0x05 ∷ 0x06 ∷ 0x07 ∷ 0x08 ∷ 0x09 ∷ 0x0a ∷ 0x0b ∷ 0x0c ∷ 0x0d ∷ 0x0e ∷ [])
 
 -- What stands at the head of the bytes: a record whose layout they start with, reserved places aside, and which is of
--- its kind: an address by its bus type ('A device address is either .. or .., by the bus type'), each pin of the named chip.
+-- its kind: an address by its bus type ('A device address is either .. or .., by the bus type'), each pin of the named chip, FFh an
+-- unused place.
 pub record Stands (c : Chip) (bs : List ℕ) (r : Record) : Type 0 where
   pub rest : List ℕ
   pub starts : Starts bs (layout r) rest

@@ -1,15 +1,19 @@
--- Rows of the four kinds that request 1/14 brings: 05h, 06h, 07h and 0Dh. Their answers are proved of the verdict itself, on each chip.
+-- Rows of the four kinds that request 1/14 brings: 05h, 06h, 07h and 0Dh. Their answers are proved of the verdict itself, under all
+-- settings.
 -- Assumes nothing.
 use Prim.Native.Nat.{ℕ, zero, suc}
 use mathlib.Core.List.{List, [], _∷_, _++_}
-use Rattle.format.specs.Known.{Row, _gives_, tableA, after, zone1, sensorT, byRules}
+use Rattle.format.specs.Known.{Row, _gives_, tableA, tableOf, after, zone1, sensorT, byRules}
 use Rattle.format.specs.declared.settings.Rules.{Rules}
 use Rattle.format.specs.declared.answers.Answer.the-variants.{Accepted, Refused}
 
--- a water level in zone 1, on this pin, FULL by its two bytes, EMPTY and WARNING 0
+-- a water level in zone 1 on this pin, with these bytes of FULL, EMPTY and WARNING
+abbrev pub levelsW : ℕ → List ℕ → List ℕ
+levelsW pin levels = 0x05 ∷ 0x0f ∷ 0x00 ∷ 0x00 ∷ 0xff ∷ 0xff ∷ 0xff ∷ 0x01 ∷ pin ∷ levels
+
+-- .. FULL by its two bytes, EMPTY and WARNING 0
 abbrev pub tankW : ℕ → ℕ → ℕ → List ℕ
-tankW pin low high =
-    0x05 ∷ 0x0f ∷ 0x00 ∷ 0x00 ∷ 0xff ∷ 0xff ∷ 0xff ∷ 0x01 ∷ pin ∷ low ∷ high ∷ 0x00 ∷ 0x00 ∷ 0x00 ∷ 0x00 ∷ []
+tankW pin low high = levelsW pin (low ∷ high ∷ 0x00 ∷ 0x00 ∷ 0x00 ∷ 0x00 ∷ [])
 
 -- fan F as a pump: its identifier, tachometer pin and PPR
 abbrev pub pumpP : ℕ → ℕ → List ℕ
@@ -81,8 +85,8 @@ waterKit =
 -- 200 red pairs, 100 green and 50 blue: 1,415 bytes, in a table of 1,461
 abbrev pub manyPairs : List Row
 manyPairs =
-    (0x01 ∷ 0xb5 ∷ 0x05 ∷ 0x02 ∷ 0x00 ∷ 0x07 ∷ 0x00 ∷ 0x00 ∷ 0x80 ∷ 0xff ∷ 0xff ∷ 0xff ∷ 0x00 ∷ 0x00 ∷ 0x00 ∷ 0x00
-    ∷ headX 0x87 0x05 0 2 ++ (200 ∷ pairsOf 200) ++ (100 ∷ pairsOf 100) ++ (50 ∷ pairsOf 50) ++ zone1 gives Accepted 2)
+    (tableOf 0xb5 0x05
+    ++ headX 0x87 0x05 0 2 ++ (200 ∷ pairsOf 200) ++ (100 ∷ pairsOf 100) ++ (50 ∷ pairsOf 50) ++ zone1 gives Accepted 2)
     ∷ []
 
 -- 0Dh on a bus type that is retired: 23 after 9, by the ordinary rules alone; and on one that has no code

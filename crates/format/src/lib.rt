@@ -4,4 +4,5 @@ pub mod answers;
 pub mod pins;
 pub mod records;
 pub mod settings;
+pub mod text;
 pub mod units;

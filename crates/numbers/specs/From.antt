@@ -1,9 +1,9 @@
 -- The records in the 32 bytes that hold their numbers at the C face: each number as wide as the record's type, lowest byte first.
 -- Assumes nothing.
 use Prim.Native.Nat.{ℕ, _+_}
-use mathlib.Core.Bool.{Bool, true, false, not}
+use mathlib.Core.Bool.{Bool, true, false, _&&_, not, cond}
 use mathlib.Core.List.{List}
-use lib.Dec.{eqb}
+use lib.Dec.{eqb, leb}
 use Rattle.format.specs.Slots.{byte}
 use Rattle.format.specs.Decode.{pinOf, optionalOf, digitalOf, analogueOf, lampOf, ledOf, currentOf, deviceOf, externalOf, descriptionOf, wordAt, readPlacement, readFan, readWater, readVoltage, readRgb}
 use Rattle.format.specs.declared.pins.Chip.{Chip}
@@ -18,6 +18,7 @@ use Rattle.format.specs.declared.records.BusDevice.{BusDevice}
 use Rattle.format.specs.declared.records.ExternalRgb.{ExternalRgb}
 use Rattle.format.specs.declared.records.Address.{Address}
 use Rattle.format.specs.declared.records.Address.the-variants.{Bus, Select}
+use Rattle.format.specs.declared.records.Element.{Element}
 use Rattle.format.specs.declared.records.Element.the-variants.{Digital, Analogue, Fan, Led, Water, Pump, Voltage, Current, Controller, Tachometer, Zone, Text, External, Rgb}
 use Rattle.words.specs.Widths.{longAt}
 use Rattle.numbers.specs.declared.MaybeElement.{MaybeElement}
@@ -69,24 +70,23 @@ describedFrom c f =
 abbrev pub descriptionFrom : List ℕ → Description
 descriptionFrom n = describedFrom (chipFrom (byte n)) (byte n)
 
-abbrev pub pick : Bool → MaybeElement → MaybeElement → MaybeElement
-pick true a b = a
-pick false a b = b
+-- the element of one of the fourteen identifiers in the numbers n, its pins of the chip c
+abbrev pub kindFrom : ℕ → Chip → (ℕ → ℕ) → Element
+kindFrom id c n =
+    cond (eqb id 0x01) (Digital (digitalFrom c n))
+    (cond (eqb id 0x02) (Analogue (analogueFrom c n))
+    (cond (eqb id 0x03) (Fan (readFan c n))
+    (cond (eqb id 0x04) (Led (ledFrom c n))
+    (cond (eqb id 0x05) (Water (readWater c n))
+    (cond (eqb id 0x06) (Pump (readFan c n))
+    (cond (eqb id 0x07) (Voltage (readVoltage c n))
+    (cond (eqb id 0x08) (Current (currentFrom c n))
+    (cond (eqb id 0x09) (Controller (deviceFrom c n))
+    (cond (eqb id 0x0a) (Tachometer (deviceFrom c n))
+    (cond (eqb id 0x0b) Zone
+    (cond (eqb id 0x0c) Text
+    (cond (eqb id 0x0d) (External (externalFrom c n)) (Rgb (readRgb c n))))))))))))))
 
--- the element of an identifier in the numbers
+-- the element of an identifier in the numbers, and none where it is not 01h to 0Eh
 abbrev pub elementFrom : ℕ → List ℕ → MaybeElement
-elementFrom id n =
-    pick (eqb id 0x01) (Found (Digital (digitalFrom (chipFrom (byte n)) (byte n))))
-    (pick (eqb id 0x02) (Found (Analogue (analogueFrom (chipFrom (byte n)) (byte n))))
-    (pick (eqb id 0x03) (Found (Fan (readFan (chipFrom (byte n)) (byte n))))
-    (pick (eqb id 0x04) (Found (Led (ledFrom (chipFrom (byte n)) (byte n))))
-    (pick (eqb id 0x05) (Found (Water (readWater (chipFrom (byte n)) (byte n))))
-    (pick (eqb id 0x06) (Found (Pump (readFan (chipFrom (byte n)) (byte n))))
-    (pick (eqb id 0x07) (Found (Voltage (readVoltage (chipFrom (byte n)) (byte n))))
-    (pick (eqb id 0x08) (Found (Current (currentFrom (chipFrom (byte n)) (byte n))))
-    (pick (eqb id 0x09) (Found (Controller (deviceFrom (chipFrom (byte n)) (byte n))))
-    (pick (eqb id 0x0a) (Found (Tachometer (deviceFrom (chipFrom (byte n)) (byte n))))
-    (pick (eqb id 0x0b) (Found Zone)
-    (pick (eqb id 0x0c) (Found Text)
-    (pick (eqb id 0x0d) (Found (External (externalFrom (chipFrom (byte n)) (byte n))))
-    (pick (eqb id 0x0e) (Found (Rgb (readRgb (chipFrom (byte n)) (byte n)))) Unknown)))))))))))))
+elementFrom id n = cond (leb 1 id && leb id 0x0e) (Found (kindFrom id (chipFrom (byte n)) (byte n))) Unknown

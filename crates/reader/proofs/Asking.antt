@@ -19,8 +19,10 @@ use Rattle.format.specs.declared.records.Description.{Description as Fields}
 use Rattle.format.specs.declared.answers.Answer.{Answer}
 use Rattle.format.specs.declared.answers.Answer.the-variants.{Accepted, Refused}
 use Rattle.format.specs.declared.answers.Described.the-variants.{Description}
+use Rattle.format.specs.declared.answers.Asked.{Asked}
 use Rattle.format.specs.declared.answers.Asked.the-variants.{Element, Refused as NotGiven}
 use Rattle.format.proofs.Theorem.{meets}
+use Rattle.format.proofs.Strings.{given-text}
 use Rattle.walking.specs.Walk.{Located}
 use Rattle.walking.proofs.Left.{reads}
 use Rattle.reader.specs.Answered.{GivesElement, GivesPart}
@@ -48,13 +50,17 @@ describes σ b d (accepted d′ rs a) e =
     subst (λ (x : Fields). Describes σ b (Description x)) (reads σ b d′ rs a .1 ∙ sym e) (described d′ rs a)
 
 -- an element past the last
-nth-past : (rs : List Record) (k : ℕ) → length rs ≤ k → nth rs k ≡ none
+pub nth-past : (rs : List Record) (k : ℕ) → length rs ≤ k → nth rs k ≡ none
 nth-past [] k h = refl
 nth-past (r ∷ rs) zero h = absurd (omega arith)
 nth-past (r ∷ rs) (suc k) h = nth-past rs k (omega arith)
 
 pub gives-past : (σ : Settings) (b : List ℕ) (k : ℕ) {n : ℕ} → Verdict σ b (Accepted n) → n ≤ k → Gives σ b k (NotGiven 17 0) []
 gives-past σ b k (accepted d rs a) h = past d rs a (nth-past rs k h)
+
+-- a part, whatever stands beside it
+pub gives-part : (σ : Settings) (b : List ℕ) (k : ℕ) (a : Asked) (p : List ℕ) → Gives σ b k a p → GivesPart σ b k p
+gives-part σ b k a p g = record { beside = a; gives = g; text = given-text σ b k a p g }
 
 -- element k
 module _ (σ : Settings) (b : List ℕ) (k at : ℕ) (l : Located σ b k at) where
@@ -65,4 +71,4 @@ module _ (σ : Settings) (b : List ℕ) (k at : ℕ) (l : Located σ b k at) whe
   element-there e = record { beside = written (part (l .r)); gives = rw e gives-there }
 
   pub part-there : {p : List ℕ} → p ≡ written (part (l .r)) → GivesPart σ b k p
-  part-there e = record { beside = Element (elementOf (l .r)); gives = rw e gives-there }
+  part-there {p} e = gives-part σ b k (Element (elementOf (l .r))) p (rw e gives-there)

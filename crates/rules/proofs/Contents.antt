@@ -1,14 +1,15 @@
 -- Zone descriptors and strings, whose record is all bytes after the header: 8 by that length.
 -- Assumes nothing.
-use Prim.Native.Nat.{ℕ, _+_, _≤_, _<_}
+use Prim.Native.Nat.{ℕ, _+_, _-_, _≤_, _<_}
 use native.Mathlib.Omega.{arith}
 use mathlib.Core.Path.{_≡_, refl, sym, ap}
 use mathlib.Core.Bool.{Bool, true, false}
 use mathlib.Core.List.{List}
-use lib.ListN.{length}
+use lib.ListN.{length, take, drop, length-drop}
+use lib.Seq.{take-all}
 use lib.Dec.{eqb}
 use borrow.Author.Tests.{eq-eqb, ne-eqb, eqb-true, eqb-false, le-leb, lt-leb}
-use Rattle.format.specs.Records.{string}
+use Rattle.format.specs.Records.{string, textOf}
 use Rattle.format.specs.Rules.{numbered, firstBroken, ownRules, shaped}
 use Rattle.format.specs.declared.settings.Settings.{Settings}
 use Rattle.format.proofs.Kept.{misshapen}
@@ -28,3 +29,7 @@ module _ (p : List ℕ) where
 
   pub text-long : 3 ≤ length p → true ≡ shaped (string p)
   text-long h = sym (le-leb 6 (3 + length p) (omega arith))
+
+  -- the text stands behind the number and the locale
+  pub text-rest : take (length p - 3) (drop 3 p) ≡ textOf p
+  text-rest = take-all (length p - 3) (drop 3 p) (omega (arith, length-drop 3 p))

@@ -6,6 +6,7 @@ ghost use Rattle.format.specs.Rules.{numbered, firstBroken, ownRules, typed, po
 ghost use Rattle.format.specs.Pins.{among, unused};
 ghost use Rattle.format.specs.declared.settings.Settings.{Settings};
 ghost use Rattle.format.specs.Table.{descriptionBreaks};
+ghost use Rattle.format.specs.Utf16.{agrees, wellFormed};
 ghost use Rattle.rules.specs.Broken.{orElse, DeviceBreaks};
 use format::pins::Chip;
 use format::pins::OptionalPin;
@@ -267,14 +268,39 @@ pub fn zone_breaks(part: &[u8]) -> u8
     own_breaks(part.len() == 27, true, true, true)
 }
 
-// 0Ch, of all bytes after the header: its number and two bytes more, and the number not 0.
+// A unit is a low surrogate where the one before it is a high surrogate, and only there.
+fn agrees(high: bool, low: bool) -> bool
+    ensures { λ r. ⌜ r ≡ agrees high low ⌝ }
+{
+    if high { low } else { !low }
+}
+
+// 9, of a text: UTF-16, low byte first. The upper six bits of a unit tell what it is: 54 a high surrogate, 55 a low one. No unit
+// branches, for speed.
+pub fn well_formed(text: &[u8]) -> bool
+    ensures { λ r. ⌜ r ≡ wellFormed (now (text .entry)) ⌝ }
+{
+    let count = text.len() / 2;
+    let mut good = text.len() % 2 == 0;
+    let mut high = false;
+    let mut i: usize = 0;
+    while i < count {
+        let top = text[2 * i + 1] / 4;
+        good = good & agrees(high, top == 55);
+        high = top == 54;
+        i += 1;
+    }
+    good & !high
+}
+
+// 0Ch, of all bytes after the header: its number and two bytes more, and the number not 0; then its text.
 pub fn text_breaks(part: &[u8]) -> u8
     ensures { λ r. ⌜ ((s : Settings) → r ≡ numbered (firstBroken (ownRules s (string (now (part .entry)))))) ⌝ }
 {
     if part.len() < 3 {
         return 8;
     }
-    own_breaks(true, part[0] != 0, true, true)
+    own_breaks(true, (part[0] != 0) & well_formed(&part[3..]), true, true)
 }
 
 // 0Eh

@@ -1,4 +1,4 @@
-//! `bench`: the median time of the reader on four sorts of tables.
+//! `bench`: the median time of the reader on five sorts of tables.
 
 use super::End;
 use second::generator::{self, raw::TABLE_A};
@@ -22,6 +22,7 @@ pub fn bench(settings: Settings, arguments: &[String]) -> End {
     report("table A", &vec![TABLE_A.to_vec(); 1000]);
     report("4,096 bytes of 09h", &many(200, generator::controllers));
     report("4,096 bytes mixed", &many(200, generator::mixed));
+    report("4,096 bytes of text", &many(200, generator::texts));
     report("damaged", &many(5000, generator::damaged));
     End::Good
 }

@@ -35,6 +35,7 @@ fn maker(kind: &str) -> Result<Make, String> {
         "valid" => Ok(generator::valid),
         "mixed" => Ok(generator::mixed),
         "controllers" => Ok(generator::controllers),
+        "texts" => Ok(generator::texts),
         "damaged" => Ok(generator::damaged),
         "any" => Ok(generator::any),
         _ => Err(format!("there is no kind '{kind}'")),

@@ -17,7 +17,7 @@ use: second COMMAND [--chip 320|321] [--archive] ...
   check FILE...                              number, place or count, and file, one line each
   rows --seed S --count N --max BYTES        tables in hex with their answers
   make KIND --seed S --count N DIR           tables as files; KIND is valid, mixed, controllers,
-                                             damaged or any
+                                             texts, damaged or any
   self --seed S --count N                    hold the program's own parts against each other
   bench                                      time the reader
 The chip is the 320 if none is named, and the rules are the ordinary ones without --archive. Tables are

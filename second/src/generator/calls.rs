@@ -112,7 +112,9 @@ fn onto_any_buffer(random: &mut Random, pins: Chip) -> (Vec<u8>, What) {
 
 /// A string around 4,096 bytes, or around the end of a two-byte length: 16, and no sum may wrap.
 fn long_string(random: &mut Random) -> (Vec<u8>, What) {
-    let lengths = [4076, 4077, 4078, 65_519, 65_532, 65_533, 65_536, 65_552];
+    let lengths = [
+        4076, 4077, 4078, 4079, 65_519, 65_532, 65_533, 65_535, 65_537, 65_552, 65_553,
+    ];
     let mut part = vec![0x41; *random.pick(&lengths)];
     part[0] = *random.pick(&[0, 1, 1, 1]);
     let mut buffer = raw::TABLE_A.to_vec();

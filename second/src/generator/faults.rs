@@ -2,6 +2,7 @@
 
 use super::around::AROUND;
 use super::raw::{self, Parts};
+use super::texts::spoil;
 use super::valid::valid_parts;
 use crate::element::id;
 use crate::random::Random;
@@ -9,7 +10,7 @@ use crate::settings::Settings;
 
 type Fault = fn(&mut Random, &mut Parts);
 
-const FAULTS: [Fault; 31] = [
+const FAULTS: [Fault; 33] = [
     wrong_type,
     wrong_power,
     wrong_hardware_pin,
@@ -34,6 +35,8 @@ const FAULTS: [Fault; 31] = [
     fans_exchanged,
     one_more_fan,
     string_zero,
+    spoilt_text,
+    spoilt_text,
     element_again,
     element_again,
     zone_gone,
@@ -240,6 +243,17 @@ fn one_more_fan(random: &mut Random, parts: &mut Parts) {
 fn string_zero(random: &mut Random, parts: &mut Parts) {
     let text = raw::text(0, b"zero");
     insert(random, parts, text);
+}
+
+/// A text that is not well-formed any more, or nearly.
+fn spoilt_text(random: &mut Random, parts: &mut Parts) {
+    let mut random_part = Random::new(random.word());
+    if let Some(element) = one_of(random, parts, |e| e[0] == id::TEXT && e.len() > 5) {
+        let mut text = element.split_off(6);
+        spoil(&mut random_part, &mut text);
+        element.extend(text);
+        raw::mend_element(element);
+    }
 }
 
 /// A zone or string so declared twice (12), a fan's pins so used twice (10), other pins claimed twice (15).

@@ -11,6 +11,7 @@ pub mod raw;
 mod records;
 mod retired;
 mod targeted;
+mod texts;
 mod valid;
 
 use crate::random::Random;
@@ -23,6 +24,7 @@ pub use faults::double_faults;
 pub use noise::{random_bytes, structured};
 pub use retired::{has_block_mode, only_in_the_archive};
 pub use targeted::{targeted, Case};
+pub use texts::{spoil, text, texts};
 pub use valid::{controllers, mixed, mixed_of, valid, valid_parts};
 
 /// A table of any sort; those that are good, or were good once, are so with these settings.

@@ -41,7 +41,8 @@ fn likely(random: &mut Random) -> Vec<u8> {
     let identifier = *random.pick(&id::ALL);
     let length = match identifier {
         id::ZONE => 30,
-        id::TEXT => 6 + random.below(4),
+        id::TEXT if random.chance(80) => 6 + 2 * random.below(3),
+        id::TEXT => 6 + random.below(6),
         id::CONTROLLER => 17 + 6 * random.below(2),
         id::TACHOMETER => 14 + 4 * random.below(3),
         id::EXTERNAL_RGB => 15 + 4 * random.below(4),
@@ -52,6 +53,12 @@ fn likely(random: &mut Random) -> Vec<u8> {
         0x30, 0xFF,
     ];
     let mut body: Vec<u8> = (0..length - 3).map(|_| *random.pick(&BYTES)).collect();
+    if identifier == id::TEXT && random.chance(30) {
+        // The high byte of some unit.
+        if let Some(high) = body.get_mut(4 + 2 * random.below(2)) {
+            *high = *random.pick(&[0xD7, 0xD8, 0xDB, 0xDC, 0xDF, 0xE0]);
+        }
+    }
     if identifier != id::TEXT && identifier != id::ZONE {
         body[0] = 0;
         body[4] = random.below(3) as u8;

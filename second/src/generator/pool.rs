@@ -2,6 +2,7 @@
 
 use super::around::AROUND;
 use super::raw;
+use super::texts::{text, LONGEST};
 use crate::element::id;
 use crate::pins::{ALL, CHIP_SELECT, FAULT_LED};
 use crate::random::Random;
@@ -158,13 +159,35 @@ impl<'r> Pool<'r> {
     /// A device of this kind, or of a kind that still finds its pins, at most so long.
     pub fn device(&mut self, kind: u8, room: usize) -> Vec<u8> {
         let on_a_bus = *self.random.pick(&id::ON_A_BUS);
-        let found = [kind, on_a_bus, id::CURRENT]
-            .into_iter()
-            .find_map(|kind| Some((kind, self.fields(kind, room)?)));
-        let (kind, fields) = match found {
-            Some(found) => found,
-            None => (id::STATUS_LED, self.led_fields(false)),
+        let found = self.first_of(&[kind, on_a_bus, id::CURRENT], room);
+        found.unwrap_or_else(|| self.dark_led())
+    }
+
+    /// A device of an odd or of an even number of bytes; `None` when no odd one finds its pins.
+    pub fn device_of_parity(&mut self, odd: bool, room: usize) -> Option<Vec<u8>> {
+        let mut kinds = match odd {
+            true => vec![id::DIGITAL_SENSOR, id::CONTROLLER, id::EXTERNAL_RGB],
+            false => vec![id::TACHOMETER, id::CURRENT],
         };
+        self.random.shuffle(&mut kinds);
+        let found = self.first_of(&kinds, room);
+        found.or_else(|| (!odd).then(|| self.dark_led()))
+    }
+
+    fn dark_led(&mut self) -> Vec<u8> {
+        let fields = self.led_fields(false);
+        self.whole(id::STATUS_LED, fields)
+    }
+
+    /// A device of the first of these kinds that finds its pins.
+    fn first_of(&mut self, kinds: &[u8], room: usize) -> Option<Vec<u8>> {
+        let mut kinds = kinds.iter();
+        let (kind, fields) = kinds.find_map(|&kind| Some((kind, self.fields(kind, room)?)))?;
+        Some(self.whole(kind, fields))
+    }
+
+    /// The fields with string index, position and zone before them.
+    fn whole(&mut self, kind: u8, fields: Vec<u8>) -> Vec<u8> {
         let mut body = vec![self.string_index()];
         body.extend(self.position());
         body.push(*self.random.pick(&self.zones));
@@ -191,40 +214,51 @@ impl<'r> Pool<'r> {
             .collect()
     }
 
-    /// All strings, their text bytes within `room`; exactly that much when asked for.
-    pub fn string_elements(&mut self, room: usize, exact: bool) -> Vec<Vec<u8>> {
-        let mut room = room;
+    /// All strings, their texts within `room` bytes; exactly that much, if it is even, when asked for. None is
+    /// longer than `longest` units unless there is no other way.
+    pub fn string_elements(&mut self, room: usize, exact: bool, longest: usize) -> Vec<Vec<u8>> {
+        let mut room = room / 2;
         let count = self.strings.len();
         let mut lengths = Vec::new();
         for _ in 0..count {
             let wanted = match self.random.below(10) {
                 0..=2 => 0,
-                3..=8 => self.random.below(66),
-                _ => self.random.below(400),
+                3..=8 => self.random.between(0, longest.min(LONGEST)),
+                _ => self.random.between(0, longest),
             };
             lengths.push(wanted.min(room));
             room -= wanted.min(room);
         }
         if exact && count > 0 {
-            self.fill(&mut lengths, room);
+            self.fill(&mut lengths, room, longest);
         }
         let numbers = self.strings.clone();
         numbers
             .into_iter()
             .zip(lengths)
-            .map(|(number, length)| {
+            .map(|(number, units)| {
                 let mut body = vec![number];
-                body.extend(self.random.bytes(2 + length));
+                body.extend(self.random.bytes(2));
+                body.extend(text(self.random, units));
                 raw::element(id::TEXT, &body)
             })
             .collect()
     }
 
-    /// Adds all that is left to some of the strings.
-    fn fill(&mut self, lengths: &mut [usize], mut room: usize) {
+    /// Adds all units that are left to some of the strings.
+    fn fill(&mut self, lengths: &mut [usize], mut room: usize, longest: usize) {
         while room > 0 {
-            let more = room.min(self.random.between(1, 64));
-            let at = self.random.below(lengths.len());
+            let short: Vec<usize> = (0..lengths.len())
+                .filter(|&at| lengths[at] < longest)
+                .collect();
+            let (at, most) = match short.is_empty() {
+                true => (self.random.below(lengths.len()), room),
+                false => {
+                    let at = *self.random.pick(&short);
+                    (at, room.min(longest - lengths[at]))
+                }
+            };
+            let more = most.min(self.random.between(1, 32));
             lengths[at] += more;
             room -= more;
         }

@@ -1,5 +1,6 @@
 //! Records for the writer: good ones out of accepted tables, then bent at the boundaries.
 
+use super::texts::spoil;
 use super::valid::valid;
 use crate::access::walk;
 use crate::element::{read_description, read_element};
@@ -132,7 +133,12 @@ fn bend_attachment(random: &mut Random, pins: Chip, attachment: &mut Attachment)
 
 /// A part grown, cut, emptied or changed.
 fn bend_part(random: &mut Random, part: &mut Vec<u8>) {
-    match random.below(8) {
+    match random.below(10) {
+        8..=9 if part.len() > 3 => {
+            let mut end = part.split_off(3);
+            spoil(random, &mut end);
+            part.extend(end);
+        }
         0 => part.clear(),
         1 => part.push(0),
         2 => part.extend([1, 1, 0, 0, 0, 0]),

@@ -2,6 +2,7 @@
 
 use super::pool::Pool;
 use super::raw::{self, Parts};
+use super::texts::LONGEST;
 use crate::answer::LARGEST_TABLE;
 use crate::element::id;
 use crate::random::Random;
@@ -53,8 +54,10 @@ struct Plan {
     kinds: Vec<u8>,
     /// Most bytes the table may have.
     limit: usize,
-    /// Fill a string until the limit is reached exactly.
+    /// Fill the strings until the limit is reached exactly.
     exact: bool,
+    /// The most units of a text, unless there is no other way to the limit.
+    longest: usize,
     /// Rather pins around the four than others.
     near: bool,
 }
@@ -77,10 +80,11 @@ pub fn valid(random: &mut Random, settings: Settings) -> Vec<u8> {
     valid_parts(random, settings).bytes()
 }
 
-/// A table of exactly 4,096 bytes with all fourteen kinds that is accepted with these settings.
+/// A table of exactly 4,096 bytes with all fourteen kinds, and texts of up to 64 units, that is accepted with
+/// these settings.
 pub fn mixed(random: &mut Random, settings: Settings) -> Vec<u8> {
     let zones = random.between(1, 12);
-    let strings = random.between(4, 20);
+    let strings = random.between(24, 32);
     let plan = Plan {
         zones,
         strings,
@@ -89,16 +93,17 @@ pub fn mixed(random: &mut Random, settings: Settings) -> Vec<u8> {
         kinds: DEVICES.to_vec(),
         limit: LARGEST_TABLE,
         exact: true,
+        longest: LONGEST,
         near: false,
     };
     build(random, settings, &plan).bytes()
 }
 
-/// A table of so many elements, 1 to 96, that is accepted with these settings: all kinds from 15 on, some 42
-/// bytes to each.
+/// A table of so many elements, 1 to 96, that is accepted with these settings: all kinds from 18 on, some 42
+/// bytes to each, texts of up to 64 units.
 pub fn mixed_of(random: &mut Random, elements: usize, settings: Settings) -> Vec<u8> {
     let zones = 1 + (elements - 1) / 12;
-    let strings = elements / 8;
+    let strings = elements / 4;
     let plan = Plan {
         zones,
         strings,
@@ -107,6 +112,7 @@ pub fn mixed_of(random: &mut Random, elements: usize, settings: Settings) -> Vec
         kinds: DEVICES.to_vec(),
         limit: 16 + 42 * elements,
         exact: strings > 0,
+        longest: LONGEST,
         near: false,
     };
     build(random, settings, &plan).bytes()
@@ -145,6 +151,7 @@ fn plan(random: &mut Random) -> Plan {
         kinds: kinds(random),
         limit,
         exact,
+        longest: 200,
         near: false,
     }
 }
@@ -177,13 +184,20 @@ fn build(random: &mut Random, settings: Settings, plan: &Plan) -> Parts {
             Some(&kind) => kind,
             None => *pool.random.pick(&plan.kinds),
         };
-        let element = pool.device(kind, room.saturating_sub(kept));
+        let most = room.saturating_sub(kept);
+        // Texts are even: to fill the table the last device takes the odd byte, unless its kind is forced.
+        let last = plan.exact && made + 1 == plan.devices && made >= plan.forced.len();
+        let fitting = match last {
+            true => pool.device_of_parity(!room.is_multiple_of(2), most),
+            false => None,
+        };
+        let element = fitting.unwrap_or_else(|| pool.device(kind, most));
         room -= element.len();
         elements.push(element);
     }
     let description = early.unwrap_or_else(|| pool.description());
     elements.extend(pool.zone_elements());
-    elements.extend(pool.string_elements(room, plan.exact));
+    elements.extend(pool.string_elements(room, plan.exact, plan.longest));
     random.shuffle(&mut elements);
     deal_fan_list(&mut elements);
     Parts {

@@ -5,6 +5,7 @@
 //! and the fast listing.
 
 mod claims;
+mod label;
 mod listing;
 
 use crate::answer::{
@@ -18,6 +19,7 @@ use crate::settings::{Chip, Settings};
 use claims::{check_claims, claims};
 
 pub use claims::own_pins;
+pub use label::label;
 pub use listing::listing;
 
 /// One element as found: where it starts, its record and its variable part.

@@ -5,6 +5,7 @@ use super::seen::{Claims, Numbers};
 use super::sets::{
     Chosen, Pins, ANALOGUE, CHIP_SELECT, FAN_LIST, I2C_BUS, NO_PIN, REFERENCE, SPI_BUS, STATUS_LED,
 };
+use super::text::well_formed;
 use crate::answer::{number, MOST_ZONES};
 use crate::element::id;
 use std::hint::select_unpredictable;
@@ -242,10 +243,10 @@ pub fn zone(element: &[u8], numbers: &mut Numbers) -> u8 {
 
 #[inline(always)]
 pub fn text(element: &[u8], numbers: &mut Numbers) -> u8 {
-    let Some(e) = element.first_chunk::<6>() else {
+    let Some((e, text)) = element.split_first_chunk::<6>() else {
         return number::LAYOUT;
     };
-    if e[3] == 0 {
+    if (e[3] == 0) | !well_formed(text) {
         number::CODE
     } else if numbers.strings.add_again(e[3]) {
         number::TWICE

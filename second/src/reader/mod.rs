@@ -9,6 +9,7 @@ mod kinds;
 mod places;
 mod seen;
 mod sets;
+mod text;
 
 use crate::answer::{number, Verdict, LARGEST_TABLE, MOST_ELEMENTS};
 use crate::settings::Settings;

@@ -1,7 +1,7 @@
 -- `part` meets its contract: the part of element k of the one list, or an empty part.
 -- Assumes nothing.
 use Rattle.format.specs.Asked.{ungiven}
-use Rattle.reader.proofs.Asking.{gives-past, part-there}
+use Rattle.reader.proofs.Asking.{gives-past, gives-part, part-there}
 use borrow.Author.Needs.{needs}
 use Rattle.reader.proofs.part.Statement.{statement}
 use Rattle.reader.proofs.part.Tie as tie
@@ -9,12 +9,12 @@ use Rattle.reader.proofs.part.Tie as tie
 returns : tie.Need-returns
 returns c =
     let v = rw (c .before .enum-told .given .1) at (c .before .before .before .read .ensures) in
-    record { beside = _; gives = ungiven v }
+    gives-part _ _ _ _ _ (ungiven v)
 
 returns-2 : tie.Need-returns-2
 returns-2 c =
     let a = c .before .before .before in
-    record { beside = _; gives = gives-past _ _ _ (rw (a .answer .given .1) at (a .before .before .read .ensures)) (c .before .if1 .taken) }
+    gives-part _ _ _ _ _ (gives-past _ _ _ (rw (a .answer .given .1) at (a .before .before .read .ensures)) (c .before .if1 .taken))
 
 place-of-requires : tie.Need-place-of-requires
 place-of-requires c κs =

@@ -1,9 +1,9 @@
--- The length decides 8, the first byte 9.
+-- The length decides 8, the first byte and the text 9.
 -- Assumes nothing.
 use mathlib.Core.Path.{refl}
 use denote.Ref.{now}
 use Rattle.format.specs.Records.{string}
-use Rattle.rules.proofs.Contents.{text-short, text-long}
+use Rattle.rules.proofs.Contents.{text-short, text-long, text-rest}
 use borrow.Author.Needs.{needs}
 use Rattle.rules.proofs.text_breaks.Statement.{statement}
 use Rattle.rules.proofs.text_breaks.Tie as tie
@@ -13,8 +13,19 @@ returns c = text-short (now (c .before .before .args .part)) (c .if1 .taken)
 
 returns-2 : tie.Need-returns-2
 returns-2 c =
-    λ s.
-    c .own-breaks .ensures s (string _) (text-long (now (c .before .before .before .before .args .part)) (c .before .before .if1 .left)) refl refl refl
+    let s = c .before .before .before .before .before .before in
+    let p = now (s .args .part) in
+    λ σ. c .own-breaks .ensures σ (string p) (text-long p (c .before .before .before .before .if1 .left)) (rw (c .before .well-formed .ensures, text-rest p) refl) refl refl
 
 pub text-breaks-spec : {M : Type 1} → statement M
-text-breaks-spec = tie.close (tie.spec returns (search needs) (search needs) returns-2)
+text-breaks-spec =
+    tie.close
+    (tie.spec
+    returns
+    (search needs)
+    (search needs)
+    (search needs)
+    (search needs)
+    (λ c κs. search needs)
+    (λ c κs. search needs)
+    returns-2)

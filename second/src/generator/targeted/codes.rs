@@ -10,7 +10,7 @@ pub fn cases(cases: &mut Vec<Case>) {
     pulses(cases);
     reserved_places(cases);
     for number in 0..=255u8 {
-        let element = raw::text(number, b"t");
+        let element = raw::text(number, b"tt");
         add_element(cases, &format!("string {number}"), element);
     }
 }

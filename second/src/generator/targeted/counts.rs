@@ -94,7 +94,7 @@ fn zones(cases: &mut Vec<Case>) {
 }
 
 fn twice(cases: &mut Vec<Case>) {
-    let mut other_locale = raw::text(7, b"x");
+    let mut other_locale = raw::text(7, b"xy");
     other_locale[4] = 0x07;
     let pairs: [(&str, Vec<u8>, Vec<u8>); 6] = [
         ("string twice", raw::text(7, &[]), raw::text(7, &[])),
@@ -111,7 +111,7 @@ fn twice(cases: &mut Vec<Case>) {
     for (name, one, other) in pairs {
         let both = [one.clone(), other.clone()];
         add(cases, name, raw::table(&both));
-        let apart = [one, raw::text(100, b"between"), other];
+        let apart = [one, raw::text(100, b"in between"), other];
         add(cases, format!("{name}, apart"), raw::table(&apart));
     }
     for step in [64, 128, 192] {

@@ -82,7 +82,7 @@ fn hardware(cases: &mut Vec<Case>) {
 
 /// A string fills the table up to and past 4,096 bytes.
 fn large(cases: &mut Vec<Case>) {
-    for length in [4095, 4096, 4097, 4098] {
+    for length in [4094, 4095, 4096, 4097, 4098] {
         let table = raw::table(&[raw::text(1, &vec![0x20; length - 22])]);
         add(
             cases,

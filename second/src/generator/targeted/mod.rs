@@ -11,6 +11,7 @@ mod layouts;
 mod names;
 mod pins;
 mod retired;
+mod texts;
 mod water;
 
 use super::raw;
@@ -35,6 +36,7 @@ pub fn targeted() -> &'static [Case] {
         retired::cases(&mut cases);
         water::cases(&mut cases);
         fans::cases(&mut cases);
+        texts::cases(&mut cases);
         cases
     })
 }

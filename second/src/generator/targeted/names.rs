@@ -37,7 +37,7 @@ fn string_of(cases: &mut Vec<Case>, name: &str, element: &[u8]) {
         let mut element = element.to_vec();
         element[3] = index;
         for there in [1, 64, 255] {
-            let string = raw::text(there, b"s");
+            let string = raw::text(there, b"st");
             let zone = raw::zone(1, 0);
             let title = format!("{name} with string {index}, there is {there}");
             let later = raw::table(&[zone.clone(), element.clone(), string.clone()]);
