@@ -83,6 +83,41 @@ pub fn speed_blocks(p: &[u8]) -> Part
     }
 }
 
+// 09h again, for the reader, and quicker where each block has a pair. `at` is the ENTRIES byte of a block and stays on the last
+// one, so that no step asks whether there is a block; `end` is where the next one would stand. A block with no pair is left to
+// `speed_blocks`. (Only the reader calls this, so the compiler lays it into the pass: docs/BENCH.md.)
+pub fn read_speed_blocks(p: &[u8]) -> Part
+    ensures { λ r. ⌜ SpeedPart (now (p .entry)) r ⌝ }
+{
+    if p.len() <= 1 {
+        return Part {
+            whole: false,
+            full: true,
+        };
+    }
+    let mut at: usize = 1;
+    let mut end: usize = 1;
+    let mut n: usize = 0;
+    while n < 6 {
+        let entries = p[at];
+        if entries == 0 {
+            return Part {
+                whole: speed_blocks(p).whole,
+                full: false,
+            };
+        }
+        end = at + 2 + 4 * wide(entries);
+        if end < p.len() {
+            at = end;
+        }
+        n += 1;
+    }
+    Part {
+        whole: (end == p.len() + 1) & (1 < end),
+        full: true,
+    }
+}
+
 // So many blocks, which may have no pair: 0Ah has two, 0Dh three. They fill the part where the last of them begins before its end and
 // leads to it.
 pub fn pairs_blocks(p: &[u8], blocks: usize) -> Part

@@ -3,7 +3,7 @@
 use Prim.Native.Nat.{ℕ, _-_, _<_, _≤_}
 use native.Mathlib.Omega.{arith}
 use mathlib.Core.Path.{_≡_, refl, sym, _∙_, ap, subst}
-use mathlib.Core.Bool.{Bool, true, false, false≢true}
+use mathlib.Core.Bool.{Bool, true, false, false≢true, and-false}
 use mathlib.Core.List.{List}
 use mathlib.Core.Option.{Option, none, some}
 use lib.ListN.{length, take, drop, length-drop}
@@ -105,19 +105,36 @@ module _ (s : Settings) (d : BusDevice) (part : Part) (r : Found) where
         counted = λ n. absurd (omega (arith, n, p));
       }
 
+  -- 9 by the part: after 8, and before all others
+  pub found-9 : part .whole ≡ true → part .full ≡ false → r .fault ≡ 9 → DeviceFound s d part r
+  unfolding ownRules
+  found-9 w f p =
+      record {
+        misshapen = λ v. absurd (false≢true (sym v ∙ w));
+        breaks =
+            λ _. record {
+              of-controller = λ bs h e. p ∙ simp (h, e ∙ f, and-false);
+              of-tachometer = λ a b e. absurd (false≢true (sym f ∙ e));
+              of-external = λ i a b c e. p ∙ simp (e ∙ f, and-false);
+            };
+        claimed = λ n. absurd (omega (arith, n, p));
+        counted = λ n. absurd (omega (arith, n, p));
+      }
+
   pub found-whole :
       (e : BusDevice) {fault : ℕ} {claims : Claims} {fans : Fans}
       → part .whole ≡ true
+      → part .full ≡ true
       → e ≡ d
-      → DeviceBreaks s e (part .full) fault
+      → DeviceBreaks s e true fault
       → BusClaims (e .address) claims
       → fans .any ≡ false
       → (r .fault ≡ fault) × (r .claims ≡ claims) × (r .fans ≡ fans)
       → DeviceFound s d part r
-  found-whole e w q b f g p =
+  found-whole e w u q b f g p =
       record {
         misshapen = λ v. absurd (false≢true (sym v ∙ w));
-        breaks = λ _. rw (p .0, ← q) b;
+        breaks = λ _. rw (p .0, u, ← q) b;
         claimed = λ _. rw (p .1, ← q) f;
         counted = λ _. rw (p .2) g;
       }

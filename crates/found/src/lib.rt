@@ -201,11 +201,14 @@ pub fn device_found(b: &[u8], part: Part, s: Settings) -> Found
     if !part.whole {
         return refused(8);
     }
+    if !part.full {
+        return refused(9);
+    }
     let chip = s.chip;
     let d = fields::device(b, chip);
     let a = d.address;
     together(
-        rules::device_breaks(d, part.full, s),
+        rules::device_breaks(d, true, s),
         claims::bus_claims(a),
         no_fans(),
     )
@@ -218,7 +221,7 @@ pub fn controller_found(b: &[u8], s: Settings) -> Found
     if b.len() < 8 {
         return refused(8);
     }
-    device_found(b, blocks::speed_blocks(&b[8..]), s)
+    device_found(b, blocks::read_speed_blocks(&b[8..]), s)
 }
 
 // 0Ah

@@ -21,12 +21,13 @@ use found::Fans;
 use found::Found;
 use words::wide;
 
-// How many elements and zones there are so far, who claims which pins, and the last fan-list pin used; 0 where none is.
+// How many elements and zones there are so far, who claims which pins, and the last fan-list pin used; 0 where none is. (It is as
+// wide as the counts: a state with unused bytes would go through memory in every step, docs/BENCH.md.)
 pub struct State {
     pub count: usize,
     pub zones: usize,
     pub held: Held,
-    pub last: u8,
+    pub last: usize,
 }
 
 // A step: the rule that stops it, or 0, and what is so far.
@@ -121,17 +122,17 @@ fn text_step(b: &[u8], s: State, ss: &mut [bool; 256]) -> Step
 }
 
 // 10 of the fan list: the first pin of an element comes after the last one used.
-fn follows(fans: Fans, last: u8) -> bool
+fn follows(fans: Fans, last: usize) -> bool
     ensures { λ r. ⌜ ((ps : List ℕ) → FansAre fans ps → r ≡ comesAfter last ps) ⌝ }
 {
-    !fans.any | (last < fans.first)
+    !fans.any | (last < wide(fans.first))
 }
 
 // The last one used then.
-fn last_of(fans: Fans, last: u8) -> u8
+fn last_of(fans: Fans, last: usize) -> usize
     ensures { λ r. ⌜ ((ps : List ℕ) → FansAre fans ps → r ≡ lastPin last ps) ⌝ }
 {
-    if fans.any { fans.last } else { last }
+    if fans.any { wide(fans.last) } else { last }
 }
 
 // An element that stands in a zone: its fault, or what it leaves.

@@ -13,7 +13,7 @@ returns-2 : tie.Need-returns-2
 returns-2 c =
     let s = c .before .before .before in
     let b = now (s .before .before .args .b) in
-    controller-judged _ b _ _ (c .device-found .ensures) (s .if1 .left) (rw (rest 8 b) at (c .before .speed-blocks .ensures))
+    controller-judged _ b _ _ (c .device-found .ensures) (s .if1 .left) (rw (rest 8 b) at (c .before .read-speed-blocks .ensures))
 
 pub controller-found-spec : {M : Type 1} → statement M
 controller-found-spec =
