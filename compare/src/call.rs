@@ -17,6 +17,17 @@ pub enum Call {
 }
 
 impl Call {
+    /// The call of a mode of the driver; of the other modes none.
+    pub fn of(mode: u8, k: u64) -> Option<Call> {
+        Some(match mode {
+            0 => Call::Check,
+            1 => Call::Element(k),
+            2 => Call::Part(k),
+            6 => Call::List,
+            _ => return None,
+        })
+    }
+
     /// The driver's mode; calls of one mode are counted together.
     pub fn mode(self) -> u8 {
         match self {

@@ -44,9 +44,9 @@ fn places(check: Answer, length: usize) -> Vec<u64> {
 impl Comparison {
     pub fn start(options: &Options) -> Result<Comparison, String> {
         Ok(Comparison {
-            exchange: Exchange::start(&options.driver)?,
+            exchange: Exchange::start(options)?,
             fields: match options.fields {
-                true => Some(Fields::start(&options.driver)?),
+                true => Some(Fields::start(options)?),
                 false => None,
             },
             elements: options.elements,

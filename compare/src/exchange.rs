@@ -1,6 +1,7 @@
 //! Calls that go to the driver in batches: it works on one batch while the next is made.
 
 use crate::driver::Driver;
+use crate::options::Options;
 use std::fmt;
 
 /// One call, or several on the same bytes: how it is asked for, and how the driver's reply is read. It is
@@ -18,6 +19,8 @@ pub trait Asked: fmt::Display + Sized {
 /// Takes in what was expected of a call and what the proved side did.
 pub trait Takes<A: Asked> {
     fn take(&mut self, asked: &A, expected: &A::Reply, proved: &A::Reply);
+    /// So far.
+    fn differences(&self) -> u64;
 }
 
 struct Batch<A: Asked> {
@@ -39,6 +42,8 @@ impl<A: Asked> Batch<A> {
 
 pub struct Exchange<A: Asked, T> {
     command: Vec<String>,
+    /// End at the first difference.
+    first: bool,
     driver: Driver,
     filling: Batch<A>,
     /// Sent, and not yet answered.
@@ -47,10 +52,11 @@ pub struct Exchange<A: Asked, T> {
 }
 
 impl<A: Asked, T: Takes<A> + Default> Exchange<A, T> {
-    pub fn start(command: &[String]) -> Result<Exchange<A, T>, String> {
+    pub fn start(options: &Options) -> Result<Exchange<A, T>, String> {
         Ok(Exchange {
-            command: command.to_vec(),
-            driver: Driver::start(command)?,
+            command: options.driver.clone(),
+            first: options.first,
+            driver: Driver::start(&options.driver)?,
             filling: Batch::empty(),
             sent: Batch::empty(),
             tally: T::default(),
@@ -87,6 +93,9 @@ impl<A: Asked, T: Takes<A> + Default> Exchange<A, T> {
                 return Err(format!("the archive lacks {name}"));
             }
             self.tally.take(asked, expected, &proved);
+            if self.first && self.tally.differences() > 0 {
+                return Err("ended at the first difference".into());
+            }
         }
         Ok(())
     }

@@ -16,6 +16,7 @@ mod outcome;
 mod progress;
 mod question;
 mod settings;
+mod stand_in;
 mod tally;
 mod texts;
 mod writer;
@@ -24,9 +25,10 @@ use options::{Command, Options};
 use std::process::ExitCode;
 
 const USAGE: &str = "\
-use: compare gate [--elements] [--listing] [--fields] [--writer] --driver COMMAND...
+use: compare gate [--elements] [--listing] [--fields] [--writer] [--first] --driver COMMAND...
      compare long --seed S --count N [--elements] [--listing] [--fields] --driver COMMAND...
      compare writer --seed S --count N --driver COMMAND...
+     compare stand-in
 ";
 
 fn main() -> ExitCode {
@@ -42,6 +44,7 @@ fn main() -> ExitCode {
         Command::Gate => gate(&options),
         Command::Long { seed, count } => long::long(&options, seed, count),
         Command::Writer { seed, count } => writer::long(&options, seed, count),
+        Command::StandIn => stand_in::serve(std::io::stdin(), std::io::stdout()),
     };
     match good {
         Ok(true) => ExitCode::SUCCESS,

@@ -3,8 +3,16 @@
 #[derive(Debug, PartialEq, Eq)]
 pub enum Command {
     Gate,
-    Long { seed: u64, count: u64 },
-    Writer { seed: u64, count: u64 },
+    Long {
+        seed: u64,
+        count: u64,
+    },
+    Writer {
+        seed: u64,
+        count: u64,
+    },
+    /// The second program answers in the driver's place.
+    StandIn,
 }
 
 #[derive(Debug, PartialEq, Eq)]
@@ -15,6 +23,8 @@ pub struct Options {
     pub fields: bool,
     /// The gate: the writer's calls too.
     pub writer: bool,
+    /// The gate: it ends at the first difference.
+    pub first: bool,
     /// The driver's program and its arguments, at least one word.
     pub driver: Vec<String>,
 }
@@ -28,6 +38,7 @@ struct Given {
     listing: bool,
     fields: bool,
     writer: bool,
+    first: bool,
     driver: Vec<String>,
 }
 
@@ -50,6 +61,7 @@ impl Given {
                 "--listing" => given.listing = true,
                 "--fields" => given.fields = true,
                 "--writer" => given.writer = true,
+                "--first" => given.first = true,
                 "--driver" => given.driver = words.by_ref().cloned().collect(),
                 _ => return Err(format!("'{word}' has no meaning here")),
             }
@@ -68,16 +80,17 @@ impl Options {
             ("long", Some(seed), Some(count)) => Command::Long { seed, count },
             ("writer", Some(seed), Some(count)) => Command::Writer { seed, count },
             ("long" | "writer", _, _) => return Err("'--seed' or '--count' is missing".into()),
+            ("stand-in", None, None) if rest.is_empty() => Command::StandIn,
             _ => return Err(format!("there is no command '{command}'")),
         };
-        if given.writer && command != Command::Gate {
-            return Err("'--writer' is for the gate alone".into());
+        if (given.writer || given.first) && command != Command::Gate {
+            return Err("'--writer' and '--first' are for the gate alone".into());
         }
         let of_tables = given.elements || given.listing || given.fields;
         if of_tables && matches!(command, Command::Writer { .. }) {
             return Err("'--elements', '--listing' and '--fields' are for tables".into());
         }
-        if given.driver.is_empty() {
+        if given.driver.is_empty() && command != Command::StandIn {
             return Err("'--driver' and its command are missing".into());
         }
         Ok(Options {
@@ -86,6 +99,7 @@ impl Options {
             listing: given.listing,
             fields: given.fields,
             writer: given.writer,
+            first: given.first,
             driver: given.driver,
         })
     }

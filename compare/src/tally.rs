@@ -37,6 +37,10 @@ impl Takes<Question> for Tally {
         }
         self.listings += u64::from(asked.call == Call::List);
     }
+
+    fn differences(&self) -> u64 {
+        self.all_differences()
+    }
 }
 
 impl Tally {

@@ -197,7 +197,7 @@ fn the_same_seed_gives_the_same_tables() {
         hash
     };
     let found = [0, 3].map(fingerprint);
-    assert_eq!(found, [0x0D1B_4CCF_C337_1EF7, 0xDD09_5C5E_E2C7_8300]);
+    assert_eq!(found, [0x6053_E038_8C8F_C0FA, 0x71D5_648B_8493_5545]);
 }
 
 #[test]

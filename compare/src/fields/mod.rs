@@ -7,15 +7,16 @@ mod tally;
 
 use crate::comparison::HUGE;
 use crate::exchange::Exchange;
+use crate::options::Options;
 use crate::question::Origin;
 use batch::Batch;
-use reading::Reading;
 use second::access::walk;
 use second::element::{fixed_length, id};
 use second::random::Random;
 use second::{Settings, Verdict};
 use std::rc::Rc;
 
+pub use reading::Reading;
 pub use tally::Tally;
 
 /// Readings of one request; the driver takes no more than twice as many.
@@ -89,9 +90,9 @@ fn of_part(origin: Origin, element: &[u8]) -> Option<Batch> {
 }
 
 impl Fields {
-    pub fn start(driver: &[String]) -> Result<Fields, String> {
+    pub fn start(options: &Options) -> Result<Fields, String> {
         Ok(Fields {
-            exchange: Exchange::start(driver)?,
+            exchange: Exchange::start(options)?,
             random: Random::new(SEED),
         })
     }

@@ -51,6 +51,24 @@ impl Reading {
     /// Bytes of a reading in a request.
     pub const LENGTH: usize = 17;
 
+    /// The reading that a request asks for.
+    pub fn of(which: u8, first: u64, second: u64) -> Option<Reading> {
+        Some(match which {
+            0 => Reading::Describe,
+            1 => Reading::Fields(first),
+            2 => Reading::Part(first),
+            3 => Reading::Text(first),
+            4 => Reading::Block(first),
+            5 => Reading::Pair(first, second),
+            6 => Reading::Entries(first),
+            7 => Reading::Entry(first, second),
+            8 => Reading::Colours(first),
+            9 => Reading::Colour(first, second),
+            10 => Reading::Label(first, second),
+            _ => return None,
+        })
+    }
+
     /// The driver's number of the call, and its place among the names.
     pub fn which(self) -> u8 {
         match self {

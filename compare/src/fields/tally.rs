@@ -34,6 +34,10 @@ impl Takes<Batch> for Tally {
             });
         }
     }
+
+    fn differences(&self) -> u64 {
+        self.differences.0
+    }
 }
 
 impl Tally {

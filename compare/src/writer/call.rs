@@ -20,6 +20,18 @@ pub enum Does {
     Rewrite,
 }
 
+impl Does {
+    /// What a mode of the driver asks for; of the other modes none.
+    pub fn of(mode: u8, id: u8) -> Option<Does> {
+        Some(match mode {
+            3 => Does::Start,
+            4 => Does::Append(id),
+            5 => Does::Rewrite,
+            _ => return None,
+        })
+    }
+}
+
 #[derive(Clone, Debug, PartialEq, Eq)]
 pub struct WriterCall {
     pub does: Does,

@@ -1,15 +1,17 @@
-//! Calls at the edges of sizes, lengths, room and identifiers: 1, 3, 16 and 7.
+//! Calls at the edges of sizes, lengths, room and identifiers: 1, 3, 16 and 7; and onto tables that the reader then refuses.
 
 use super::call::WriterCall;
 use super::samples::{description, elements, junk, Sink};
 use crate::settings::writing;
 use second::element::id;
+use second::generator::raw;
 use second::Chip;
 
 pub fn calls(chip: Chip, to: Sink) -> Result<(), String> {
     sizes(chip, to)?;
     lengths(chip, to)?;
     room(chip, to)?;
+    onto_tables(chip, to)?;
     unknown(chip, to)
 }
 
@@ -92,6 +94,26 @@ fn room(chip: Chip, to: Sink) -> Result<(), String> {
                 70_000,
             ] {
                 to(sample.call(junk(size, so_far)))?;
+            }
+        }
+    }
+    Ok(())
+}
+
+/// append looks at bytes 1-2 only: a fan before the first, a pin twice, a zone that is not there, a number again, a 97th
+/// element and a 13th zone are the reader's, as is another revision.
+fn onto_tables(chip: Chip, to: Sink) -> Result<(), String> {
+    let last_pins = vec![raw::fan(1, 0x12, 0x13), raw::led(1, [0x14, 0x02, 0x30])];
+    let strings = (1..=96).map(|number| raw::text(number, &[])).collect();
+    let zones = (1..=12).map(|number| raw::zone(number, 0)).collect();
+    for standing in [last_pins, strings, zones] {
+        for revision in [0x01, 0x10] {
+            let mut table = raw::table(&standing);
+            table[0] = revision;
+            for sample in elements(chip) {
+                let mut buffer = table.clone();
+                buffer.resize(table.len() + sample.needed() + 1, 0xA5);
+                to(sample.call(buffer))?;
             }
         }
     }

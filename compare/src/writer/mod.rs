@@ -14,11 +14,12 @@ mod tally;
 use crate::exchange::Exchange;
 use crate::options::Options;
 use crate::progress::Progress;
-use call::WriterCall;
 use second::random::Random;
 use second::Chip;
-use stream::Stream;
 use tally::Tally;
+
+pub use call::{Does, WriterCall};
+pub use stream::Stream;
 
 const SEED: u64 = 2_026;
 /// Seeded calls of the gate; the calls at the edges come in addition.
@@ -38,11 +39,14 @@ impl Comparison {
 
 /// Every call at the edges, and calls of a fixed seed. Every answer must come at least once.
 pub fn gate(options: &Options) -> Result<bool, String> {
-    let mut comparison = Comparison::start(&options.driver)?;
+    let mut comparison = Comparison::start(options)?;
     for chip in Chip::BOTH {
         at_the_edges(&mut comparison, chip)?;
     }
     for call in Stream::new(SEED).take(SEEDED as usize) {
+        comparison.call(call)?;
+    }
+    for call in rewritings::reserved() {
         comparison.call(call)?;
     }
     let mut random = Random::new(SEED);
@@ -77,7 +81,7 @@ fn at_the_edges(comparison: &mut Comparison, chip: Chip) -> Result<(), String> {
 /// So many calls of one seed.
 pub fn long(options: &Options, seed: u64, count: u64) -> Result<bool, String> {
     let progress = Progress::start("writer calls", seed);
-    let mut comparison = Comparison::start(&options.driver)?;
+    let mut comparison = Comparison::start(options)?;
     let mut stream = Stream::new(seed);
     for at in 0..count {
         progress.step(at, comparison.tally.differences.0);

@@ -78,6 +78,13 @@ fn strings(sample: &Sample, to: Sink) -> Result<(), String> {
             }
         }
     }
+    // Any locale is good, and is none of the text.
+    for locale in [0x0000u16, 0xD83D, 0xDE00] {
+        for text in [&[][..], &[0x41, 0x00], &[0x00, 0xDE]] {
+            let part = [&[1], &locale.to_le_bytes()[..], text].concat();
+            with(sample, part, 100, to)?;
+        }
+    }
     for length in lengths() {
         for size in [16, 4_095, 4_096, 4_097, 65_535, 65_536, 70_000] {
             with(sample, vec![1; length], size, to)?;

@@ -2,9 +2,21 @@
 
 use super::call::WriterCall;
 use crate::settings::writing;
-use second::generator::{any, only_in_the_archive, only_on_the_320, valid};
+use second::generator::{any, only_in_the_archive, only_on_the_320, targeted, valid};
 use second::random::Random;
 use second::{Chip, Rules, Settings, Verdict};
+
+/// Named cases whose reserved places are not zero, on both chips.
+pub fn reserved() -> Vec<WriterCall> {
+    let cases = targeted().iter();
+    let cases = cases.filter(|(name, _)| name.contains("reserved places"));
+    let rewritten = |table: &[u8], chip: Chip| {
+        WriterCall::rewrite(writing(chip, 0), table.to_vec(), vec![0xA5; table.len()])
+    };
+    cases
+        .flat_map(|(_, table)| Chip::BOTH.map(|chip| rewritten(table, chip)))
+        .collect()
+}
 
 /// The rewritings of one table. An accepted one is written twice: what is written must come again.
 pub fn calls(random: &mut Random) -> Vec<WriterCall> {

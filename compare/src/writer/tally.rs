@@ -34,6 +34,10 @@ impl Takes<WriterCall> for Tally {
         let chip = of_writing(call.settings);
         answers.add(chip.into(), proved.answer.number());
     }
+
+    fn differences(&self) -> u64 {
+        self.differences.0
+    }
 }
 
 impl Tally {

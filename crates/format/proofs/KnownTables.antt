@@ -16,7 +16,7 @@ use Rattle.format.specs.Decode.{decode}
 use Rattle.format.specs.Reader.{verdictOf, pass, step}
 use Rattle.format.specs.Known.{Row, starred, twofold, zoned, ofPins, apart, ofTheFanList, retired, texts}
 use Rattle.format.specs.WaterKit.{waterKit, manyPairs, lightRetired}
-use Rattle.format.specs.EachRule.{eachRule}
+use Rattle.format.specs.EachRule.{eachRule, fullTable}
 use Rattle.format.specs.declared.answers.Answer.{Answer}
 use Rattle.format.specs.declared.answers.Answer.the-variants.{Accepted, Refused}
 use Rattle.format.proofs.Kept.{and-true}
@@ -161,3 +161,11 @@ module _ (s : Settings) where
   -- what no other row meets
   pub each-rule : Each s eachRule
   each-rule = lists .1 .1 .1 .1 .1 .1 .1 .1 .1 .1 .1 .0
+
+-- 96 elements and 97, on the 320 by the ordinary rules
+computed-full : right (on C8051F320 Ordinary) fullTable ≡ true
+unfolding verdictOf pass step decode descriptionRules ownRules rulesAgainst
+computed-full = refl
+
+pub full-table : Each (record { chip = C8051F320; rules = Ordinary }) fullTable
+full-table = right-each (record { chip = C8051F320; rules = Ordinary }) fullTable computed-full

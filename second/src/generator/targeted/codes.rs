@@ -8,6 +8,7 @@ pub fn cases(cases: &mut Vec<Case>) {
     thermal(cases);
     lights(cases);
     pulses(cases);
+    at_will(cases);
     reserved_places(cases);
     for number in 0..=255u8 {
         let element = raw::text(number, b"tt");
@@ -83,9 +84,44 @@ fn pulses(cases: &mut Vec<Case>) {
     let mut element = raw::fan(1, 0x07, 0xFF);
     element[10] = 1;
     add_element(cases, "PPR without tachometer and bad PWM", element);
-    let mut element = raw::fan(1, 0x05, 0x06);
-    element[11..15].copy_from_slice(&[0xFF, 0xFF, 0, 0]);
-    add_element(cases, "minimum RPM over maximum", element);
+}
+
+/// What looks like a fault, and no rule says so: ends exchanged, no register for the upper byte, a duty cycle over 100,
+/// one axis unknown.
+fn at_will(cases: &mut Vec<Case>) {
+    let changes: [(&str, Vec<u8>, usize, &[u8]); 7] = [
+        (
+            "minimum RPM over maximum",
+            raw::fan(1, 0x05, 0x06),
+            11,
+            &[0xFF, 0xFF, 0, 0],
+        ),
+        ("duty cycle FFh", raw::fan(1, 0x05, 0x06), 15, &[0xFF]),
+        (
+            "IMAX under IMIN",
+            raw::current(1, 0x14),
+            10,
+            &[0x2C, 1, 0, 0],
+        ),
+        (
+            "maximum under minimum temp",
+            raw::digital(1, 0, 0x40),
+            15,
+            &[0xFF, 3, 100, 0, 0, 0],
+        ),
+        ("MSB register FFh", raw::digital(1, 0, 0x40), 13, &[0xFF, 0]),
+        (
+            "MSB register FFFFh",
+            raw::digital(1, 0, 0x40),
+            13,
+            &[0xFF, 0xFF],
+        ),
+        ("one axis unknown", raw::led(1, [0xFF; 3]), 4, &[1, 0xFF, 3]),
+    ];
+    for (name, mut element, at, bytes) in changes {
+        element[at..at + bytes.len()].copy_from_slice(bytes);
+        add_element(cases, name, element);
+    }
 }
 
 /// All reserved places of each kind FFh; the table stays accepted.

@@ -96,7 +96,7 @@ fn zones(cases: &mut Vec<Case>) {
 fn twice(cases: &mut Vec<Case>) {
     let mut other_locale = raw::text(7, b"xy");
     other_locale[4] = 0x07;
-    let pairs: [(&str, Vec<u8>, Vec<u8>); 6] = [
+    let pairs: [(&str, Vec<u8>, Vec<u8>); 7] = [
         ("string twice", raw::text(7, &[]), raw::text(7, &[])),
         ("string in two locales", raw::text(7, &[]), other_locale),
         (
@@ -106,6 +106,7 @@ fn twice(cases: &mut Vec<Case>) {
         ),
         ("zone 0 twice", raw::zone(0, 0), raw::zone(0, 0)),
         ("zone 255 twice", raw::zone(255, 0), raw::zone(255, 0)),
+        ("zone of two strings", raw::zone(9, 0), raw::zone(9, 100)),
         ("string and zone 9", raw::text(9, &[]), raw::zone(9, 0)),
     ];
     for (name, one, other) in pairs {

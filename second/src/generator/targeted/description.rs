@@ -7,6 +7,7 @@ pub fn cases(cases: &mut Vec<Case>) {
     short(cases);
     length_field(cases);
     one_byte(cases);
+    serials(cases);
     hardware(cases);
     large(cases);
     first_of_two(cases);
@@ -51,9 +52,17 @@ fn one_byte(cases: &mut Vec<Case>) {
     let mut table = TABLE_A.to_vec();
     table[12..].fill(0xFF);
     add(cases, "description's reserved places FFh", table);
-    let mut table = TABLE_A.to_vec();
-    table[5..8].fill(0xFF);
-    add(cases, "the greatest serial number", table);
+}
+
+/// Any serial number is good, 0 too: at the ends of its bytes and of its decimals.
+fn serials(cases: &mut Vec<Case>) {
+    for serial in [
+        0, 9, 10, 255, 256, 65_535, 65_536, 9_999_999, 10_000_000, 0xFF_FFFF,
+    ] {
+        let mut table = TABLE_A.to_vec();
+        table[5..8].copy_from_slice(&u32::to_le_bytes(serial)[..3]);
+        add(cases, format!("serial number {serial}"), table);
+    }
 }
 
 /// Every pin byte in each of the three places, and one pin twice.

@@ -114,7 +114,7 @@ fn uneven_blocks(cases: &mut Vec<Case>) {
     }
     // A reserved bus type (9) beside blocks that do not fill (8), and beside a bad select (10).
     let mut element = raw::controller(1, 9, 0x40, &[2]);
-    element[12] = 1;
+    element[12] = 3;
     add_element(cases, "reserved bus and uneven blocks", element);
     let element = raw::controller(1, 3, 0x10, &[1, 0]);
     add_element(cases, "empty block and bad select", element);

@@ -8,6 +8,7 @@ mod counts;
 mod description;
 mod fans;
 mod layouts;
+mod lengths;
 mod names;
 mod pins;
 mod retired;
@@ -27,6 +28,7 @@ pub fn targeted() -> &'static [Case] {
         let mut cases = Vec::new();
         description::cases(&mut cases);
         layouts::cases(&mut cases);
+        lengths::cases(&mut cases);
         counts::cases(&mut cases);
         codes::cases(&mut cases);
         pins::cases(&mut cases);

@@ -11,6 +11,7 @@ pub fn cases(cases: &mut Vec<Case>) {
     }
     zone_string(cases);
     description(cases);
+    several(cases);
 }
 
 fn zone_of(cases: &mut Vec<Case>, name: &str, element: &[u8]) {
@@ -86,6 +87,45 @@ fn add_order(cases: &mut Vec<Case>, name: &str, sequence: Vec<Vec<u8>>) {
     parts.description[4] = 78;
     parts.description[9] = 0x10;
     add(cases, format!("{name}, description too"), parts.bytes());
+}
+
+/// Two missing zones, and two missing strings of an element and a zone in both orders: the first counts. A zone's string is no
+/// element's own, and no zone a string.
+fn several(cases: &mut Vec<Case>) {
+    let lamp = |zone: u8, string: u8| {
+        let mut element = raw::led(zone, [0xFF; 3]);
+        element[3] = string;
+        element
+    };
+    let named = || [raw::zone(1, 7), raw::text(7, b"zone")];
+    let lists: [(&str, Vec<Vec<u8>>); 4] = [
+        (
+            "two zones missing",
+            vec![raw::zone(1, 0), lamp(2, 0), lamp(3, 0)],
+        ),
+        (
+            "a lamp's string missing, then its zone's",
+            vec![lamp(1, 9), raw::zone(1, 8)],
+        ),
+        (
+            "a zone's string missing, then its lamp's",
+            vec![raw::zone(1, 8), lamp(1, 9)],
+        ),
+        (
+            "a lamp without a name in a zone with one",
+            [&named()[..], &[lamp(1, 0)]].concat(),
+        ),
+    ];
+    for (name, elements) in lists {
+        add(cases, name, raw::table(&elements));
+    }
+    let mut parts = Parts::of(&[raw::zone(9, 0)]);
+    parts.description[4] = 9;
+    add(
+        cases,
+        "description with a zone's number for a string",
+        parts.bytes(),
+    );
 }
 
 fn zone_string(cases: &mut Vec<Case>) {

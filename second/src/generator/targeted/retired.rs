@@ -29,6 +29,16 @@ pub fn cases(cases: &mut Vec<Case>) {
         lengths(cases, name, &device(0xF2));
     }
     empty_blocks(cases);
+    zone_content(cases);
+}
+
+/// A zone has no bus type in byte 8: it is content.
+fn zone_content(cases: &mut Vec<Case>) {
+    let mut zone = raw::zone(1, 0);
+    zone[8] = 0x02;
+    let elements = [zone, raw::digital(1, 0x02, 0x40)];
+    let name = "block mode, and 02h in a zone's byte 8";
+    add(cases, name, raw::table(&elements));
 }
 
 /// The element alone, in its zone, without its string, before and after other faults.

@@ -29,6 +29,7 @@ pub fn cases(cases: &mut Vec<Case>) {
         }
     }
     ends(cases);
+    locales(cases);
     far(cases);
     company(cases);
 }
@@ -59,6 +60,18 @@ fn ends(cases: &mut Vec<Case>) {
     let half = raw::text(7, &bytes(&[0xD83D]));
     let low = raw::text(8, &bytes(&[0xDE00]));
     add(cases, "a pair in two strings", raw::table(&[half, low]));
+}
+
+/// Any locale is good, and is none of the text.
+fn locales(cases: &mut Vec<Case>) {
+    for locale in [0x0000u16, 0xD83D, 0xDE00, 0xFFFF] {
+        for units in [&[][..], &[0x41], &[0xDE00], &[0xD83D, 0xDE00]] {
+            let mut element = raw::text(7, &bytes(units));
+            element[4..6].copy_from_slice(&locale.to_le_bytes());
+            let name = format!("locale {locale:04X}h, text {units:04X?}");
+            add(cases, name, raw::table(&[element]));
+        }
+    }
 }
 
 /// The one bad unit at each place of a text of 64 units, and of one that fills the table.

@@ -1,0 +1,150 @@
+//! The second program in the driver's place: takes the driver's requests and gives its own answers. Built with an
+//! altered second program it is what `careless` holds against the right one.
+
+use crate::call::Call;
+use crate::fields::Reading;
+use crate::outcome::Outcome;
+use crate::writer::{Does, WriterCall};
+use std::io::{self, BufRead, BufReader, BufWriter, Read, Write};
+
+/// Answers until the requests end or nobody listens any more. What is answered goes out before it waits for more.
+pub fn serve(from: impl Read, to: impl Write) -> Result<bool, String> {
+    match answer_all(BufReader::new(from), BufWriter::new(to)) {
+        Err(why) if why.kind() != io::ErrorKind::BrokenPipe => {
+            Err(format!("a request or its answer was lost: {why}"))
+        }
+        _ => Ok(true),
+    }
+}
+
+fn answer_all(mut from: BufReader<impl Read>, mut to: impl Write) -> io::Result<()> {
+    loop {
+        if from.buffer().is_empty() {
+            to.flush()?;
+            if from.fill_buf()?.is_empty() {
+                return Ok(());
+            }
+        }
+        let reply = answer(&mut from)?;
+        to.write_all(&reply)?;
+    }
+}
+
+/// The reply to one request. All begin with mode, length of the bytes that are lent, k and settings.
+fn answer(from: &mut impl Read) -> io::Result<Vec<u8>> {
+    let head = bytes(from, 21)?;
+    let (mode, k, settings) = (head[0], number(&head[5..13]), number(&head[13..]));
+    let lent = bytes(from, number(&head[1..5]) as usize)?;
+    if let Some(call) = Call::of(mode, k) {
+        return Ok(of_reader(call, &lent, settings));
+    }
+    match Does::of(mode, k as u8) {
+        Some(does) => of_writer(does, k >> 8, settings, lent, from),
+        None => of_readings(k, settings, &lent, from),
+    }
+}
+
+/// A listing's text has its length before it.
+fn of_reader(call: Call, table: &[u8], settings: u64) -> Vec<u8> {
+    let Outcome { answer, buffer } = call.second(table, settings);
+    let length = (buffer.len() as u64).to_le_bytes();
+    match call {
+        Call::List => [&answer.0.to_le_bytes(), &length, &buffer[..]].concat(),
+        _ => answer.0.to_le_bytes().to_vec(),
+    }
+}
+
+/// Numbers and part follow the buffer.
+fn of_writer(
+    does: Does,
+    part_length: u64,
+    settings: u64,
+    buffer: Vec<u8>,
+    from: &mut impl Read,
+) -> io::Result<Vec<u8>> {
+    let mut numbers = [0; 32];
+    from.read_exact(&mut numbers)?;
+    let part = bytes(from, part_length as usize)?;
+    let call = WriterCall {
+        does,
+        settings,
+        numbers,
+        part,
+        buffer,
+    };
+    let Outcome { answer, buffer } = call.second();
+    Ok([&answer.0.to_le_bytes(), &buffer[..]].concat())
+}
+
+/// So many readings follow the bytes that they are of.
+fn of_readings(
+    count: u64,
+    settings: u64,
+    lent: &[u8],
+    from: &mut impl Read,
+) -> io::Result<Vec<u8>> {
+    let mut replies = Vec::new();
+    for _ in 0..count {
+        let asked = bytes(from, Reading::LENGTH)?;
+        let reading = Reading::of(asked[0], number(&asked[1..9]), number(&asked[9..]));
+        let reading = reading.ok_or(io::ErrorKind::InvalidData)?;
+        reading.second(lent, settings, &mut replies);
+    }
+    Ok(replies)
+}
+
+fn bytes(from: &mut impl Read, count: usize) -> io::Result<Vec<u8>> {
+    let mut bytes = vec![0; count];
+    from.read_exact(&mut bytes)?;
+    Ok(bytes)
+}
+
+/// Lowest byte first.
+fn number(bytes: &[u8]) -> u64 {
+    let low_last = bytes.iter().rev();
+    low_last.fold(0, |high, &byte| high << 8 | u64::from(byte))
+}
+
+#[cfg(test)]
+mod tests {
+    use super::*;
+    use crate::exchange::Asked;
+    use crate::writer::Stream;
+    use second::generator::any;
+    use second::random::Random;
+    use second::Settings;
+
+    /// Two readings of a table in one request.
+    fn readings(table: &[u8], requests: &mut Vec<u8>, wanted: &mut Vec<u8>) {
+        let asked = [Reading::Describe, Reading::Label(0, 5)];
+        requests.push(7);
+        requests.extend((table.len() as u32).to_le_bytes());
+        requests.extend([2u64, 3].into_iter().flat_map(u64::to_le_bytes));
+        requests.extend(table);
+        for reading in asked {
+            reading.request(requests);
+            reading.second(table, 3, wanted);
+        }
+    }
+
+    /// Every request is taken in whole, and answered as the second program answers.
+    #[test]
+    fn requests_end_to_end_are_answered_one_by_one() {
+        let (mut requests, mut wanted) = (Vec::new(), Vec::new());
+        let mut random = Random::new(3);
+        for write in Stream::new(3).take(200) {
+            let table = any(&mut random, Settings::default());
+            for call in [Call::Check, Call::List, Call::Element(1), Call::Part(0)] {
+                call.request(&table, 1, &mut requests);
+                wanted.extend(of_reader(call, &table, 1));
+            }
+            readings(&table, &mut requests, &mut wanted);
+            write.request(&mut requests);
+            let Outcome { answer, buffer } = write.second();
+            wanted.extend([&answer.0.to_le_bytes()[..], &buffer].concat());
+        }
+        let mut replies = Vec::new();
+        answer_all(BufReader::new(&requests[..]), &mut replies).unwrap();
+        assert!(replies == wanted);
+    }
+}
