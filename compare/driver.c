@@ -34,11 +34,12 @@ __attribute__((weak)) number esa_colours(const byte *part, number length, number
 __attribute__((weak)) number esa_colour(const byte *part, number length, number w, number i);
 __attribute__((weak)) number esa_label(const byte *table, number length, number k, number settings, const byte *name,
                                        number name_length);
+__attribute__((weak)) number esa_fan(const byte *table, number length, byte zone, number settings);
 
-enum { CHECK = 0, ELEMENT = 1, PART = 2, START = 3, APPEND = 4, REWRITE = 5, LIST = 6, READINGS = 7 };
+enum { CHECK = 0, ELEMENT = 1, PART = 2, START = 3, APPEND = 4, REWRITE = 5, LIST = 6, READINGS = 7, FANS = 9 };
 /* exit status; TOUCHED: bytes in front of the buffer, the numbers, the part or the table have changed */
 enum { BROKEN_REQUEST = 3, NO_INPUT_OR_OUTPUT = 4, NO_MEMORY = 5, TOUCHED = 6 };
-enum { HEADER = 21, NUMBERS = 32, LISTING = 4096, LONGEST = 70000, READING = 17, MOST_READINGS = 1 << 15 };
+enum { HEADER = 21, NUMBERS = 32, LISTING = 4096, LONGEST = 70000, READING = 17, MOST_READINGS = 1 << 15, MOST_ZONES = 256 };
 /* A lent name is no well-formed text: it comes back as it is. */
 enum { FRONT = 256, FRONT_BYTE = 0xC3, NAME_BYTE = 0xD8, ROOM = 1 << 17, GUARD = 1 << 16 };
 #define NO_SUCH_CALL (~0UL)
@@ -216,6 +217,18 @@ static void answer_readings(const byte *body, number length, number count, numbe
     if (memcmp(numbers - FRONT, front, FRONT) || memcmp(lent, body, length)) _exit(TOUCHED);
 }
 
+/* Is there a fan in this zone? Asked of one table with many zones, a byte each behind it; the answer to each goes out. */
+static void answer_fans(const byte *body, number length, number count, number settings)
+{
+    byte *table = table_end - length;
+    memcpy(table, body, length);
+    for (number at = 0; at < count; at++) {
+        number value = esa_fan ? esa_fan(table, length, body[length + at], settings) : NO_SUCH_CALL;
+        put(&value, 8);
+    }
+    if (memcmp(table, body, length)) _exit(TOUCHED);
+}
+
 /* Answers the whole requests among the bytes held, and gives the number of bytes that they took. */
 static number answer_all(number held)
 {
@@ -231,12 +244,14 @@ static number answer_all(number held)
         memcpy(&settings, request + 13, 8);
         number part_length = writes ? k >> 8 : 0;
         number readings = mode == READINGS ? k : 0;
-        if (length > LONGEST || part_length > LONGEST || readings > MOST_READINGS) _exit(BROKEN_REQUEST);
-        number size = HEADER + (number)length + (writes ? NUMBERS + part_length : readings * READING);
+        number zones = mode == FANS ? k : 0;
+        if (length > LONGEST || part_length > LONGEST || readings > MOST_READINGS || zones > MOST_ZONES) _exit(BROKEN_REQUEST);
+        number size = HEADER + (number)length + (writes ? NUMBERS + part_length : readings * READING + zones);
         if (held - used < size) break;
         if (writes) answer_writer(mode, (byte)k, settings, request + HEADER, length, part_length);
         else if (mode == LIST) answer_list(request + HEADER, length, settings);
         else if (mode == READINGS) answer_readings(request + HEADER, length, readings, settings);
+        else if (mode == FANS) answer_fans(request + HEADER, length, zones, settings);
         else answer_reader(mode, request + HEADER, length, k, settings);
         used += size;
     }

@@ -190,6 +190,24 @@ static inline const uint8_t *esa_label_start(uint64_t answer, const uint8_t *tab
     return (esa_which(answer) == ESA_OF_THE_NAME ? name : table) + esa_label_place(answer);
 }
 
+/* Is there a fan in this zone, any number from 0 to 255? A PWM fan (03h) or a PWM pump (06h) whose zone identifier it is. 0, and
+   beside it whether there is one (esa_fan_found) and how many elements were visited to find out (esa_fan_visited): those up to and
+   with the first such element, or all where there is none, zone descriptors and strings counted. Of a zone that nothing declares
+   the answer is no, after all; of a table without elements no, after 0. Or the table's own refusal as esa_check gives it. */
+uint64_t esa_fan(const uint8_t *table, size_t length, uint8_t zone, uint64_t settings);
+
+/* 1 for yes and 0 for no; 0 also with a refusal. */
+static inline int esa_fan_found(uint64_t answer)
+{
+    return esa_number(answer) == ESA_GOOD && (answer >> 8 & 1) != 0;
+}
+
+/* 0 with a refusal. */
+static inline size_t esa_fan_visited(uint64_t answer)
+{
+    return esa_number(answer) == ESA_GOOD ? (size_t)(answer >> 9) : 0;
+}
+
 /* Inside a part, which may be any bytes: 17 at 0 where no such block or pair stands whole in it. Of the part of 09h: the speed of
    speed block j in units of 100 RPM, and 256 times its number of register pairs; and of its register pair i the address, and
    65,536 times the data. Blocks and pairs are counted from 0; block 0 is the default block. */

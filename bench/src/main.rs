@@ -2,6 +2,7 @@
 
 mod checking;
 mod corpora;
+mod fans;
 mod growth;
 mod putting;
 mod rounds;
@@ -11,12 +12,13 @@ mod writing;
 use std::process::ExitCode;
 
 /// What can be measured, by its name: prints and gives the number of differences.
-const PARTS: [(&str, fn() -> usize); 5] = [
+const PARTS: [(&str, fn() -> usize); 6] = [
     ("check", checking::report),
     ("growth", growth::report),
     ("writing", writing::report),
     ("listing", putting::listing),
     ("rewriting", putting::rewriting),
+    ("fan", fans::report),
 ];
 
 fn main() -> ExitCode {

@@ -3,6 +3,7 @@
 use crate::answer::Answer;
 use crate::call::Call;
 use crate::exchange::Exchange;
+use crate::fans::Fans;
 use crate::fields::Fields;
 use crate::known::Row;
 use crate::options::Options;
@@ -23,6 +24,8 @@ pub struct Comparison {
     listing: bool,
     /// Ask for every field of every element too.
     fields: Option<Fields>,
+    /// Ask for a fan in every zone too.
+    fans: Option<Fans>,
 }
 
 /// Numbers that no table has, and that are small ones in their low bits.
@@ -47,6 +50,10 @@ impl Comparison {
             exchange: Exchange::start(options)?,
             fields: match options.fields {
                 true => Some(Fields::start(options)?),
+                false => None,
+            },
+            fans: match options.fans {
+                true => Some(Fans::start(options)?),
                 false => None,
             },
             elements: options.elements,
@@ -74,6 +81,7 @@ impl Comparison {
             let number = settings::reading(settings, turn);
             self.calls(origin, number, &table)?;
             self.fields(origin, number, &table, settings == made_for)?;
+            self.fans(origin, number, &table)?;
         }
         Ok(())
     }
@@ -113,7 +121,13 @@ impl Comparison {
         self.exchange.tally.tables += 1;
         self.ask(origin, row.call, settings, &table, row.answer.into())?;
         self.listing(origin, settings, &table)?;
-        self.fields(origin, settings, &table, true)
+        self.fields(origin, settings, &table, true)?;
+        self.fans(origin, settings, &table)
+    }
+
+    /// Holds both sides to the papers' answers of fans, if they are asked for.
+    pub fn known_fans(&mut self) -> Result<(), String> {
+        self.fans.as_mut().map_or(Ok(()), Fans::known)
     }
 
     /// Compares the calls on parts at their edges.
@@ -133,6 +147,13 @@ impl Comparison {
             return Ok(());
         };
         fields.table(origin, settings, table, parts)
+    }
+
+    fn fans(&mut self, origin: Origin, settings: u64, table: &Rc<[u8]>) -> Result<(), String> {
+        let Some(fans) = &mut self.fans else {
+            return Ok(());
+        };
+        fans.table(origin, settings, table)
     }
 
     fn listing(&mut self, origin: Origin, settings: u64, table: &Rc<[u8]>) -> Result<(), String> {
@@ -164,12 +185,14 @@ impl Comparison {
     /// So far, the calls that are not yet answered left out.
     pub fn differences(&self) -> u64 {
         let fields = self.fields.as_ref().map_or(0, Fields::differences);
-        self.exchange.tally.all_differences() + fields
+        let fans = self.fans.as_ref().map_or(0, Fans::differences);
+        self.exchange.tally.all_differences() + fields + fans
     }
 
     pub fn finish(self) -> Result<Tally, String> {
         let mut tally = self.exchange.finish()?;
         tally.fields = self.fields.map(Fields::finish).transpose()?;
+        tally.fans = self.fans.map(Fans::finish).transpose()?;
         Ok(tally)
     }
 }

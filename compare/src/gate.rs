@@ -1,6 +1,7 @@
 //! The gate: known tables, texts, named cases, and generated tables of fixed seeds.
 
 use crate::comparison::Comparison;
+use crate::fans;
 use crate::fields;
 use crate::known;
 use crate::options::Options;
@@ -19,6 +20,7 @@ pub fn gate(options: &Options) -> Result<bool, String> {
     for row in known::rows().into_iter().chain(texts::rows()) {
         comparison.known(row)?;
     }
+    comparison.known_fans()?;
     // Two and two, as many cases come in pairs.
     for (at, (name, table)) in generator::targeted().iter().enumerate() {
         let made_for = Settings::ALL[at / 2 % 4];
@@ -62,6 +64,7 @@ fn judged(tally: &Tally, elements: bool) -> bool {
         good &= tally.all_came(1, &[17]);
     }
     good &= tally.fields.as_ref().is_none_or(fields::Tally::all_came);
+    good &= tally.fans.as_ref().is_none_or(fans::Tally::all_came);
     tally.print_sum();
     good && tally.all_differences() == 0
 }

@@ -18,16 +18,16 @@ const A: [u8; 16] = [
     0x01, 0x10, 0x00, 0x02, 0x00, 0x07, 0x00, 0x00, 0x80, 0xFF, 0xFF, 0xFF, 0x00, 0x00, 0x00, 0x00,
 ];
 /// PWM stands at 8, the tachometer at 9.
-const F: [u8; 16] = [
+pub const F: [u8; 16] = [
     0x03, 0x10, 0x00, 0x00, 0xFF, 0xFF, 0xFF, 0x01, 0x05, 0x06, 0x02, 0x2C, 0x01, 0xDC, 0x05, 0x40,
 ];
 /// ENTRIES stands at 12.
-const C: [u8; 17] = [
+pub const C: [u8; 17] = [
     0x09, 0x11, 0x00, 0x00, 0xFF, 0xFF, 0xFF, 0x01, 0x00, 0x40, 0x00, 0x05, 0x01, 0x07, 0x00, 0x0C,
     0x00,
 ];
 /// Descriptor of zone 1 (000, Table 30), without a string; the rest is content.
-const ZONE_1: [u8; 30] = {
+pub const ZONE_1: [u8; 30] = {
     let mut zone = [0; 30];
     zone[0] = 0x0B;
     zone[1] = 30;
@@ -40,7 +40,7 @@ fn a(at: usize, byte: u8) -> Vec<u8> {
     changed(&A, &[(at, byte)])
 }
 
-fn changed(bytes: &[u8], changes: &[(usize, u8)]) -> Vec<u8> {
+pub fn changed(bytes: &[u8], changes: &[(usize, u8)]) -> Vec<u8> {
     let mut bytes = bytes.to_vec();
     for &(at, byte) in changes {
         bytes[at] = byte;
@@ -49,7 +49,7 @@ fn changed(bytes: &[u8], changes: &[(usize, u8)]) -> Vec<u8> {
 }
 
 /// A with its length mended and these bytes added.
-fn with(elements: &[&[u8]]) -> Vec<u8> {
+pub fn with(elements: &[&[u8]]) -> Vec<u8> {
     let mut table = [&A[..], &elements.concat()].concat();
     table[1] = table.len() as u8;
     table

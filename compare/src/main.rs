@@ -7,6 +7,7 @@ mod call;
 mod comparison;
 mod driver;
 mod exchange;
+mod fans;
 mod fields;
 mod gate;
 mod known;
@@ -25,8 +26,8 @@ use options::{Command, Options};
 use std::process::ExitCode;
 
 const USAGE: &str = "\
-use: compare gate [--elements] [--listing] [--fields] [--writer] [--first] --driver COMMAND...
-     compare long --seed S --count N [--elements] [--listing] [--fields] --driver COMMAND...
+use: compare gate [--elements] [--listing] [--fields] [--fans] [--writer] [--first] --driver COMMAND...
+     compare long --seed S --count N [--elements] [--listing] [--fields] [--fans] --driver COMMAND...
      compare writer --seed S --count N --driver COMMAND...
      compare stand-in
 ";

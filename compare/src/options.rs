@@ -21,6 +21,7 @@ pub struct Options {
     pub elements: bool,
     pub listing: bool,
     pub fields: bool,
+    pub fans: bool,
     /// The gate: the writer's calls too.
     pub writer: bool,
     /// The gate: it ends at the first difference.
@@ -37,6 +38,7 @@ struct Given {
     elements: bool,
     listing: bool,
     fields: bool,
+    fans: bool,
     writer: bool,
     first: bool,
     driver: Vec<String>,
@@ -60,6 +62,7 @@ impl Given {
                 "--elements" => given.elements = true,
                 "--listing" => given.listing = true,
                 "--fields" => given.fields = true,
+                "--fans" => given.fans = true,
                 "--writer" => given.writer = true,
                 "--first" => given.first = true,
                 "--driver" => given.driver = words.by_ref().cloned().collect(),
@@ -86,9 +89,9 @@ impl Options {
         if (given.writer || given.first) && command != Command::Gate {
             return Err("'--writer' and '--first' are for the gate alone".into());
         }
-        let of_tables = given.elements || given.listing || given.fields;
+        let of_tables = given.elements || given.listing || given.fields || given.fans;
         if of_tables && matches!(command, Command::Writer { .. }) {
-            return Err("'--elements', '--listing' and '--fields' are for tables".into());
+            return Err("'--elements', '--listing', '--fields' and '--fans' are for tables".into());
         }
         if given.driver.is_empty() && command != Command::StandIn {
             return Err("'--driver' and its command are missing".into());
@@ -98,6 +101,7 @@ impl Options {
             elements: given.elements,
             listing: given.listing,
             fields: given.fields,
+            fans: given.fans,
             writer: given.writer,
             first: given.first,
             driver: given.driver,

@@ -3,6 +3,7 @@
 use crate::answers::{of_a_table, Answers};
 use crate::call::Call;
 use crate::exchange::Takes;
+use crate::fans;
 use crate::fields;
 use crate::outcome::{hex, text, Differences, Outcome};
 use crate::question::Question;
@@ -19,6 +20,8 @@ pub struct Tally {
     pub listing_differences: Differences,
     /// Of the fields, where they were asked for, once all is over.
     pub fields: Option<fields::Tally>,
+    /// The same of the fans.
+    pub fans: Option<fans::Tally>,
     /// By mode: how often each number came, both sides agreeing.
     answers: [Answers; 3],
 }
@@ -52,6 +55,9 @@ impl Tally {
         if let Some(fields) = &self.fields {
             fields.print_answers();
         }
+        if let Some(fans) = &self.fans {
+            fans.print_answers();
+        }
     }
 
     /// Prints the answers of this mode that should have come and did not, those to a whole table and these
@@ -70,10 +76,11 @@ impl Tally {
             .fields
             .as_ref()
             .map_or(0, |fields| fields.differences.0);
-        self.differences.0 + self.listing_differences.0 + fields
+        let fans = self.fans.as_ref().map_or(0, |fans| fans.differences.0);
+        self.differences.0 + self.listing_differences.0 + fields + fans
     }
 
-    /// The last line, or the last three.
+    /// The last line, or the last four.
     pub fn print_sum(&self) {
         println!("{} tables, {} differences", self.tables, self.differences.0);
         if self.listings > 0 {
@@ -82,6 +89,9 @@ impl Tally {
         }
         if let Some(fields) = &self.fields {
             fields.print_sum();
+        }
+        if let Some(fans) = &self.fans {
+            fans.print_sum();
         }
     }
 }

@@ -1,6 +1,6 @@
-/* A tour of the library from C: is a file a table, what stands in it, how a new one is written, and written again; a lamp that
-   one of the two chips has no pin for; an old sensor that the archive's rules alone take; a lamp of three colours on a chip of its
-   own; and what an element is called.
+/* A tour of the library from C: is a file a table, what stands in it, is there a fan in a zone, how a new one is written, and
+   written again; a lamp that one of the two chips has no pin for; an old sensor that the archive's rules alone take; a lamp of
+   three colours on a chip of its own; and what an element is called.
    tour [FILE]      without FILE it looks at a table of its own. On x86-64:
    rt staticlib esa && cc -std=c99 -I include examples/c/tour.c target/staticlib/libesa.a -o tour */
 #include <stdio.h>
@@ -60,6 +60,16 @@ static void list(const uint8_t *table, size_t length, uint64_t settings)
 {
     uint8_t text[ESA_LISTING];
     fwrite(text, 1, esa_list(table, length, settings, text), stdout);
+}
+
+/* Is there a fan in this zone? The walk ends at the first one. */
+static void fan_in(const uint8_t *table, size_t length, uint8_t zone)
+{
+    uint64_t answer = esa_fan(table, length, zone, CHIP);
+    if (esa_number(answer) != ESA_GOOD)
+        told("a fan", answer, "");
+    else
+        printf("a fan in zone %u: %s, visited: %zu\n", (unsigned)zone, esa_fan_found(answer) ? "yes" : "no", esa_fan_visited(answer));
 }
 
 /* A table with a fan and its zone; without the zone it is refused. Gives the length, or 0 if the writer refuses. */
@@ -221,6 +231,8 @@ int main(int count, char **arguments)
     if (good)
         walk(table, length, esa_beside(answer));
     list(table, length, CHIP);
+    fan_in(table, length, 1);
+    fan_in(table, length, 2);
 
     printf("\na table of our own\n");
     uint8_t buffer[128];

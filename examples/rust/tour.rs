@@ -1,6 +1,6 @@
-//! A tour of the library from Rust: is a file a table, what stands in it, how a new one is written, and written again; a lamp
-//! that one of the two chips has no pin for; an old sensor that the archive's rules alone take; a lamp of three colours on a chip
-//! of its own; and what an element is called.
+//! A tour of the library from Rust: is a file a table, what stands in it, is there a fan in a zone, how a new one is written,
+//! and written again; a lamp that one of the two chips has no pin for; an old sensor that the archive's rules alone take; a lamp of
+//! three colours on a chip of its own; and what an element is called.
 //! tour [FILE]      without FILE it looks at a table of its own. On x86-64:
 //! rt staticlib esa && rustc --edition 2021 -L target/staticlib -l static=esa examples/rust/tour.rs
 
@@ -75,6 +75,7 @@ mod esa {
                 name: *const u8,
                 name_length: usize,
             ) -> u64;
+            pub fn esa_fan(table: *const u8, length: usize, zone: u8, settings: u64) -> u64;
             pub fn esa_colours(part: *const u8, length: usize, w: usize) -> u64;
             pub fn esa_colour(part: *const u8, length: usize, w: usize, i: usize) -> u64;
             pub fn esa_start(
@@ -176,6 +177,13 @@ mod esa {
         }
         let (place, length) = (beside >> 8 & 0xFF_FFFF, beside >> 32);
         Ok(Label::Text(place..place + length, &table[place..place + length]))
+    }
+
+    /// Whether there is a fan or a pump in the zone, and the number of elements visited up to the first, or all.
+    pub fn fan(table: &[u8], zone: u8, settings: Settings) -> Result<(bool, usize), Refusal> {
+        let (at, length) = (table.as_ptr(), table.len());
+        let beside = unpacked(unsafe { c::esa_fan(at, length, zone, settings.number()) })?;
+        Ok((beside & 1 == 1, beside >> 1))
     }
 
     /// Of the part of an external RGB LED: how many register pairs there are for colour w (0 red, 1 green, 2 blue).
@@ -311,6 +319,15 @@ fn walk(table: &[u8], count: usize) -> Result<(), esa::Refusal> {
     }
     let _ = told("  one more", esa::element(table, count, READ), "");
     Ok(())
+}
+
+/// Is there a fan in this zone? The walk ends at the first one.
+fn fan_in(table: &[u8], zone: u8) {
+    match esa::fan(table, zone, READ) {
+        Ok((true, visited)) => println!("a fan in zone {zone}: yes, visited: {visited}"),
+        Ok((false, visited)) => println!("a fan in zone {zone}: no, visited: {visited}"),
+        Err(refusal) => println!("a fan: {refusal}"),
+    }
 }
 
 /// A table with a fan and its zone; without the zone it is refused. Gives the length.
@@ -477,6 +494,8 @@ fn tour(table: &[u8]) -> Result<bool, esa::Refusal> {
         walk(table, count)?;
     }
     print!("{}", esa::list(table, READ));
+    fan_in(table, 1);
+    fan_in(table, 2);
 
     println!("\na table of our own");
     let mut buffer = [0; 128];

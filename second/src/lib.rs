@@ -10,6 +10,7 @@ pub mod access;
 pub mod answer;
 pub mod blocks;
 pub mod element;
+pub mod fan;
 pub mod fields;
 pub mod generator;
 pub mod histogram;
@@ -31,6 +32,7 @@ pub mod writer;
 
 pub use access::{description, element, part};
 pub use answer::{Refusal, Verdict};
+pub use fan::{fan, Accepted, Walked};
 pub use fields::{describe, fields, part_place, text_place};
 pub use label::{label, label_place, Lent};
 pub use listing::{list, listing};

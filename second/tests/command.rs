@@ -30,6 +30,24 @@ fn lists_and_rewrites() {
 }
 
 #[test]
+fn looks_for_a_fan() {
+    let table = raw::table(&[
+        raw::zone(1, 0),
+        raw::current(1, 0x24),
+        raw::pump(1, 0x05, 0xFF),
+    ]);
+    assert_eq!(run(&["fan", "1"], &table).stdout, b"yes\t3\n");
+    assert_eq!(
+        run(&["fan", "--chip", "320", "0"], &table).stdout,
+        b"no\t3\n"
+    );
+    let refused = run(&["fan", "--chip", "321", "1"], &table);
+    assert!(refused.status.success());
+    assert_eq!(refused.stdout, b"R\t10\t46\n");
+    assert_eq!(run(&["fan", "255"], &TABLE_A).stdout, b"no\t0\n");
+}
+
+#[test]
 fn long_input_is_not_cut_to_a_table() {
     let mut table = raw::table(&[raw::text(1, &vec![0; 4096 - 22])]);
     assert_eq!(run(&["list"], &table).stdout.first(), Some(&b'T'));
@@ -95,7 +113,7 @@ fn holds_itself_against_itself() {
 
 #[test]
 fn misuse_is_told_and_gives_status_2() {
-    let misuses: [&[&str]; 27] = [
+    let misuses: [&[&str]; 34] = [
         &[],
         &["dance"],
         &["list", "extra"],
@@ -122,6 +140,13 @@ fn misuse_is_told_and_gives_status_2() {
         &["list", "--archived"],
         &["check", "file", "--archive"],
         &["rewrite", "--archive"],
+        &["fan"],
+        &["fan", ""],
+        &["fan", "256"],
+        &["fan", "-1"],
+        &["fan", "one"],
+        &["fan", "1", "2"],
+        &["fan", "--archive", "1"],
         &[
             "rows", "--seed", "1", "--count", "1", "--max", "1", "--chip", "321",
         ],

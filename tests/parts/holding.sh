@@ -7,17 +7,25 @@ ready() {
     second=$root/second/target/release/second
     timeout 900 "$root/esa" list "$root/tables/quiet-box.esa" >/dev/null || die "the program list does not run"
     timeout 900 "$root/esa" rewrite "$root/tables/quiet-box.esa" "$work/first" || die "the program rewrite does not run"
+    timeout 900 "$root/esa" fan "$root/tables/quiet-box.esa" 1 >/dev/null || die "the program fan does not run"
     list=$("$root/tools/as-rt" "$root/target/bin/list") || exit 2
     rewrite=$("$root/tools/as-rt" "$root/target/bin/rewrite") || exit 2
+    seek=$("$root/tools/as-rt" "$root/target/bin/fan") || exit 2
 }
 
-# The words of every program that is run: its options, or none.
-options=''
+# The words of every program that is run: its options, or none; and of fan the zone.
+options='' zone=1
+
+# Byte 23 of a file, or 1 where it has none: the zone of its first element, or what stands there of a string or a zone descriptor.
+zone_of() { # FILE
+    zone=$(od -An -v -tu1 -j23 -N1 "$1" 2>/dev/null | tr -d ' \n')
+    zone=${zone:-1}
+}
 
 # Runs a program on standard input: its output and its status go to files. It never needs 20 s: then the status is 124.
-runs() { # PROGRAM COMMAND
+runs() { # PROGRAM COMMAND [WORD]
     status=0
-    eval "timeout 20 $2 $options" >"$work/$1" 2>"$work/$1.err" || status=$?
+    eval "timeout 20 $2 $options ${3:-}" >"$work/$1" 2>"$work/$1.err" || status=$?
     echo "$status" >"$work/$1.status"
 }
 
@@ -26,7 +34,9 @@ wanted() { # FILE PROGRAM...
     file=$1
     shift
     for program; do
-        "$second" $program $options <"$file" >"$work/$program.wanted" || die "the second program: $program $options of $file"
+        words=$options
+        [ "$program" != fan ] || words="$options $zone"
+        "$second" $program $words <"$file" >"$work/$program.wanted" || die "the second program: $program $words of $file"
     done
 }
 
@@ -51,18 +61,20 @@ judge() { # NAME PROGRAM...
     [ $right = yes ] || wrong=$((wrong + 1))
 }
 
-# A file, to both programs at once, on one chip.
+# A file, to the three programs at once, on one chip.
 hold_on() { # CHIP NAME FILE
     options="--chip $1"
+    zone_of "$3"
     runs list "$list" <"$3" &
+    runs fan "$seek" "$zone" <"$3" &
     runs rewrite "$rewrite" <"$3"
-    wanted "$3" list rewrite
+    wanted "$3" list rewrite fan
     wait
-    judge "$2" list rewrite
+    judge "$2" list rewrite fan
     options=''
 }
 
-# By the archive's rules; there is no such rewriting.
+# By the archive's rules; there is no such rewriting, and fan has the ordinary ones.
 hold_archived() { # CHIP NAME FILE
     options="--chip $1 --archive"
     runs list "$list" <"$3"
@@ -84,6 +96,8 @@ hold_piped() { # NAME FILE COMMAND...
     shift 2
     "$@" 2>/dev/null | runs list "$list"
     "$@" 2>/dev/null | runs rewrite "$rewrite"
-    wanted "$file" list rewrite
-    judge "$name" list rewrite
+    zone_of "$file"
+    "$@" 2>/dev/null | runs fan "$seek" "$zone"
+    wanted "$file" list rewrite fan
+    judge "$name" list rewrite fan
 }

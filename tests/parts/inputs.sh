@@ -56,6 +56,7 @@ no_input() {
     hold 'an empty file' "$work/input"
     runs list "$list" <&-
     runs rewrite "$rewrite" <&-
-    wanted "$work/input" list rewrite
-    judge 'a closed standard input' list rewrite
+    runs fan "$seek" "$zone" <&-
+    wanted "$work/input" list rewrite fan
+    judge 'a closed standard input' list rewrite fan
 }

@@ -1,14 +1,6 @@
 # Part of tests/esa: ./esa label, and the words of its program.
 # shellcheck shell=sh disable=SC2015,SC2154
 
-# Standard output, standard error and the status of a refusal.
-refuses_label() { # OUT ERR WORD...
-    out=$1 err=$2
-    shift 2
-    ran label "$@"
-    [ "$status" = 1 ] && [ "$(cat seen.out)" = "$out" ] && [ "$(cat seen.err)" = "$err" ] || show
-}
-
 # Table A, a fan with string 1, a fan without one, a zone with string 2; string 1 with a character of two units, string 2 empty.
 named_table() {
     "$root/tools/bytes" 016600020007000080FFFFFF0000000003100001FFFFFF0105FF002C01DC054003100000FFFFFF0106FF002C01DC0540 &&
@@ -43,15 +35,15 @@ of_other_texts() {
 
 refused_labels() {
     past="they are counted from 0, and the table has 5 elements"
-    try "an element past the last" refuses_label "R	17	0" "named: 17 at 0: there is no element 5: $past" named 5 x
-    try "far past the last" refuses_label "R	17	0" "named: 17 at 0: there is no element 123456789012345678901: $past" named 123456789012345678901
-    try "a refused table" refuses_label "R	13	16" "bad: $zone_missing" bad 0 x
-    try "a refused table and no such element" refuses_label "R	13	16" "bad: $zone_missing" bad 99 x
-    try "a lamp that is not on the chip" refuses_label "R	10	88" "lamp: $lamp_lacks" --chip 321 lamp 0 x
+    try "an element past the last" refuses label "R	17	0" "named: 17 at 0: there is no element 5: $past" named 5 x
+    try "far past the last" refuses label "R	17	0" "named: 17 at 0: there is no element 123456789012345678901: $past" named 123456789012345678901
+    try "a refused table" refuses label "R	13	16" "bad: $zone_missing" bad 0 x
+    try "a refused table and no such element" refuses label "R	13	16" "bad: $zone_missing" bad 99 x
+    try "a lamp that is not on the chip" refuses label "R	10	88" "lamp: $lamp_lacks" --chip 321 lamp 0 x
     retired=$(sed -n 's/^tables.old-box.esa: \(23 at .*\)/\1/p' "$tables/old-box.txt" | head -n 1)
-    try "a table of the archive" refuses_label "R	23	32" "old: $retired" old 0 x
-    try "half a character" refuses_label "R	9	162" "$(under './esa check tables/blank.esa' "$tables/blank.txt" | sed 's/^tables.blank.esa/half/')" half 0 x
-    try "an empty file" refuses_label "R	1	0" "empty: $empty" empty 0
+    try "a table of the archive" refuses label "R	23	32" "old: $retired" old 0 x
+    try "half a character" refuses label "R	9	162" "$(under './esa check tables/blank.esa' "$tables/blank.txt" | sed 's/^tables.blank.esa/half/')" half 0 x
+    try "an empty file" refuses label "R	1	0" "empty: $empty" empty 0
 }
 
 misused_labels() {

@@ -89,6 +89,7 @@ no_options() {
     no_option_of check
     no_option_of list
     no_option_of rewrite never
+    no_option_of fan 1
     for command in check list; do
         try "$command --archive twice" complains 2 "esa: the option --archive is given twice" $command --archive --chip 321 --archive good
     done

@@ -48,6 +48,14 @@ complains() { # STATUS LINE WORD...
     [ "$status" = "$wanted" ] && [ ! -s "$work/seen.out" ] && grep -qxF -- "$line" "$work/seen.err" || show
 }
 
+# A refusal: all of standard output, all of standard error and the status.
+refuses() { # COMMAND OUT ERR WORD...
+    name=$1 out=$2 err=$3
+    shift 3
+    ran "$name" "$@"
+    [ "$status" = 1 ] && [ "$(cat seen.out)" = "$out" ] && [ "$(cat seen.err)" = "$err" ] || show
+}
+
 # The programs that are missing are built once, before anything is tried.
 first_use() {
     ran check "$tables/quiet-box.esa"
@@ -55,4 +63,5 @@ first_use() {
     "$esa" rewrite "$tables/quiet-box.esa" "$work/first" && rm -f "$work/first"
     [ ! -f "$root/crates/list/src/main.rt" ] || "$esa" list "$tables/quiet-box.esa" >/dev/null
     "$esa" label "$tables/quiet-box.esa" 0 >/dev/null
+    "$esa" fan "$tables/quiet-box.esa" 1 >/dev/null
 }

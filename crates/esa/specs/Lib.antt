@@ -3,5 +3,6 @@ pub mod Face
 pub mod Fields
 pub mod Places
 pub mod Labels
+pub mod Fans
 pub mod Blocks
 pub mod Writing

@@ -9,6 +9,7 @@ ghost use Rattle.esa.specs.Face.{Checked, AskedFor, PartFor};
 ghost use Rattle.esa.specs.Fields.{DescribedFor, FieldsFor};
 ghost use Rattle.esa.specs.Places.{PlacedFor, TextPlaced, TextFor};
 ghost use Rattle.esa.specs.Labels.{LabelFor};
+ghost use Rattle.esa.specs.Fans.{FanFor};
 ghost use Rattle.esa.specs.Blocks.{packedBlock, packedPair, packedEntries};
 ghost use Rattle.esa.specs.Writing.{StartedFor, AppendedFor, RewrittenFor};
 use format::answers::Asked;
@@ -114,6 +115,15 @@ pub extern "C" fn esa_label(table: &[u8], k: usize, settings: u64, name: &[u8]) 
 {
     let lent = name.len();
     packing::label(labels::find(table, k, settings_of(settings)), lent)
+}
+
+// Is there a fan or a pump in this zone? Beside 0 stands twice the number of elements visited, and 1 more where there is one; beside a
+// refusal its place.
+#[no_mangle]
+pub extern "C" fn esa_fan(table: &[u8], zone: u8, settings: u64) -> u64
+    ensures { λ r. ⌜ FanFor (settingsOf settings) (now (table .entry)) zone r ⌝ }
+{
+    packing::zoned(fans::in_zone(table, zone, settings_of(settings)))
 }
 
 // 09h: SPEED and ENTRIES of speed block j of a part.

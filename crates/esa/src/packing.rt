@@ -5,8 +5,10 @@ ghost use Rattle.format.specs.Answers.{valueOf, placeOfAsked, valueOfWritten};
 ghost use Rattle.esa.specs.Face.{packs, packed, packedAsked};
 ghost use Rattle.esa.specs.Places.{span as spanOf};
 ghost use Rattle.esa.specs.Labels.{within as withinOf, shown as shownOf, packedLabel, Fitting};
+ghost use Rattle.esa.specs.Fans.{oneIf, packedZoned, Bounded};
 ghost use Rattle.esa.specs.Blocks.{packedBlock, packedPair, packedEntries};
 ghost use Rattle.esa.specs.Writing.{packedWritten};
+use fans::Zoned;
 use format::answers::Answer;
 use format::answers::Asked;
 use format::answers::Written;
@@ -81,6 +83,23 @@ fn shown(len: usize) -> usize
     ensures { λ r. ⌜ (r ≡ shownOf len) × (r < 16777216) ⌝ }
 {
     if len < 16777216 { len } else { 16777215 }
+}
+
+// Of a zone: beside 0 how many elements were visited, and whether there is a fan or a pump.
+pub fn zoned(z: Zoned) -> u64
+    requires { ⌜ Bounded z ⌝ }
+    ensures { λ r. ⌜ r ≡ packedZoned z ⌝ }
+{
+    match z {
+        Zoned::Seen(v) => pack(0, 2 * v.count + one_if(v.hit)),
+        Zoned::Refused(j, p) => pack(j, p),
+    }
+}
+
+fn one_if(found: bool) -> usize
+    ensures { λ r. ⌜ (r ≡ oneIf found) × (r ≤ 1) ⌝ }
+{
+    if found { 1 } else { 0 }
 }
 
 // SPEED and ENTRIES.

@@ -6,12 +6,9 @@ use format::settings::Settings;
 use labels::Source;
 use libc::STDERR_FILENO;
 use libc::STDIN_FILENO;
-use libc::STDOUT_FILENO;
 use options::Options;
-
-fn put(text: &[u8]) {
-    io::write_all(STDOUT_FILENO, text);
-}
+use options::numerals::MaybeNumber;
+use sending::put;
 
 fn misuse() {
     io::write_all(
@@ -20,21 +17,12 @@ fn misuse() {
     );
 }
 
-// R, number, place.
-fn refuse(number: u8, place: usize) {
-    put(b"R\t");
-    io::print_decimal(STDOUT_FILENO, number as u64);
-    put(b"\t");
-    io::print_decimal(STDOUT_FILENO, place as u64);
-    put(b"\n");
-}
-
 // From where the label comes, or the refusal.
 fn put_source(source: Source) {
     match source {
         Source::Text(_, _) => put(b"text\n"),
         Source::Lent => put(b"name\n"),
-        Source::Refused(number, place) => refuse(number, place),
+        Source::Refused(number, place) => sending::refuse(number, place),
     }
 }
 
@@ -45,31 +33,6 @@ fn show(k: usize, name: &[u8], settings: Settings) {
     let n = io::read_full(STDIN_FILENO, &mut input);
     put_source(labels::find(&input[..n], k, settings));
     put(labels::label(&input[..n], k, name, settings));
-}
-
-// Whether a word is a number of 1 to 9 digits.
-fn is_number(word: &[u8]) -> bool {
-    if (word.len() == 0) | (word.len() > 9) {
-        return false;
-    }
-    for i in 0..word.len() {
-        if (word[i] < b'0') | (word[i] > b'9') {
-            return false;
-        }
-    }
-    true
-}
-
-// The number that such a word is; of another word it does not matter.
-fn number_of(word: &[u8]) -> usize {
-    let mut n: usize = 0;
-    for i in 0..word.len() {
-        if n > 99999999 {
-            return n;
-        }
-        n = n * 10 + (word[i] % 16) as usize;
-    }
-    n
 }
 
 // The word that is no more than the buffer holds, with its length there; a longer one is told by errno.
@@ -89,13 +52,16 @@ fn ask(settings: Settings, first: usize, count: usize) {
         misuse();
         return;
     }
-    let mut word = io::buffer();
-    let length = os::arg(first, &mut word);
-    if (count - first > 2) | !is_number(&word[..length]) {
+    if count - first > 2 {
         misuse();
         return;
     }
-    name(number_of(&word[..length]), first + 1, settings);
+    let mut word = io::buffer();
+    let length = os::arg(first, &mut word);
+    match options::numerals::below(&word[..length], 1000000000) {
+        MaybeNumber::Number(k) => name(k, first + 1, settings),
+        MaybeNumber::Nothing => misuse(),
+    }
 }
 
 fn main() {

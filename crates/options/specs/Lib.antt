@@ -1,2 +1,3 @@
 pub mod Words
+pub mod Numerals
 pub mod Steps

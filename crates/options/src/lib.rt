@@ -8,6 +8,7 @@ use format::settings::Rules;
 use format::settings::Settings;
 use libc::STDERR_FILENO;
 
+pub mod numerals;
 mod words;
 
 // What a word is where an option may stand.

@@ -1,10 +1,23 @@
-// The front of a buffer, to standard output. No table and no listing is longer than 4,096 bytes.
+// What programs have in common on standard output: some text, the front of a buffer, the line of a refusal.
 use libc::STDOUT_FILENO;
 
-// The first n bytes.
+pub fn put(text: &[u8]) {
+    io::write_all(STDOUT_FILENO, text);
+}
+
+// The first n bytes. No table and no listing is longer than 4,096 bytes.
 pub fn send(n: usize, out: &[u8]) {
     if n <= 4096 {
         let count = io::count(n as isize, out);
-        io::write_all(STDOUT_FILENO, &out[..count]);
+        put(&out[..count]);
     }
+}
+
+// R, number, place.
+pub fn refuse(number: u8, place: usize) {
+    put(b"R\t");
+    io::print_decimal(STDOUT_FILENO, number as u64);
+    put(b"\t");
+    io::print_decimal(STDOUT_FILENO, place as u64);
+    put(b"\n");
 }

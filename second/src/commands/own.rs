@@ -40,8 +40,8 @@ fn read(arguments: &[String]) -> Result<(u64, u64), String> {
     Ok((options.number("seed")?, options.number("count")?))
 }
 
-/// Fast against plain, of readers and listings; the two rules against each other; what is rewritten; the
-/// listing's shape.
+/// Fast against plain, of readers, listings and fans; the two rules against each other; what is rewritten;
+/// the listing's shape.
 fn compare(table: &[u8], settings: Settings, fast: Verdict) -> Result<(), &'static str> {
     if plain::check(table, settings) != fast {
         return Err("the fast and the plain reader differ");
@@ -53,6 +53,11 @@ fn compare(table: &[u8], settings: Settings, fast: Verdict) -> Result<(), &'stat
         return Err("the ordinary and the archive's reader differ");
     }
     rewritten(table, settings.chip, strict)?;
+    for zone in zones_in(table).take(4).chain([0, 255]) {
+        if second::fan(table, zone, settings) != plain::fan(table, zone, settings) {
+            return Err("the fast and the plain walk to a fan differ");
+        }
+    }
     let text = second::listing(table, settings);
     if text != plain::listing(table, settings) {
         return Err("the fast and the plain listing differ");
@@ -63,6 +68,11 @@ fn compare(table: &[u8], settings: Settings, fast: Verdict) -> Result<(), &'stat
         return (text == only).then_some(()).ok_or("the R line is wrong");
     };
     shape(&text, count, settings.rules)
+}
+
+/// Byte 7 of each element, as far as the bytes can be cut: its zone, or content.
+fn zones_in(table: &[u8]) -> impl Iterator<Item = u8> + '_ {
+    generator::raw::cut(table).filter_map(|element| element.get(7).copied())
 }
 
 /// Rewritten as the ordinary reader says, against written from its records, and once more.

@@ -1,7 +1,7 @@
-//! `list` and `rewrite`: a table from standard input.
+//! `list`, `rewrite` and `fan`: a table from standard input.
 
 use super::End;
-use second::{Chip, Settings};
+use second::{Chip, Refusal, Settings};
 use std::io::{Read, Write};
 
 /// Standard input up to 4,097 bytes. No more is needed: a table over 4,096 bytes answers 2 or 3 by
@@ -30,6 +30,10 @@ fn transform(arguments: &[String], make: impl Fn(&[u8]) -> Vec<u8>) -> End {
     }
 }
 
+fn refusal_line(refusal: Refusal) -> Vec<u8> {
+    format!("R\t{}\t{}\n", refusal.number, refusal.place).into_bytes()
+}
+
 pub fn list(settings: Settings, arguments: &[String]) -> End {
     transform(arguments, |table| second::listing(table, settings))
 }
@@ -40,7 +44,24 @@ pub fn rewrite(chip: Chip, arguments: &[String]) -> End {
         let mut out = vec![0; table.len()];
         match second::rewrite(table, chip, &mut out) {
             Ok(length) => out[..length].to_vec(),
-            Err(refusal) => format!("R\t{}\t{}\n", refusal.number, refusal.place).into_bytes(),
+            Err(refusal) => refusal_line(refusal),
+        }
+    })
+}
+
+/// `yes` or `no` and the number of elements visited, or the `R` line.
+pub fn fan(chip: Chip, arguments: &[String]) -> End {
+    let zone = arguments.first().and_then(|word| word.parse::<u8>().ok());
+    let Some(zone) = zone else {
+        return End::Misused("fan wants the number of a zone, 0 to 255".into());
+    };
+    transform(&arguments[1..], |table| {
+        match second::fan(table, zone, chip.into()) {
+            Ok(walked) => {
+                let word = if walked.met { "yes" } else { "no" };
+                format!("{word}\t{}\n", walked.visited).into_bytes()
+            }
+            Err(refusal) => refusal_line(refusal),
         }
     })
 }

@@ -5,6 +5,7 @@
 //! and the fast listing.
 
 mod claims;
+mod fan;
 mod label;
 mod listing;
 
@@ -19,6 +20,7 @@ use crate::settings::{Chip, Settings};
 use claims::{check_claims, claims};
 
 pub use claims::own_pins;
+pub use fan::fan;
 pub use label::label;
 pub use listing::listing;
 
