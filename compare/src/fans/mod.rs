@@ -1,4 +1,4 @@
-//! Is there a fan in this zone? Asked of both sides, on an accepted table with every zone number.
+//! Is there a fan in this zone? Asked of both sides, on an accepted table with every zone number that stands in it somewhere.
 
 mod asking;
 mod known;
@@ -17,13 +17,19 @@ pub use tally::Tally;
 
 pub struct Fans(Exchange<Asking, Tally>);
 
-/// Every number where the table is accepted. The refusals know no zone: of a refused one three, by its length
-/// another one each time.
+/// Where the table is accepted every number that some byte of it holds, so that a zone looked for in a wrong place is found there; and
+/// three more, by its length another one each time. The refusals know no zone: of a refused one these three.
 fn zones(table: &[u8], settings: u64) -> Vec<u8> {
-    match second::check(table, Settings::of_number(settings)) {
-        Verdict::Accepted(_) => (0..=255).collect(),
-        Verdict::Refused { .. } => vec![0, table.len() as u8, 255],
+    let mut asked = [false; 256];
+    for zone in [0, table.len() as u8, 255] {
+        asked[zone as usize] = true;
     }
+    if let Verdict::Accepted(_) = second::check(table, Settings::of_number(settings)) {
+        for &byte in table {
+            asked[byte as usize] = true;
+        }
+    }
+    (0..=255).filter(|&zone| asked[zone as usize]).collect()
 }
 
 impl Fans {

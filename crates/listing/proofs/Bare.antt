@@ -12,7 +12,7 @@ use Rattle.format.specs.declared.records.Address.{Address}
 use Rattle.format.specs.declared.records.Address.the-variants.{Bus, Select}
 use Rattle.format.specs.declared.settings.Rules.the-variants.{Ordinary}
 use Rattle.format.proofs.Kept.{and-true}
-use Rattle.elements.specs.Own.{three, noPins, selectOf, ownPins}
+use Rattle.shown.specs.Own.{three, noPins, selectOf, ownPins}
 
 bare-device :
     (bus : ℕ) (a : Address)

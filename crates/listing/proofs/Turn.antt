@@ -26,7 +26,7 @@ use Rattle.format.specs.declared.pins.Chip.{Chip}
 use Rattle.format.specs.declared.settings.Settings.{Settings}
 use Rattle.format.specs.declared.settings.Rules.the-variants.{Ordinary}
 use Rattle.format.proofs.Kept.{own-kept, own-unbroken}
-use Rattle.elements.specs.Own.{ownPins, noPins}
+use Rattle.shown.specs.Own.{ownPins, noPins}
 use Rattle.listing.proofs.Bare.{bare}
 
 -- the line of an element behind those of the elements before it

@@ -14,8 +14,8 @@ use Rattle.format.specs.declared.records.Description.{Description}
 use Rattle.format.specs.declared.records.Element.{Element}
 use Rattle.format.specs.declared.answers.Answer.the-variants.{Refused}
 use Rattle.spelling.specs.Spelling.{decimal, hexPair, dash, pinOrDash, joined, used, Put}
-use Rattle.elements.specs.Own.{ownPins, zoneOf}
-use Rattle.elements.specs.declared.OwnPins.{OwnPins}
+use Rattle.shown.specs.Own.{ownPins, zoneOf}
+use Rattle.shown.specs.declared.OwnPins.{OwnPins}
 use Rattle.format.specs.declared.settings.Settings.{Settings}
 use Rattle.format.specs.declared.settings.Rules.the-variants.{Ordinary}
 

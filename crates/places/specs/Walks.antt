@@ -2,12 +2,13 @@
 -- Assumes nothing.
 use Prim.Native.Nat.{ℕ, _+_, _≤_}
 use mathlib.Core.Path.{_≡_}
-use mathlib.Core.List.{List}
+use mathlib.Core.Bool.{Bool, true, false}
+use mathlib.Core.List.{List, _∷_}
 use mathlib.Core.Option.{Option, none, some}
 use lib.ListN.{length}
 use Rattle.format.specs.Slots.{byte, Bytes}
 use Rattle.format.specs.Records.{Record, zoneString}
-use Rattle.format.specs.ZonesAndStrings.{Role, placed, zoning, naming}
+use Rattle.format.specs.ZonesAndStrings.{Role, placed, zoning, naming, zoneNamed, stringNamed, zones, strings}
 use Rattle.format.specs.Reader.{elementsOf, through}
 use Rattle.format.specs.declared.settings.Settings.{Settings}
 
@@ -29,6 +30,15 @@ pub record Walkable (σ : Settings) (t : List ℕ) : Type 0 where
   pub top : length t ≤ 4096
   pub rs : List Record
   pub whole : elementsOf σ t ≡ through rs
+
+-- what an element names, and what it may name: of zones, or of strings, where 0 is no string
+abbrev pub named : Bool → Role → List ℕ
+named true = zoneNamed
+named false = stringNamed
+
+abbrev pub nameable : Bool → List Record → List ℕ
+nameable true rs = zones rs
+nameable false rs = 0 ∷ strings rs
 
 abbrev pub orZero : Option ℕ → ℕ
 orZero none = 0

@@ -6,7 +6,7 @@ ghost use Prim.Native.Nat.{ℕ};
 ghost use Rattle.format.specs.ZonesAndStrings.{Role, zoneNamed, stringNamed, allAmong, zones, strings, firstNaming};
 ghost use Rattle.format.specs.declared.settings.Settings.{Settings};
 ghost use Rattle.flags.specs.Marks.{Marks};
-ghost use Rattle.places.specs.Walks.{RoleBytes, Walkable, orZero};
+ghost use Rattle.places.specs.Walks.{RoleBytes, Walkable, named, nameable, orZero};
 use walking::length_at;
 use words::wide;
 
@@ -43,14 +43,25 @@ fn string_marked(t: &[u8], at: usize, marks: &[bool; 256]) -> bool
     marks[s]
 }
 
-// 13: the place of the first element whose zone is not marked; 0 where there is none.
-pub fn zoneless(t: &[u8], marks: &[bool; 256]) -> usize
-    requires { ⌜ ((σ : Settings) × (w : Walkable σ (now t)) × Marks (now marks) (zones (w .rs))) ⌝ }
-    ensures { λ r. ⌜ ((σ : Settings) (w : Walkable σ (now (t .entry))) → Marks (now (marks .entry)) (zones (w .rs)) → r ≡ orZero (firstNaming zoneNamed (zones (w .rs)) 16 (w .rs))) ⌝ }
+// The zone, or the string.
+fn marked(t: &[u8], at: usize, marks: &[bool; 256], zone: bool) -> bool
+    requires { ⌜ ((x : Role) × RoleBytes (now t) at x) ⌝ }
+    ensures { λ r. ⌜ ((x : Role) (ns : List ℕ) → RoleBytes (now (t .entry)) at x → Marks (now (marks .entry)) ns → r ≡ allAmong (named zone x) ns) ⌝ }
+{
+    if zone {
+        return zone_marked(t, at, marks);
+    }
+    string_marked(t, at, marks)
+}
+
+// The place of the first element whose zone, or whose string, is not marked; 0 where there is none.
+fn unmarked(t: &[u8], marks: &[bool; 256], zone: bool) -> usize
+    requires { ⌜ ((σ : Settings) × (w : Walkable σ (now t)) × Marks (now marks) (nameable zone (w .rs))) ⌝ }
+    ensures { λ r. ⌜ ((σ : Settings) (w : Walkable σ (now (t .entry))) → Marks (now (marks .entry)) (nameable zone (w .rs)) → r ≡ orZero (firstNaming (named zone) (nameable zone (w .rs)) 16 (w .rs))) ⌝ }
 {
     let mut at: usize = 16;
     while at < t.len() {
-        if !zone_marked(t, at, marks) {
+        if !marked(t, at, marks, zone) {
             return at;
         }
         at += length_at(t, at);
@@ -58,17 +69,18 @@ pub fn zoneless(t: &[u8], marks: &[bool; 256]) -> usize
     0
 }
 
-// 14: the place of the first element whose string is not marked; 0 where there is none.
+// 13
+pub fn zoneless(t: &[u8], marks: &[bool; 256]) -> usize
+    requires { ⌜ ((σ : Settings) × (w : Walkable σ (now t)) × Marks (now marks) (zones (w .rs))) ⌝ }
+    ensures { λ r. ⌜ ((σ : Settings) (w : Walkable σ (now (t .entry))) → Marks (now (marks .entry)) (zones (w .rs)) → r ≡ orZero (firstNaming zoneNamed (zones (w .rs)) 16 (w .rs))) ⌝ }
+{
+    unmarked(t, marks, true)
+}
+
+// 14
 pub fn nameless(t: &[u8], marks: &[bool; 256]) -> usize
     requires { ⌜ ((σ : Settings) × (w : Walkable σ (now t)) × Marks (now marks) (0 ∷ strings (w .rs))) ⌝ }
     ensures { λ r. ⌜ ((σ : Settings) (w : Walkable σ (now (t .entry))) → Marks (now (marks .entry)) (0 ∷ strings (w .rs)) → r ≡ orZero (firstNaming stringNamed (0 ∷ strings (w .rs)) 16 (w .rs))) ⌝ }
 {
-    let mut at: usize = 16;
-    while at < t.len() {
-        if !string_marked(t, at, marks) {
-            return at;
-        }
-        at += length_at(t, at);
-    }
-    0
+    unmarked(t, marks, false)
 }

@@ -1,6 +1,6 @@
 -- Text put behind text is one text; and the pins of an element, parted by commas.
 -- Assumes nothing.
-use Prim.Native.Nat.{ℕ, _+_, _≤_}
+use Prim.Native.Nat.{ℕ, _+_, _<_, _≤_}
 use native.Mathlib.Omega.{arith}
 use mathlib.Core.Path.{_≡_, refl, sym, _∙_, ap}
 use mathlib.Core.Bool.{Bool, true, false, cond}
@@ -9,7 +9,8 @@ use lib.ListN.{length, take, drop, length-append, length-drop}
 use lib.Seq.{length-take-le, take-at, drop-at, drop-drop}
 use Rattle.format.specs.Writing.{overwritten}
 use lib.Dec.{eqb}
-use Rattle.spelling.specs.Spelling.{Put, dash, pinText, pinOrDash, next, used, joined}
+use borrow.Author.Tests.{lt-ltb}
+use Rattle.spelling.specs.Spelling.{Put, digitAt, upper, dash, pinText, pinOrDash, next, used, joined}
 
 pub put-none : (c : List ℕ) (at : ℕ) → Put c at [] at c
 put-none c at = record { ends = omega arith; front = sym (append-nil (take at c)); rest = refl; long = refl }
@@ -45,6 +46,19 @@ then {c = c} {d = d} {e = e} {s = s} {t = t} {at = at} {r = r} {r′ = r′} p q
       rest = q .rest ∙ behind;
       long = q .long ∙ p .long;
     }
+
+-- a power that is not reached has no digit, and a number under 10,000 none above its last four
+unreached : (power n : ℕ) → n < power → digitAt power n ≡ []
+unreached power n under = rw (lt-ltb n power under) refl
+
+pub no-upper : (n : ℕ) → n < 10000 → upper n ≡ []
+no-upper n under =
+    rw (
+      unreached 10000000 n (omega (arith, under)),
+      unreached 1000000 n (omega (arith, under)),
+      unreached 100000 n (omega (arith, under)),
+      unreached 10000 n under,
+    ) refl
 
 -- a used pin, and two more that may be unused
 first-used :

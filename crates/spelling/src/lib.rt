@@ -82,11 +82,14 @@ fn put_digit(out: &mut [u8], at: usize, n: usize, power: usize) -> usize
     put(out, at, &[digit(n / power)])
 }
 
-// The digits of a number above its last four.
+// The digits of a number above its last four. Places and zones have none, which is asked once and not four times.
 fn put_upper(out: &mut [u8], at: usize, n: usize) -> usize
     requires { ⌜ at + 4 ≤ length (now out) ⌝ }
     ensures { λ r. ⌜ Put (now (out .entry)) at (upper n) r (now (out .exit)) × (r ≤ at + 4) ⌝ }
 {
+    if n < 10000 {
+        return at;
+    }
     let a = put_digit(out, at, n, 10000000);
     let b = put_digit(out, a, n, 1000000);
     let c = put_digit(out, b, n, 100000);

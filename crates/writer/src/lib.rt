@@ -22,7 +22,7 @@ fn start_verdict(buffer: &[u8], d: Description, chip: Chip) -> Written
     if buffer.len() < 16 {
         return Written::Refused(1, 0);
     }
-    if !checks::description_roomy(d) {
+    if !widths::description_roomy(d) {
         return Written::Refused(25, 0);
     }
     let fault = rules::description_breaks(d, chip);
@@ -81,7 +81,7 @@ fn append_verdict(buffer: &[u8], e: Element, part: &[u8], chip: Chip) -> Written
     if !((16 <= n) & ((n <= 4096) & (n <= buffer.len()))) {
         return Written::Refused(3, 0);
     }
-    if !checks::element_roomy(e) {
+    if !widths::element_roomy(e) {
         return Written::Refused(25, 0);
     }
     let settings = Settings {
@@ -105,7 +105,7 @@ pub fn append(buffer: &mut [u8], e: Element, part: &[u8], chip: Chip) -> Written
         return answer;
     };
     let n = length_so_far(buffer);
-    laying::put_element(buffer, n, e, part);
-    laying::put_length(buffer, m);
+    joining::put_element(buffer, n, e, part);
+    joining::put_length(buffer, m);
     answer
 }

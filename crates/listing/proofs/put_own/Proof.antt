@@ -4,8 +4,8 @@ use native.Mathlib.Omega.{arith}
 use mathlib.Core.Path.{_≡_, refl}
 use mathlib.Core.List.{append-assoc}
 use lib.ListN.{length}
-use Rattle.elements.specs.Own.{noPins}
-use Rattle.elements.specs.declared.OwnPins.{OwnPins}
+use Rattle.shown.specs.Own.{noPins}
+use Rattle.shown.specs.declared.OwnPins.{OwnPins}
 use Rattle.spelling.proofs.Putting.{then}
 use Rattle.listing.specs.Lines.{pinsText}
 use borrow.Author.Needs.{needs}

@@ -1,13 +1,16 @@
--- `put_upper` meets its contract: four digits, one behind another.
+-- `put_upper` meets its contract: nothing of a small number, else four digits, one behind another.
 -- Assumes nothing.
 use native.Mathlib.Omega.{arith}
-use Rattle.spelling.proofs.Putting.{then}
+use Rattle.spelling.proofs.Putting.{put-none, no-upper, then}
 use borrow.Author.Needs.{needs}
 use Rattle.spelling.proofs.put_upper.Statement.{statement}
 use Rattle.spelling.proofs.put_upper.Tie as tie
 
 returns : tie.Need-returns
-returns c =
+returns c = (rw (no-upper _ (c .if1 .taken)) (put-none _ _), omega arith)
+
+returns-2 : tie.Need-returns-2
+returns-2 c =
     let p4 = c .before .before in
     let p3 = p4 .before .before .before .before in
     let p2 = p3 .before .before .before .before in
@@ -20,9 +23,10 @@ pub put-upper-spec : {M : Type 1} → statement M
 put-upper-spec =
     tie.close
     (tie.spec
+    returns
     (λ c κs. search needs)
     (λ c κs. search needs)
     (λ c κs. search needs)
     (λ c κs. search needs)
     (search needs)
-    returns)
+    returns-2)
