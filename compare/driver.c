@@ -12,7 +12,7 @@ void *memset(void *to, int value, number count);
 int memcmp(const void *one, const void *other, number count);
 void _exit(int status);
 
-/* Settings are one number: bit 0 set is the 321, bit 1 the archive's rules; start, append and rewrite ignore bit 1. */
+/* Settings are one number: bit 0 set is the 321, bit 1 the archive's rules; start, append, rewrite and remove ignore bit 1. */
 number esa_check(const byte *table, number length, number settings);
 /* Weak, so that an archive without them links too: their modes then answer NO_SUCH_CALL. */
 __attribute__((weak)) number esa_element(const byte *table, number length, number k, number settings);
@@ -35,11 +35,13 @@ __attribute__((weak)) number esa_colour(const byte *part, number length, number 
 __attribute__((weak)) number esa_label(const byte *table, number length, number k, number settings, const byte *name,
                                        number name_length);
 __attribute__((weak)) number esa_fan(const byte *table, number length, byte zone, number settings);
+__attribute__((weak)) number esa_remove(byte *table, number length, number k, number settings);
 
-enum { CHECK = 0, ELEMENT = 1, PART = 2, START = 3, APPEND = 4, REWRITE = 5, LIST = 6, READINGS = 7, FANS = 9 };
+enum { CHECK = 0, ELEMENT = 1, PART = 2, START = 3, APPEND = 4, REWRITE = 5, LIST = 6, READINGS = 7, FANS = 9, REMOVALS = 13 };
 /* exit status; TOUCHED: bytes in front of the buffer, the numbers, the part or the table have changed */
 enum { BROKEN_REQUEST = 3, NO_INPUT_OR_OUTPUT = 4, NO_MEMORY = 5, TOUCHED = 6 };
 enum { HEADER = 21, NUMBERS = 32, LISTING = 4096, LONGEST = 70000, READING = 17, MOST_READINGS = 1 << 15, MOST_ZONES = 256 };
+enum { MOST_REMOVALS = 128 };
 /* A lent name is no well-formed text: it comes back as it is. */
 enum { FRONT = 256, FRONT_BYTE = 0xC3, NAME_BYTE = 0xD8, ROOM = 1 << 17, GUARD = 1 << 16 };
 #define NO_SUCH_CALL (~0UL)
@@ -229,6 +231,23 @@ static void answer_fans(const byte *body, number length, number count, number se
     if (memcmp(table, body, length)) _exit(TOUCHED);
 }
 
+/* Taking a part out, asked of one table with many k, 8 bytes each behind it; before each call the table is as it came. The answer
+   goes out, and then the lent bytes as the call leaves them. */
+static void answer_removals(const byte *body, number length, number count, number settings)
+{
+    byte *table = table_end - length;
+    memcpy(table - FRONT, front, FRONT);
+    for (number at = 0; at < count; at++) {
+        number k;
+        memcpy(&k, body + length + 8 * at, 8);
+        memcpy(table, body, length);
+        number value = esa_remove ? esa_remove(table, length, k, settings) : NO_SUCH_CALL;
+        put(&value, 8);
+        put(table, length);
+    }
+    if (memcmp(table - FRONT, front, FRONT)) _exit(TOUCHED);
+}
+
 /* Answers the whole requests among the bytes held, and gives the number of bytes that they took. */
 static number answer_all(number held)
 {
@@ -245,13 +264,16 @@ static number answer_all(number held)
         number part_length = writes ? k >> 8 : 0;
         number readings = mode == READINGS ? k : 0;
         number zones = mode == FANS ? k : 0;
+        number removals = mode == REMOVALS ? k : 0;
         if (length > LONGEST || part_length > LONGEST || readings > MOST_READINGS || zones > MOST_ZONES) _exit(BROKEN_REQUEST);
-        number size = HEADER + (number)length + (writes ? NUMBERS + part_length : readings * READING + zones);
+        if (removals > MOST_REMOVALS) _exit(BROKEN_REQUEST);
+        number size = HEADER + (number)length + (writes ? NUMBERS + part_length : readings * READING + zones + 8 * removals);
         if (held - used < size) break;
         if (writes) answer_writer(mode, (byte)k, settings, request + HEADER, length, part_length);
         else if (mode == LIST) answer_list(request + HEADER, length, settings);
         else if (mode == READINGS) answer_readings(request + HEADER, length, readings, settings);
         else if (mode == FANS) answer_fans(request + HEADER, length, zones, settings);
+        else if (mode == REMOVALS) answer_removals(request + HEADER, length, removals, settings);
         else answer_reader(mode, request + HEADER, length, k, settings);
         used += size;
     }

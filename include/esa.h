@@ -3,9 +3,9 @@
    docs/CALLS.md has the theorem to each.
 
    WHAT A CALLER OWES. Nothing proves the C around the library, so these three are yours to keep:
-   - Each pointer and the length behind it are memory that may be read, and of 'buffer', 'out' and 'numbers' that is not const
-     also written, until the call returns; 'numbers' is 32 bytes, the 'out' of esa_list 4,096. With a length of 0 the pointer is not
-     followed: NULL will do.
+   - Each pointer and the length behind it are memory that may be read, and of 'buffer', 'out', 'numbers' and 'table' that is not
+     const also written, until the call returns; 'numbers' is 32 bytes, the 'out' of esa_list 4,096. With a length of 0 the
+     pointer is not followed: NULL will do.
    - The places lent to one call do not overlap.
    - Nobody else writes to them before the call returns.
    No other condition is asked: any bytes, any lengths and any numbers have an answer. As the code stands (this is no theorem)
@@ -58,6 +58,7 @@ enum esa_numbers {
     ESA_CLASH = 15,            /* a pin is claimed twice; element of the later claim, or 0 */
     ESA_NO_ROOM = 16,          /* writer: the new length passes the buffer or 4,096; 0 */
     ESA_PAST_THE_LAST = 17,    /* there is no element k; in a part, no such block or pair; 0 */
+    ESA_STILL_NAMED = 22,      /* remove: something still names the zone or string that was to go; element */
     ESA_RETIRED = 23,          /* bus type 2, SMBus block mode, by the ordinary rules; element. It stands between 9 and 10 */
     ESA_TOO_LARGE = 25         /* writer: a number is too large for its field; 0 */
 };
@@ -84,6 +85,7 @@ static inline const char *esa_words(unsigned number)
     case ESA_CLASH: return "a pin is claimed a second time";
     case ESA_NO_ROOM: return "no room for it";
     case ESA_PAST_THE_LAST: return "there is no such element, block or pair";
+    case ESA_STILL_NAMED: return "something still names it";
     case ESA_RETIRED: return "a bus type that is retired";
     case ESA_TOO_LARGE: return "a number is too large for its field";
     default: return "a number that no call gives";
@@ -259,6 +261,14 @@ uint64_t esa_append(uint8_t *buffer, size_t length, uint8_t id, uint64_t setting
    table with its reserved places at zero, and the bytes behind are as they were. Or the table's own refusal as esa_check
    gives it by the ordinary rules, or 16 at 0 when 'room' is under the table's length; with either no byte of 'out' alters. */
 uint64_t esa_rewrite(const uint8_t *table, size_t length, uint64_t settings, uint8_t *out, size_t room);
+
+/* Takes element k, counted from 0, out of a table. 'table' is lent whole and no byte more. 0, and beside it the new length: the bytes
+   behind the element are closed up as they stand, reserved places too, and bytes 1-2 hold the new length; it is again a table, with
+   the other elements in their order, and the bytes from the new length on are what they were. Or, in this order, the table's own
+   refusal as esa_check gives it by the ordinary rules; 17 at 0 when there is no element k; 22 at the element when something still
+   names it: of a zone an element, by its zone identifier; of a string the description, an element or a zone descriptor, by its
+   string index. Elements of the other kinds are never named, and always go. With a refusal no byte alters. */
+uint64_t esa_remove(uint8_t *table, size_t length, size_t k, uint64_t settings);
 
 /* NAMES. The fourteen identifiers, the bounds, and how a pin and a number of two or four bytes are put. */
 enum esa_identifiers {

@@ -9,6 +9,7 @@ use crate::known::Row;
 use crate::options::Options;
 use crate::outcome::Outcome;
 use crate::question::{Origin, Question};
+use crate::removals::Removals;
 use crate::settings;
 use crate::tally::Tally;
 use second::generator::any;
@@ -26,6 +27,8 @@ pub struct Comparison {
     fields: Option<Fields>,
     /// Ask for a fan in every zone too.
     fans: Option<Fans>,
+    /// Take every element out too.
+    removals: Option<Removals>,
 }
 
 /// Numbers that no table has, and that are small ones in their low bits.
@@ -56,6 +59,10 @@ impl Comparison {
                 true => Some(Fans::start(options)?),
                 false => None,
             },
+            removals: match options.removals {
+                true => Some(Removals::start(options)?),
+                false => None,
+            },
             elements: options.elements,
             listing: options.listing,
         })
@@ -83,7 +90,7 @@ impl Comparison {
             self.fields(origin, number, &table, settings == made_for)?;
             self.fans(origin, number, &table)?;
         }
-        Ok(())
+        self.removals(origin, turn, &table)
     }
 
     fn calls(&mut self, origin: Origin, settings: u64, table: &Rc<[u8]>) -> Result<(), String> {
@@ -110,7 +117,8 @@ impl Comparison {
         }
         let origin = Origin::Known(row.name);
         let table: Rc<[u8]> = row.table.into();
-        let settings = settings::reading(row.settings, self.exchange.tally.tables);
+        let turn = self.exchange.tally.tables;
+        let settings = settings::reading(row.settings, turn);
         let second = row.call.second(&table, settings).answer;
         if second != row.answer {
             self.exchange.tally.differences.note(|| {
@@ -122,12 +130,18 @@ impl Comparison {
         self.ask(origin, row.call, settings, &table, row.answer.into())?;
         self.listing(origin, settings, &table)?;
         self.fields(origin, settings, &table, true)?;
-        self.fans(origin, settings, &table)
+        self.fans(origin, settings, &table)?;
+        self.removals(origin, turn, &table)
     }
 
     /// Holds both sides to the papers' answers of fans, if they are asked for.
     pub fn known_fans(&mut self) -> Result<(), String> {
         self.fans.as_mut().map_or(Ok(()), Fans::known)
+    }
+
+    /// The same of what is taken out.
+    pub fn known_removals(&mut self) -> Result<(), String> {
+        self.removals.as_mut().map_or(Ok(()), Removals::known)
     }
 
     /// Compares the calls on parts at their edges.
@@ -154,6 +168,13 @@ impl Comparison {
             return Ok(());
         };
         fans.table(origin, settings, table)
+    }
+
+    fn removals(&mut self, origin: Origin, turn: u64, table: &Rc<[u8]>) -> Result<(), String> {
+        let Some(removals) = &mut self.removals else {
+            return Ok(());
+        };
+        removals.table(origin, turn, table)
     }
 
     fn listing(&mut self, origin: Origin, settings: u64, table: &Rc<[u8]>) -> Result<(), String> {
@@ -186,13 +207,15 @@ impl Comparison {
     pub fn differences(&self) -> u64 {
         let fields = self.fields.as_ref().map_or(0, Fields::differences);
         let fans = self.fans.as_ref().map_or(0, Fans::differences);
-        self.exchange.tally.all_differences() + fields + fans
+        let removals = self.removals.as_ref().map_or(0, Removals::differences);
+        self.exchange.tally.all_differences() + fields + fans + removals
     }
 
     pub fn finish(self) -> Result<Tally, String> {
         let mut tally = self.exchange.finish()?;
         tally.fields = self.fields.map(Fields::finish).transpose()?;
         tally.fans = self.fans.map(Fans::finish).transpose()?;
+        tally.removals = self.removals.map(Removals::finish).transpose()?;
         Ok(tally)
     }
 }

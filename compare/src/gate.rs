@@ -6,6 +6,7 @@ use crate::fields;
 use crate::known;
 use crate::options::Options;
 use crate::question::Origin;
+use crate::removals;
 use crate::tally::Tally;
 use crate::texts;
 use second::generator::{self, raw};
@@ -21,6 +22,7 @@ pub fn gate(options: &Options) -> Result<bool, String> {
         comparison.known(row)?;
     }
     comparison.known_fans()?;
+    comparison.known_removals()?;
     // Two and two, as many cases come in pairs.
     for (at, (name, table)) in generator::targeted().iter().enumerate() {
         let made_for = Settings::ALL[at / 2 % 4];
@@ -65,6 +67,10 @@ fn judged(tally: &Tally, elements: bool) -> bool {
     }
     good &= tally.fields.as_ref().is_none_or(fields::Tally::all_came);
     good &= tally.fans.as_ref().is_none_or(fans::Tally::all_came);
+    good &= tally
+        .removals
+        .as_ref()
+        .is_none_or(removals::Tally::all_came);
     tally.print_sum();
     good && tally.all_differences() == 0
 }

@@ -16,6 +16,7 @@ mod options;
 mod outcome;
 mod progress;
 mod question;
+mod removals;
 mod settings;
 mod stand_in;
 mod tally;
@@ -26,8 +27,8 @@ use options::{Command, Options};
 use std::process::ExitCode;
 
 const USAGE: &str = "\
-use: compare gate [--elements] [--listing] [--fields] [--fans] [--writer] [--first] --driver COMMAND...
-     compare long --seed S --count N [--elements] [--listing] [--fields] [--fans] --driver COMMAND...
+use: compare gate [--elements] [--listing] [--fields] [--fans] [--removals] [--writer] [--first] --driver COMMAND...
+     compare long --seed S --count N [--elements] [--listing] [--fields] [--fans] [--removals] --driver COMMAND...
      compare writer --seed S --count N --driver COMMAND...
      compare stand-in
 ";

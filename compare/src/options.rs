@@ -22,6 +22,7 @@ pub struct Options {
     pub listing: bool,
     pub fields: bool,
     pub fans: bool,
+    pub removals: bool,
     /// The gate: the writer's calls too.
     pub writer: bool,
     /// The gate: it ends at the first difference.
@@ -39,6 +40,7 @@ struct Given {
     listing: bool,
     fields: bool,
     fans: bool,
+    removals: bool,
     writer: bool,
     first: bool,
     driver: Vec<String>,
@@ -63,6 +65,7 @@ impl Given {
                 "--listing" => given.listing = true,
                 "--fields" => given.fields = true,
                 "--fans" => given.fans = true,
+                "--removals" => given.removals = true,
                 "--writer" => given.writer = true,
                 "--first" => given.first = true,
                 "--driver" => given.driver = words.by_ref().cloned().collect(),
@@ -90,8 +93,8 @@ impl Options {
             return Err("'--writer' and '--first' are for the gate alone".into());
         }
         let of_tables = given.elements || given.listing || given.fields || given.fans;
-        if of_tables && matches!(command, Command::Writer { .. }) {
-            return Err("'--elements', '--listing', '--fields' and '--fans' are for tables".into());
+        if (of_tables || given.removals) && matches!(command, Command::Writer { .. }) {
+            return Err("the writer's calls take '--seed' and '--count' alone".into());
         }
         if given.driver.is_empty() && command != Command::StandIn {
             return Err("'--driver' and its command are missing".into());
@@ -102,6 +105,7 @@ impl Options {
             listing: given.listing,
             fields: given.fields,
             fans: given.fans,
+            removals: given.removals,
             writer: given.writer,
             first: given.first,
             driver: given.driver,

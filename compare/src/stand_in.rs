@@ -4,6 +4,7 @@
 use crate::call::Call;
 use crate::fields::Reading;
 use crate::outcome::Outcome;
+use crate::removals::{self, Removal};
 use crate::writer::{Does, WriterCall};
 use std::io::{self, BufRead, BufReader, BufWriter, Read, Write};
 
@@ -40,6 +41,7 @@ fn answer(from: &mut impl Read) -> io::Result<Vec<u8>> {
     }
     match Does::of(mode, k as u8) {
         Some(does) => of_writer(does, k >> 8, settings, lent, from),
+        None if mode == Removal::MODE => of_removals(k, settings, &lent, from),
         None => of_readings(k, settings, &lent, from),
     }
 }
@@ -89,6 +91,23 @@ fn of_readings(
         let reading = Reading::of(asked[0], number(&asked[1..9]), number(&asked[9..]));
         let reading = reading.ok_or(io::ErrorKind::InvalidData)?;
         reading.second(lent, settings, &mut replies);
+    }
+    Ok(replies)
+}
+
+/// So many elements' numbers follow the table.
+fn of_removals(
+    count: u64,
+    settings: u64,
+    table: &[u8],
+    from: &mut impl Read,
+) -> io::Result<Vec<u8>> {
+    let mut replies = Vec::new();
+    for _ in 0..count {
+        let k = number(&bytes(from, 8)?);
+        let Outcome { answer, buffer } = removals::second(table, k, settings);
+        replies.extend(answer.0.to_le_bytes());
+        replies.extend(buffer);
     }
     Ok(replies)
 }

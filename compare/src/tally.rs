@@ -7,6 +7,7 @@ use crate::fans;
 use crate::fields;
 use crate::outcome::{hex, text, Differences, Outcome};
 use crate::question::Question;
+use crate::removals;
 use second::Settings;
 
 /// By mode of the driver; a listing has no number and is only counted.
@@ -22,6 +23,8 @@ pub struct Tally {
     pub fields: Option<fields::Tally>,
     /// The same of the fans.
     pub fans: Option<fans::Tally>,
+    /// And of what was taken out.
+    pub removals: Option<removals::Tally>,
     /// By mode: how often each number came, both sides agreeing.
     answers: [Answers; 3],
 }
@@ -58,6 +61,9 @@ impl Tally {
         if let Some(fans) = &self.fans {
             fans.print_answers();
         }
+        if let Some(removals) = &self.removals {
+            removals.print_answers();
+        }
     }
 
     /// Prints the answers of this mode that should have come and did not, those to a whole table and these
@@ -77,10 +83,11 @@ impl Tally {
             .as_ref()
             .map_or(0, |fields| fields.differences.0);
         let fans = self.fans.as_ref().map_or(0, |fans| fans.differences.0);
-        self.differences.0 + self.listing_differences.0 + fields + fans
+        let removals = self.removals.as_ref().map_or(0, |them| them.differences.0);
+        self.differences.0 + self.listing_differences.0 + fields + fans + removals
     }
 
-    /// The last line, or the last four.
+    /// The last line, or the last five.
     pub fn print_sum(&self) {
         println!("{} tables, {} differences", self.tables, self.differences.0);
         if self.listings > 0 {
@@ -92,6 +99,9 @@ impl Tally {
         }
         if let Some(fans) = &self.fans {
             fans.print_sum();
+        }
+        if let Some(removals) = &self.removals {
+            removals.print_sum();
         }
     }
 }

@@ -1,6 +1,6 @@
 /* A tour of the library from C: is a file a table, what stands in it, is there a fan in a zone, how a new one is written, and
    written again; a lamp that one of the two chips has no pin for; an old sensor that the archive's rules alone take; a lamp of
-   three colours on a chip of its own; and what an element is called.
+   three colours on a chip of its own; what an element is called; and how a part is taken out.
    tour [FILE]      without FILE it looks at a table of its own. On x86-64:
    rt staticlib esa && cc -std=c99 -I include examples/c/tour.c target/staticlib/libesa.a -o tour */
 #include <stdio.h>
@@ -193,6 +193,15 @@ static void names(uint8_t *buffer, size_t length)
     told("half a character appended", esa_append(buffer, length, ESA_STRING, CHIP, nothing, half, sizeof half), "bytes");
 }
 
+/* Somebody unplugs things. A zone that a fan still names cannot go; with the fan taken out first it can. */
+static void take_out(uint8_t *table, size_t length)
+{
+    told("the zone taken out", esa_remove(table, length, 1, CHIP), "bytes");
+    uint64_t answer = esa_remove(table, length, 0, CHIP);
+    if (told("the fan taken out", answer, "bytes"))
+        told("the zone taken out", esa_remove(table, esa_beside(answer), 0, CHIP), "bytes");
+}
+
 /* Writes a table again: the same table, but for its reserved places, which become zero. */
 static void again(const uint8_t *table, size_t length)
 {
@@ -254,5 +263,9 @@ int main(int count, char **arguments)
 
     printf("\na table with a name\n");
     names(buffer, sizeof buffer);
+
+    printf("\na table with parts taken out\n");
+    memcpy(buffer, own_table, sizeof own_table);
+    take_out(buffer, sizeof own_table);
     return good ? 0 : 1;
 }

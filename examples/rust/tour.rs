@@ -1,6 +1,6 @@
 //! A tour of the library from Rust: is a file a table, what stands in it, is there a fan in a zone, how a new one is written,
 //! and written again; a lamp that one of the two chips has no pin for; an old sensor that the archive's rules alone take; a lamp of
-//! three colours on a chip of its own; and what an element is called.
+//! three colours on a chip of its own; what an element is called; and how a part is taken out.
 //! tour [FILE]      without FILE it looks at a table of its own. On x86-64:
 //! rt staticlib esa && rustc --edition 2021 -L target/staticlib -l static=esa examples/rust/tour.rs
 
@@ -100,6 +100,7 @@ mod esa {
                 out: *mut u8,
                 room: usize,
             ) -> u64;
+            pub fn esa_remove(table: *mut u8, length: usize, k: usize, settings: u64) -> u64;
             pub fn esa_list(
                 table: *const u8,
                 length: usize,
@@ -216,6 +217,12 @@ mod esa {
         unpacked(unsafe { c::esa_rewrite(table.as_ptr(), table.len(), chip as u64, at, room) })
     }
 
+    /// The length of the table without element k, from 0.
+    pub fn remove(table: &mut [u8], k: usize, chip: Chip) -> Answer {
+        let (at, length) = (table.as_mut_ptr(), table.len());
+        unpacked(unsafe { c::esa_remove(at, length, k, chip as u64) })
+    }
+
     /// The listing: a line for the table and one for each element, or the refusal.
     pub fn list(table: &[u8], settings: Settings) -> String {
         let mut text = [0; 4096];
@@ -268,6 +275,7 @@ fn words(number: u8) -> &'static str {
         15 => "a pin is claimed a second time",
         16 => "no room for it",
         17 => "there is no such element, block or pair",
+        22 => "something still names it",
         23 => "a bus type that is retired",
         25 => "a number is too large for its field",
         _ => "a number that no call gives",
@@ -459,6 +467,14 @@ fn names(buffer: &mut [u8]) -> Result<(), esa::Refusal> {
     Ok(())
 }
 
+/// Somebody unplugs things. A zone that a fan still names cannot go; with the fan taken out first it can.
+fn take_out(table: &mut [u8]) -> Result<(), esa::Refusal> {
+    let _ = told("the zone taken out", esa::remove(table, 1, CHIP), "bytes");
+    let length = told("the fan taken out", esa::remove(table, 0, CHIP), "bytes")?;
+    told("the zone taken out", esa::remove(&mut table[..length], 0, CHIP), "bytes")?;
+    Ok(())
+}
+
 /// Writes a table again: the same table, but for its reserved places, which become zero.
 fn again(table: &[u8]) -> Result<(), esa::Refusal> {
     let mut out = [0; esa::LONGEST];
@@ -517,6 +533,9 @@ fn tour(table: &[u8]) -> Result<bool, esa::Refusal> {
 
     println!("\na table with a name");
     names(&mut buffer)?;
+
+    println!("\na table with parts taken out");
+    take_out(&mut own_table())?;
     Ok(answer.is_ok())
 }
 

@@ -48,6 +48,20 @@ fn looks_for_a_fan() {
 }
 
 #[test]
+fn takes_an_element_out() {
+    let fan = raw::fan(1, 0x05, 0xFF);
+    let table = raw::table(&[raw::current(1, 0x24), raw::zone(1, 0), fan.clone()]);
+    let left = raw::table(&[raw::zone(1, 0), fan]);
+    assert_eq!(run(&["remove", "0"], &table).stdout, left);
+    let named = run(&["remove", "--chip", "320", "1"], &table);
+    assert!(named.status.success());
+    assert_eq!(named.stdout, b"R\t22\t30\n");
+    assert_eq!(run(&["remove", "3"], &table).stdout, b"R\t17\t0\n");
+    let refused = run(&["remove", "--chip", "321", "0"], &table);
+    assert_eq!(refused.stdout, b"R\t10\t16\n");
+}
+
+#[test]
 fn long_input_is_not_cut_to_a_table() {
     let mut table = raw::table(&[raw::text(1, &vec![0; 4096 - 22])]);
     assert_eq!(run(&["list"], &table).stdout.first(), Some(&b'T'));
@@ -113,7 +127,7 @@ fn holds_itself_against_itself() {
 
 #[test]
 fn misuse_is_told_and_gives_status_2() {
-    let misuses: [&[&str]; 34] = [
+    let misuses: [&[&str]; 39] = [
         &[],
         &["dance"],
         &["list", "extra"],
@@ -147,6 +161,11 @@ fn misuse_is_told_and_gives_status_2() {
         &["fan", "one"],
         &["fan", "1", "2"],
         &["fan", "--archive", "1"],
+        &["remove"],
+        &["remove", "-1"],
+        &["remove", "one"],
+        &["remove", "1", "2"],
+        &["remove", "--archive", "1"],
         &[
             "rows", "--seed", "1", "--count", "1", "--max", "1", "--chip", "321",
         ],

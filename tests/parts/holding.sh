@@ -8,13 +8,15 @@ ready() {
     timeout 900 "$root/esa" list "$root/tables/quiet-box.esa" >/dev/null || die "the program list does not run"
     timeout 900 "$root/esa" rewrite "$root/tables/quiet-box.esa" "$work/first" || die "the program rewrite does not run"
     timeout 900 "$root/esa" fan "$root/tables/quiet-box.esa" 1 >/dev/null || die "the program fan does not run"
+    timeout 900 "$root/esa" remove "$root/tables/quiet-box.esa" 0 "$work/first" || die "the program remove does not run"
     list=$("$root/tools/as-rt" "$root/target/bin/list") || exit 2
     rewrite=$("$root/tools/as-rt" "$root/target/bin/rewrite") || exit 2
     seek=$("$root/tools/as-rt" "$root/target/bin/fan") || exit 2
+    take=$("$root/tools/as-rt" "$root/target/bin/remove") || exit 2
 }
 
-# The words of every program that is run: its options, or none; and of fan the zone.
-options='' zone=1
+# The words of every program that is run: its options, or none; of fan the zone, and of remove the element.
+options='' zone=1 element=0
 
 # Byte 23 of a file, or 1 where it has none: the zone of its first element, or what stands there of a string or a zone descriptor.
 zone_of() { # FILE
@@ -36,6 +38,7 @@ wanted() { # FILE PROGRAM...
     for program; do
         words=$options
         [ "$program" != fan ] || words="$options $zone"
+        [ "$program" != remove ] || words="$options $element"
         "$second" $program $words <"$file" >"$work/$program.wanted" || die "the second program: $program $words of $file"
     done
 }
@@ -61,20 +64,28 @@ judge() { # NAME PROGRAM...
     [ $right = yes ] || wrong=$((wrong + 1))
 }
 
-# A file, to the three programs at once, on one chip.
+# A file, to the programs at once, on one chip; to remove every fifth time, and the elements that are to go take turns.
 hold_on() { # CHIP NAME FILE
     options="--chip $1"
     zone_of "$3"
+    programs='list rewrite fan'
     runs list "$list" <"$3" &
     runs fan "$seek" "$zone" <"$3" &
+    if [ $((files / 2 % 5)) -eq 0 ]; then
+        programs="$programs remove"
+        element=$((files / 10 % 7))
+        runs remove "$take" "$element" <"$3" &
+    fi
     runs rewrite "$rewrite" <"$3"
-    wanted "$3" list rewrite fan
+    # shellcheck disable=SC2086
+    wanted "$3" $programs
     wait
-    judge "$2" list rewrite fan
+    # shellcheck disable=SC2086
+    judge "$2" $programs
     options=''
 }
 
-# By the archive's rules; there is no such rewriting, and fan has the ordinary ones.
+# By the archive's rules; there is no such rewriting, and fan and remove have the ordinary ones.
 hold_archived() { # CHIP NAME FILE
     options="--chip $1 --archive"
     runs list "$list" <"$3"
@@ -98,6 +109,8 @@ hold_piped() { # NAME FILE COMMAND...
     "$@" 2>/dev/null | runs rewrite "$rewrite"
     zone_of "$file"
     "$@" 2>/dev/null | runs fan "$seek" "$zone"
-    wanted "$file" list rewrite fan
-    judge "$name" list rewrite fan
+    element=0
+    "$@" 2>/dev/null | runs remove "$take" "$element"
+    wanted "$file" list rewrite fan remove
+    judge "$name" list rewrite fan remove
 }

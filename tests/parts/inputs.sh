@@ -57,6 +57,7 @@ no_input() {
     runs list "$list" <&-
     runs rewrite "$rewrite" <&-
     runs fan "$seek" "$zone" <&-
-    wanted "$work/input" list rewrite fan
-    judge 'a closed standard input' list rewrite fan
+    runs remove "$take" "$element" <&-
+    wanted "$work/input" list rewrite fan remove
+    judge 'a closed standard input' list rewrite fan remove
 }

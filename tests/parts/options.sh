@@ -90,6 +90,7 @@ no_options() {
     no_option_of list
     no_option_of rewrite never
     no_option_of fan 1
+    no_option_of remove 0 never
     for command in check list; do
         try "$command --archive twice" complains 2 "esa: the option --archive is given twice" $command --archive --chip 321 --archive good
     done

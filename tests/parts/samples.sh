@@ -53,14 +53,15 @@ sample_with() { # NAME STATUS OPTION STATUS
     try "./esa list $3 of $1 is as its text says" as_the_text_says "list $3" "$1" "$4"
 }
 
-ten_samples() {
-    [ "$(find "$tables" -type f | wc -l)" -eq 20 ]
+eleven_samples() {
+    [ "$(find "$tables" -type f | wc -l)" -eq 22 ]
 }
 
 samples() {
     sample quiet-box 0
     sample every-kind 0
     sample water-kit 0
+    sample leftover 0
     sample spring 1
     sample mute 1
     sample blank 1
@@ -68,5 +69,5 @@ samples() {
     sample twice 1
     sample_with larger-chip 0 '--chip 321' 1
     sample_with old-box 1 --archive 0
-    try "ten sample tables with a text each, and nothing else" ten_samples
+    try "eleven sample tables with a text each, and nothing else" eleven_samples
 }

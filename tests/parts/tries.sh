@@ -64,4 +64,5 @@ first_use() {
     [ ! -f "$root/crates/list/src/main.rt" ] || "$esa" list "$tables/quiet-box.esa" >/dev/null
     "$esa" label "$tables/quiet-box.esa" 0 >/dev/null
     "$esa" fan "$tables/quiet-box.esa" 1 >/dev/null
+    "$esa" remove "$tables/quiet-box.esa" 0 "$work/first" && rm -f "$work/first"
 }

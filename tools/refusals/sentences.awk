@@ -1,4 +1,4 @@
-# awk -v chip=320|321 -f elements.awk -f claims.awk -f sentences.awk texts.tsv - <LINES
+# awk -v chip=320|321 -f elements.awk -f claims.awk -f naming.awk -f sentences.awk texts.tsv - <LINES
 # Turns the lines of the program verdicts into sentences: word, then text, parted by a tab, where the word is ok, R or X. A
 # refusal's text is 'NUMBER at PLACE: SENTENCE'. The words of the sentences stand in texts.tsv.
 
@@ -70,6 +70,7 @@ function sentence() {
     if (number == 10) return place == 0 ? of_revision_pins() : of_pins()
     if (number <= 12) return of_numbers()
     if (number <= 14) return of_names()
+    if (number == 22) return of_naming()
     return number == 23 ? of_retired() : of_claims()
 }
 

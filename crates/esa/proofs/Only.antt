@@ -22,8 +22,9 @@ use Rattle.reader.proofs.PartPlaces.{only-place}
 use Rattle.esa.specs.Face.{packed, Checked, packedAsked, AskedFor, PartFor}
 use Rattle.esa.specs.Fields.{packedDescribed, describedLeaves, fieldsLeave, DescribedFor, FieldsFor}
 use Rattle.esa.specs.Places.{packedPlaced, packedText, PlacedFor, TextPlaced, TextOf, TextAsked, TextFor}
-use Rattle.esa.specs.Writing.{packedWritten, RewrittenFor, StartedFor, AppendedOne, AppendedAs, AppendedFor}
+use Rattle.esa.specs.Writing.{packedWritten, RewrittenFor, RemovedFor, StartedFor, AppendedOne, AppendedAs, AppendedFor}
 use Rattle.rewriting.proofs.Only.{only-rewrite}
+use Rattle.removing.proofs.Only.{only-remove}
 use Rattle.numbers.specs.From.{descriptionFrom, elementFrom}
 use Rattle.numbers.specs.declared.MaybeElement.{MaybeElement}
 use Rattle.numbers.specs.declared.MaybeElement.the-variants.{Element as Found, Unknown}
@@ -145,4 +146,14 @@ pub rewritten-unique :
     → (r ≡ r′) × (after ≡ after′)
 rewritten-unique chip b c r r′ after after′ small s s′ =
     let q = only-rewrite chip b c (s .answer) (s′ .answer) after after′ small (s .rewritten) (s′ .rewritten) in
+    (s .number ∙ ap packedWritten (q .0) ∙ sym (s′ .number), q .1)
+
+pub removed-unique :
+    (chip : Chip) (b : List ℕ) (k r r′ : ℕ) (after after′ : List ℕ)
+    → Bytes b
+    → RemovedFor chip b k r after
+    → RemovedFor chip b k r′ after′
+    → (r ≡ r′) × (after ≡ after′)
+removed-unique chip b k r r′ after after′ small s s′ =
+    let q = only-remove chip b k small (s .answer) (s′ .answer) after after′ (s .removed) (s′ .removed) in
     (s .number ∙ ap packedWritten (q .0) ∙ sym (s′ .number), q .1)

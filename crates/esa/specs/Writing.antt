@@ -8,6 +8,7 @@ use Rattle.format.specs.declared.records.Element.{Element}
 use Rattle.format.specs.declared.answers.Written.{Written}
 use Rattle.writer.specs.Calls.{Started, Appended}
 use Rattle.rewriting.specs.Again.{Rewritten}
+use Rattle.removing.specs.Removed.{Removed}
 use Rattle.numbers.specs.From.{descriptionFrom, elementFrom}
 use Rattle.numbers.specs.declared.MaybeElement.{MaybeElement}
 use Rattle.numbers.specs.declared.MaybeElement.the-variants.{Element as Found, Unknown}
@@ -42,4 +43,10 @@ pub record AppendedFor (c : Chip) (b : List ℕ) (id : ℕ) (n p : List ℕ) (r 
 pub record RewrittenFor (chip : Chip) (b c : List ℕ) (r : ℕ) (after : List ℕ) : Type 0 where
   pub answer : Written
   pub rewritten : Rewritten chip b c answer after
+  pub number : r ≡ packedWritten answer
+
+-- an element was taken out of a table
+pub record RemovedFor (chip : Chip) (b : List ℕ) (k r : ℕ) (after : List ℕ) : Type 0 where
+  pub answer : Written
+  pub removed : Removed chip b k answer after
   pub number : r ≡ packedWritten answer

@@ -11,7 +11,7 @@ ghost use Rattle.esa.specs.Places.{PlacedFor, TextPlaced, TextFor};
 ghost use Rattle.esa.specs.Labels.{LabelFor};
 ghost use Rattle.esa.specs.Fans.{FanFor};
 ghost use Rattle.esa.specs.Blocks.{packedBlock, packedPair, packedEntries};
-ghost use Rattle.esa.specs.Writing.{StartedFor, AppendedFor, RewrittenFor};
+ghost use Rattle.esa.specs.Writing.{StartedFor, AppendedFor, RewrittenFor, RemovedFor};
 use format::answers::Asked;
 use format::answers::Described;
 use format::pins::Chip;
@@ -208,6 +208,14 @@ pub extern "C" fn esa_rewrite(table: &[u8], settings: u64, out: &mut [u8]) -> u6
     ensures { λ r. ⌜ RewrittenFor (chipOf settings) (now (table .entry)) (now (out .entry)) r (now (out .exit)) ⌝ }
 {
     packing::written(rewriting::rewrite(table, out, chip_of(settings)))
+}
+
+// Takes element k out of the lent table, by the writer's rules. Beside 0 stands the new length, beside a refusal its place.
+#[no_mangle]
+pub extern "C" fn esa_remove(table: &mut [u8], k: usize, settings: u64) -> u64
+    ensures { λ r. ⌜ RemovedFor (chipOf settings) (now (table .entry)) k r (now (table .exit)) ⌝ }
+{
+    packing::written(removing::remove(table, k, chip_of(settings)))
 }
 
 // The listing of a table at the front of the buffer. The answer is its length in bytes.

@@ -1,10 +1,11 @@
 -- Asking for the description or for element k: there is an answer for every table, and no second.
 -- Assumes nothing.
-use Prim.Native.Nat.{ℕ}
+use Prim.Native.Nat.{ℕ, zero, suc}
 use native.Mathlib.Omega.{arith}
 use mathlib.Core.Path.{_≡_, refl, sym, _∙_, ap}
-use mathlib.Core.List.{List, [], _∷_}
+use mathlib.Core.List.{List, [], _∷_, _++_}
 use mathlib.Core.Option.{Option, none, some}
+use lib.ListN.{take, drop}
 use Rattle.format.specs.Slots.{Bytes, written}
 use Rattle.format.specs.Records.{Record, elementOf}
 use Rattle.format.specs.Layout.{part}
@@ -20,6 +21,12 @@ use Rattle.format.specs.declared.answers.Asked.{Asked}
 use Rattle.format.specs.declared.answers.Asked.the-variants.{Element, Refused as NotGiven}
 use Rattle.format.proofs.Theorem.{meets, only, one-list, accepts-passed}
 use Rattle.format.specs.declared.settings.Settings.{Settings}
+
+-- element k stands between those before it and those behind it
+pub nth-split : (rs : List Record) (k : ℕ) {r : Record} → nth rs k ≡ some r → rs ≡ take k rs ++ r ∷ drop (suc k) rs
+nth-split [] k h = let z : _≡_ {A = ℕ} 0 1 = cc in absurd (omega arith)
+nth-split (x ∷ rs) zero {r} h = let q : x ≡ r = cc in ap (λ (y : Record). y ∷ rs) q
+nth-split (x ∷ rs) (suc k) h = ap (λ (l : List Record). x ∷ l) (nth-split rs k h)
 
 module _ (s : Settings) where
   -- an accepted table has no refusal, and one list of records

@@ -71,7 +71,7 @@ in-order s before r h =
     let own = own-unbroken s before r h in
     each-kept (rulesAgainst before r) (sym (then-against s before r own) ∙ h) .0
 
-passed-rise : (s : Settings) (before rs : List Record) → PassKept s before rs → rise (lastUsed before) (allFanPins rs) ≡ true
+pub passed-rise : (s : Settings) (before rs : List Record) → PassKept s before rs → rise (lastUsed before) (allFanPins rs) ≡ true
 passed-rise s before [] h = refl
 passed-rise s before (r ∷ rs) h =
     rise-append (lastUsed before) (fanPins r) (allFanPins rs)

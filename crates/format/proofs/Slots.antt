@@ -85,6 +85,11 @@ bytes-take (suc n) [] small i = omega arith
 bytes-take (suc n) (b ∷ bs) small zero = small 0
 bytes-take (suc n) (b ∷ bs) small (suc i) = bytes-take n bs (λ j. small (suc j)) i
 
+pub bytes-append : (xs ys : List ℕ) → Bytes xs → Bytes ys → Bytes (xs ++ ys)
+bytes-append [] ys f g i = g i
+bytes-append (x ∷ xs) ys f g zero = f 0
+bytes-append (x ∷ xs) ys f g (suc i) = bytes-append xs ys (λ j. f (suc j)) g i
+
 -- Rule 25: what fits bytes breaks no 25.
 holds-roomy : (b : ℕ) (s : Slot) → b < 256 → Holds b s → roomy s ≡ true
 holds-roomy b (whole v) h k = lt-ltb v 256 (omega arith)

@@ -68,7 +68,7 @@ kept-text s r e k = go (if-string r)
         rw p (and-true (not (eqb (stringNumber bytes) 0)) (wellFormed (textOf bytes)) c .1)
     go (is-none m n) = absurd (m e)
 
-own-nth : (s : Settings) (before rs : List Record) (k : ℕ) {r : Record} → PassKept s before rs → nth rs k ≡ some r → OwnKept s r
+pub own-nth : (s : Settings) (before rs : List Record) (k : ℕ) {r : Record} → PassKept s before rs → nth rs k ≡ some r → OwnKept s r
 own-nth s before [] k h n = absurd (no (cc))
 own-nth s before (x ∷ rs) zero {r} h n =
     let q : x ≡ r = cc in

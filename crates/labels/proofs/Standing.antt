@@ -1,6 +1,6 @@
 -- An element of an accepted table: what the code reads at its place; and a string's text, which stands there and is well-formed.
 -- Assumes nothing.
-use Prim.Native.Nat.{ℕ, zero, suc, _+_, _≤_}
+use Prim.Native.Nat.{ℕ, suc, _+_, _≤_}
 use native.Mathlib.Omega.{arith}
 use mathlib.Core.Path.{_≡_, refl, sym, _∙_, ap, subst}
 use mathlib.Core.Bool.{Bool, true, false, not}
@@ -27,6 +27,7 @@ use Rattle.format.proofs.Slots.{starts-over, starts-split, starts-rest}
 use Rattle.format.proofs.Whole.{written-whole, length-whole, part-written}
 use Rattle.format.proofs.Lengths.{snoc-length}
 use Rattle.format.proofs.Kept.{and-true, OwnKept, own-kept, own-unbroken}
+use Rattle.format.proofs.Asking.{nth-split}
 use Rattle.format.proofs.Strings.{naming-string}
 use Rattle.walking.specs.Walk.{Here, Walk, Located}
 use Rattle.walking.proofs.Left.{Next, top, next, unfinished}
@@ -130,11 +131,6 @@ pub roled-next :
 roled-next σ t at S w g =
     subst (λ (m : ℕ). Roled t m (role (g .r))) (sym (w .place))
     (roled σ t (w .d) (w .done) (g .r) (g .others) (subst (λ (l : List Record). Accepts σ t (w .d) (w .done ++ l)) (g .same) (w .accepts)))
-
-nth-split : (rs : List Record) (k : ℕ) {r : Record} → nth rs k ≡ some r → rs ≡ take k rs ++ r ∷ drop (suc k) rs
-nth-split [] k h = let z : _≡_ {A = ℕ} 0 1 = cc in absurd (omega arith)
-nth-split (x ∷ rs) zero {r} h = let q : x ≡ r = cc in ap (λ (y : Record). y ∷ rs) q
-nth-split (x ∷ rs) (suc k) h = ap (λ (l : List Record). x ∷ l) (nth-split rs k h)
 
 module _ (σ : Settings) (t : List ℕ) (d : Description) (rs : List Record) (k : ℕ) {r : Record} (a : Accepts σ t d rs) (n : nth rs k ≡ some r) where
   cut-there : Accepts σ t d (take k rs ++ r ∷ drop (suc k) rs)

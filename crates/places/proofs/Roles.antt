@@ -9,7 +9,7 @@ use mathlib.Core.Bool.{Bool, true, false, _&&_}
 use mathlib.Core.List.{List, [], _∷_}
 use lib.ListN.{length, getD, drop, length-drop}
 use lib.Seq.{getD-drop}
-use borrow.Author.Tests.{eqb-true}
+use borrow.Author.Tests.{eqb-true, leb-true}
 use Rattle.format.specs.Slots.{Starts, byte}
 use Rattle.format.specs.Records.{Record, digital, analogue, fan, led, water, pump, voltage, current, controller, tachometer, zone, string, external, rgb, zoneString}
 use Rattle.format.specs.Layout.{layout}
@@ -65,6 +65,17 @@ module _ (t : List ℕ) (at : ℕ) where
         sym (at-0 t at) ∙ o .0,
         omega (arith, length-drop at t, starts-length (drop at t) (layout (zone (x ∷ y ∷ bytes))) rest h),
         sym (getD-drop at t 4 0) ∙ o .1 .1 .1 .1 .0,
+        sym (getD-drop at t 3 0) ∙ o .1 .1 .1 .0,
+      )
+
+  string-bytes :
+      (bytes rest : List ℕ) → Starts (drop at t) (layout (string bytes)) rest → 6 ≤ 3 + length bytes → RoleBytes t at (naming bytes)
+  string-bytes [] rest h s = absurd (omega arith)
+  string-bytes (x ∷ bytes) rest h s =
+      let o = starts-over (drop at t) (layout (string (x ∷ bytes))) rest h in (
+        sym (at-0 t at) ∙ o .0,
+        omega (arith, length-drop at t, starts-length (drop at t) (layout (string (x ∷ bytes))) rest h),
+        sym (getD-drop at t 3 0) ∙ o .1 .1 .1 .0,
       )
 
   pub role-bytes :
@@ -90,11 +101,7 @@ module _ (t : List ℕ) (at : ℕ) where
   role-bytes (tachometer d a b) rest h s =
       of-placed (tachometer d a b) rest h (omega arith) (λ o. (o .0, o .1 .1 .1 .0, o .1 .1 .1 .1 .1 .1 .1 .0)) (λ e. omega arith) (λ e. omega arith)
   role-bytes (zone bytes) rest h s = zone-bytes bytes rest h (eqb-true (3 + length bytes) 30 s)
-  role-bytes (string bytes) rest h s =
-      let o = starts-over (drop at t) (layout (string bytes)) rest h in (
-        sym (at-0 t at) ∙ o .0,
-        omega (arith, length-drop at t, starts-length (drop at t) (layout (string bytes)) rest h),
-      )
+  role-bytes (string bytes) rest h s = string-bytes bytes rest h (leb-true 6 (3 + length bytes) s)
   role-bytes (external x r g b) rest h s =
       of-placed (external x r g b) rest h (omega arith) (λ o. (o .0, o .1 .1 .1 .0, o .1 .1 .1 .1 .1 .1 .1 .0)) (λ e. omega arith) (λ e. omega arith)
   role-bytes (rgb r) rest h s =

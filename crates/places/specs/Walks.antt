@@ -7,7 +7,7 @@ use mathlib.Core.List.{List, _∷_}
 use mathlib.Core.Option.{Option, none, some}
 use lib.ListN.{length}
 use Rattle.format.specs.Slots.{byte, Bytes}
-use Rattle.format.specs.Records.{Record, zoneString}
+use Rattle.format.specs.Records.{Record, zoneNumber, zoneString, stringNumber}
 use Rattle.format.specs.ZonesAndStrings.{Role, placed, zoning, naming, zoneNamed, stringNamed, zones, strings}
 use Rattle.format.specs.Reader.{elementsOf, through}
 use Rattle.format.specs.declared.settings.Settings.{Settings}
@@ -20,8 +20,9 @@ RoleBytes t at (placed p) =
     × (at + 8 ≤ length t)
     × (byte t (at + 3) ≡ p .string)
     × (byte t (at + 7) ≡ p .zone)
-RoleBytes t at (zoning bytes) = (byte t at ≡ 11) × (at + 5 ≤ length t) × (byte t (at + 4) ≡ zoneString bytes)
-RoleBytes t at (naming bytes) = (byte t at ≡ 12) × (at + 3 ≤ length t)
+RoleBytes t at (zoning bytes) =
+    (byte t at ≡ 11) × (at + 5 ≤ length t) × (byte t (at + 4) ≡ zoneString bytes) × (byte t (at + 3) ≡ zoneNumber bytes)
+RoleBytes t at (naming bytes) = (byte t at ≡ 12) × (at + 4 ≤ length t) × (byte t (at + 3) ≡ stringNumber bytes)
 
 -- a table whose elements the pass came through, under settings σ
 pub record Walkable (σ : Settings) (t : List ℕ) : Type 0 where
@@ -32,9 +33,9 @@ pub record Walkable (σ : Settings) (t : List ℕ) : Type 0 where
   pub whole : elementsOf σ t ≡ through rs
 
 -- what an element names, and what it may name: of zones, or of strings, where 0 is no string
-abbrev pub named : Bool → Role → List ℕ
-named true = zoneNamed
-named false = stringNamed
+abbrev pub namesOf : Bool → Role → List ℕ
+namesOf true x = zoneNamed x
+namesOf false x = stringNamed x
 
 abbrev pub nameable : Bool → List Record → List ℕ
 nameable true rs = zones rs

@@ -6,7 +6,7 @@ ghost use Prim.Native.Nat.{ℕ};
 ghost use Rattle.format.specs.ZonesAndStrings.{Role, zoneNamed, stringNamed, allAmong, zones, strings, firstNaming};
 ghost use Rattle.format.specs.declared.settings.Settings.{Settings};
 ghost use Rattle.flags.specs.Marks.{Marks};
-ghost use Rattle.places.specs.Walks.{RoleBytes, Walkable, named, nameable, orZero};
+ghost use Rattle.places.specs.Walks.{RoleBytes, Walkable, namesOf, nameable, orZero};
 use walking::length_at;
 use words::wide;
 
@@ -46,7 +46,7 @@ fn string_marked(t: &[u8], at: usize, marks: &[bool; 256]) -> bool
 // The zone, or the string.
 fn marked(t: &[u8], at: usize, marks: &[bool; 256], zone: bool) -> bool
     requires { ⌜ ((x : Role) × RoleBytes (now t) at x) ⌝ }
-    ensures { λ r. ⌜ ((x : Role) (ns : List ℕ) → RoleBytes (now (t .entry)) at x → Marks (now (marks .entry)) ns → r ≡ allAmong (named zone x) ns) ⌝ }
+    ensures { λ r. ⌜ ((x : Role) (ns : List ℕ) → RoleBytes (now (t .entry)) at x → Marks (now (marks .entry)) ns → r ≡ allAmong (namesOf zone x) ns) ⌝ }
 {
     if zone {
         return zone_marked(t, at, marks);
@@ -57,7 +57,7 @@ fn marked(t: &[u8], at: usize, marks: &[bool; 256], zone: bool) -> bool
 // The place of the first element whose zone, or whose string, is not marked; 0 where there is none.
 fn unmarked(t: &[u8], marks: &[bool; 256], zone: bool) -> usize
     requires { ⌜ ((σ : Settings) × (w : Walkable σ (now t)) × Marks (now marks) (nameable zone (w .rs))) ⌝ }
-    ensures { λ r. ⌜ ((σ : Settings) (w : Walkable σ (now (t .entry))) → Marks (now (marks .entry)) (nameable zone (w .rs)) → r ≡ orZero (firstNaming (named zone) (nameable zone (w .rs)) 16 (w .rs))) ⌝ }
+    ensures { λ r. ⌜ ((σ : Settings) (w : Walkable σ (now (t .entry))) → Marks (now (marks .entry)) (nameable zone (w .rs)) → r ≡ orZero (firstNaming (namesOf zone) (nameable zone (w .rs)) 16 (w .rs))) ⌝ }
 {
     let mut at: usize = 16;
     while at < t.len() {

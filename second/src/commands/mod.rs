@@ -15,6 +15,7 @@ use: second COMMAND [--chip 320|321] [--archive] ...
   list                                       list the table on standard input
   rewrite                                    write the table on standard input again
   fan ZONE                                   is there a fan in the zone, and the elements visited
+  remove K                                   the table on standard input without element K
   check FILE...                              number, place or count, and file, one line each
   rows --seed S --count N --max BYTES        tables in hex with their answers
   make KIND --seed S --count N DIR           tables as files; KIND is valid, mixed, controllers,
@@ -22,7 +23,7 @@ use: second COMMAND [--chip 320|321] [--archive] ...
   self --seed S --count N                    hold the program's own parts against each other
   bench                                      time the reader
 The chip is the 320 if none is named, and the rules are the ordinary ones without --archive. Tables are
-made, read and written for them; rewrite and fan have the ordinary rules alone.
+made, read and written for them; rewrite, fan and remove have the ordinary rules alone.
 ";
 
 /// A command's end: good, a failure already told, or a misuse to be told with the usage.
@@ -54,11 +55,12 @@ pub fn run(arguments: &[String]) -> ExitCode {
 fn dispatch(command: &str, settings: Settings, rest: &[String]) -> End {
     match command {
         "list" => stream::list(settings, rest),
-        "rewrite" | "fan" if settings.rules == Rules::Archive => {
+        "rewrite" | "fan" | "remove" if settings.rules == Rules::Archive => {
             End::Misused(format!("'{command}' has the ordinary rules alone"))
         }
         "rewrite" => stream::rewrite(settings.chip, rest),
         "fan" => stream::fan(settings.chip, rest),
+        "remove" => stream::remove(settings.chip, rest),
         "check" => files::check(settings, rest),
         "rows" => rows::rows(settings, rest),
         "make" => files::make(settings, rest),

@@ -40,8 +40,8 @@ fn read(arguments: &[String]) -> Result<(u64, u64), String> {
     Ok((options.number("seed")?, options.number("count")?))
 }
 
-/// Fast against plain, of readers, listings and fans; the two rules against each other; what is rewritten;
-/// the listing's shape.
+/// Fast against plain, of readers, listings and fans; the two rules against each other; what is rewritten
+/// and what is taken out; the listing's shape.
 fn compare(table: &[u8], settings: Settings, fast: Verdict) -> Result<(), &'static str> {
     if plain::check(table, settings) != fast {
         return Err("the fast and the plain reader differ");
@@ -53,6 +53,7 @@ fn compare(table: &[u8], settings: Settings, fast: Verdict) -> Result<(), &'stat
         return Err("the ordinary and the archive's reader differ");
     }
     rewritten(table, settings.chip, strict)?;
+    removed(table, settings.chip, strict)?;
     for zone in zones_in(table).take(4).chain([0, 255]) {
         if second::fan(table, zone, settings) != plain::fan(table, zone, settings) {
             return Err("the fast and the plain walk to a fan differ");
@@ -92,6 +93,23 @@ fn rewritten(table: &[u8], chip: Chip, strict: Verdict) -> Result<(), &'static s
     let mut again = vec![0x5A; out.len()];
     if second::rewrite(&out, chip, &mut again).is_err() || again != out {
         return Err("rewriting twice changes something");
+    }
+    Ok(())
+}
+
+/// Each element taken out by who names it, against put together without it; and one past the last.
+fn removed(table: &[u8], chip: Chip, strict: Verdict) -> Result<(), &'static str> {
+    let count = strict.into_result().unwrap_or(0);
+    for k in 0..=count {
+        let mut lent = table.to_vec();
+        let answer = second::remove(&mut lent, k, chip);
+        let plain = plain::remove(table, k, chip);
+        if plain != answer.map(|length| (length, lent.clone())) {
+            return Err("taken out and put together without it differ");
+        }
+        if answer.is_err() && lent != table {
+            return Err("a refusal to take out changes something");
+        }
     }
     Ok(())
 }

@@ -1,4 +1,4 @@
-//! `list`, `rewrite` and `fan`: a table from standard input.
+//! `list`, `rewrite`, `fan` and `remove`: a table from standard input.
 
 use super::End;
 use second::{Chip, Refusal, Settings};
@@ -61,6 +61,21 @@ pub fn fan(chip: Chip, arguments: &[String]) -> End {
                 let word = if walked.met { "yes" } else { "no" };
                 format!("{word}\t{}\n", walked.visited).into_bytes()
             }
+            Err(refusal) => refusal_line(refusal),
+        }
+    })
+}
+
+/// The table without element K, or the `R` line.
+pub fn remove(chip: Chip, arguments: &[String]) -> End {
+    let k = arguments.first().and_then(|word| word.parse().ok());
+    let Some(k) = k else {
+        return End::Misused("remove wants the number of an element, counted from 0".into());
+    };
+    transform(&arguments[1..], |table| {
+        let mut lent = table.to_vec();
+        match second::remove(&mut lent, k, chip) {
+            Ok(length) => lent[..length].to_vec(),
             Err(refusal) => refusal_line(refusal),
         }
     })

@@ -8,6 +8,7 @@ mod claims;
 mod fan;
 mod label;
 mod listing;
+mod remove;
 
 use crate::answer::{
     number, Refusal, Verdict, DESCRIPTION_LENGTH, LARGEST_TABLE, MOST_ELEMENTS, MOST_ZONES,
@@ -23,6 +24,7 @@ pub use claims::own_pins;
 pub use fan::fan;
 pub use label::label;
 pub use listing::listing;
+pub use remove::remove;
 
 /// One element as found: where it starts, its record and its variable part.
 #[derive(Clone, Debug)]

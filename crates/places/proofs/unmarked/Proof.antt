@@ -5,14 +5,14 @@ use native.Mathlib.Omega.{arith}
 use lib.ListN.{length}
 use Rattle.format.specs.declared.settings.Settings.{Settings}
 use Rattle.flags.specs.Marks.{Marks}
-use Rattle.places.specs.Walks.{Walkable, named, nameable}
+use Rattle.places.specs.Walks.{Walkable, namesOf, nameable}
 use Rattle.places.proofs.Search.{Search, begin, some-role, room, go-on, found, finish}
 use Rattle.places.proofs.unmarked.Statement.{statement}
 use Rattle.places.proofs.unmarked.Tie as tie
 
 abbrev Inv-loop : tie.InvT-loop
 Inv-loop t marks zone at₀ at =
-    (σ : Settings) (w : Walkable σ t) → Marks marks (nameable zone (w .rs)) → Search σ (named zone) (nameable zone) marks t at
+    (σ : Settings) (w : Walkable σ t) → Marks marks (nameable zone (w .rs)) → Search σ (namesOf zone) (nameable zone) marks t at
 
 abbrev μ-loop : tie.MeasureT-loop
 μ-loop t marks zone at₀ at = length t - at

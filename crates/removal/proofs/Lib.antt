@@ -1,0 +1,9 @@
+pub mod Parts
+pub mod Among
+pub mod Rising
+pub mod Passing
+pub mod Claims
+pub mod Naming
+pub mod Keeping
+pub mod Taking
+pub mod Closing

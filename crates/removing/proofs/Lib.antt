@@ -1,0 +1,7 @@
+pub mod Telling
+pub mod Seeking
+pub mod Judging
+pub mod Moving
+pub mod Accepted
+pub mod Only
+pub mod Rows
