@@ -12,7 +12,8 @@ void *memset(void *to, int value, number count);
 int memcmp(const void *one, const void *other, number count);
 void _exit(int status);
 
-/* Settings are one number: bit 0 set is the 321, bit 1 the archive's rules; start, append, rewrite and remove ignore bit 1. */
+/* Settings are one number: bit 0 set is the 321, bit 1 the archive's rules; start, append, rewrite, remove and the
+   calls on sheets ignore bit 1. */
 number esa_check(const byte *table, number length, number settings);
 /* Weak, so that an archive without them links too: their modes then answer NO_SUCH_CALL. */
 __attribute__((weak)) number esa_element(const byte *table, number length, number k, number settings);
@@ -36,12 +37,17 @@ __attribute__((weak)) number esa_label(const byte *table, number length, number 
                                        number name_length);
 __attribute__((weak)) number esa_fan(const byte *table, number length, byte zone, number settings);
 __attribute__((weak)) number esa_remove(byte *table, number length, number k, number settings);
+__attribute__((weak)) number esa_sheet(const byte *table, number length, number settings, unsigned short *sheet);
+__attribute__((weak)) number esa_sheet_forward(const byte *table, number length, number settings, unsigned short *sheet);
+__attribute__((weak)) number esa_sheet_text(const unsigned short *sheet, number settings, byte *out);
 
-enum { CHECK = 0, ELEMENT = 1, PART = 2, START = 3, APPEND = 4, REWRITE = 5, LIST = 6, READINGS = 7, FANS = 9, REMOVALS = 13 };
+enum { CHECK = 0, ELEMENT = 1, PART = 2, START = 3, APPEND = 4, REWRITE = 5, LIST = 6, READINGS = 7, FANS = 9 };
+enum { SHEETS = 12, REMOVALS = 13 };
 /* exit status; TOUCHED: bytes in front of the buffer, the numbers, the part or the table have changed */
 enum { BROKEN_REQUEST = 3, NO_INPUT_OR_OUTPUT = 4, NO_MEMORY = 5, TOUCHED = 6 };
 enum { HEADER = 21, NUMBERS = 32, LISTING = 4096, LONGEST = 70000, READING = 17, MOST_READINGS = 1 << 15, MOST_ZONES = 256 };
 enum { MOST_REMOVALS = 128 };
+enum { SHEET = 50, SHEET_TEXT = 275, SHEET_CALL = 1 + SHEET, MOST_SHEETS = 256 }; /* in bytes, but for the last */
 /* A lent name is no well-formed text: it comes back as it is. */
 enum { FRONT = 256, FRONT_BYTE = 0xC3, NAME_BYTE = 0xD8, ROOM = 1 << 17, GUARD = 1 << 16 };
 #define NO_SUCH_CALL (~0UL)
@@ -248,6 +254,42 @@ static void answer_removals(const byte *body, number length, number count, numbe
     if (memcmp(table - FRONT, front, FRONT)) _exit(TOUCHED);
 }
 
+/* One call on a sheet: 0 made afresh, 1 brought forward, 2 its text, which takes no table. */
+static number sheet_call(byte which, const byte *table, number length, number settings, byte *sheet, byte *text)
+{
+    unsigned short *numbers = (unsigned short *)sheet; /* at an even address */
+    switch (which) {
+    case 0: return esa_sheet ? esa_sheet(table, length, settings, numbers) : NO_SUCH_CALL;
+    case 1: return esa_sheet_forward ? esa_sheet_forward(table, length, settings, numbers) : NO_SUCH_CALL;
+    /* a length alone, packed as the number 0 and what stands beside it */
+    case 2: return esa_sheet_text ? 256 * esa_sheet_text(numbers, settings, text) : NO_SUCH_CALL;
+    default: return NO_SUCH_CALL;
+    }
+}
+
+/* Many calls on sheets beside one table: which, and the sheet as it is lent. The answer to each goes out, and then the sheet as it
+   is left; of a text the whole buffer, which held the pattern. */
+static void answer_sheets(const byte *body, number length, number count, number settings)
+{
+    byte *table = table_end - length;
+    byte *sheet = numbers_end - SHEET;
+    byte *text = part_end - SHEET_TEXT;
+    memcpy(table, body, length);
+    memcpy(sheet - FRONT, front, FRONT);
+    memcpy(text - FRONT, front, FRONT);
+    for (number at = 0; at < count; at++) {
+        const byte *asked = body + length + at * SHEET_CALL;
+        memcpy(sheet, asked + 1, SHEET);
+        if (asked[0] == 2) memcpy(text, pattern.bytes, SHEET_TEXT);
+        number value = sheet_call(asked[0], table, length, settings, sheet, text);
+        int of_text = asked[0] == 2;
+        if (of_text && memcmp(sheet, asked + 1, SHEET)) _exit(TOUCHED);
+        put(&value, 8);
+        put(of_text ? text : sheet, of_text ? SHEET_TEXT : SHEET);
+    }
+    if (memcmp(sheet - FRONT, front, FRONT) || memcmp(text - FRONT, front, FRONT) || memcmp(table, body, length)) _exit(TOUCHED);
+}
+
 /* Answers the whole requests among the bytes held, and gives the number of bytes that they took. */
 static number answer_all(number held)
 {
@@ -265,15 +307,18 @@ static number answer_all(number held)
         number readings = mode == READINGS ? k : 0;
         number zones = mode == FANS ? k : 0;
         number removals = mode == REMOVALS ? k : 0;
+        number sheets = mode == SHEETS ? k : 0;
         if (length > LONGEST || part_length > LONGEST || readings > MOST_READINGS || zones > MOST_ZONES) _exit(BROKEN_REQUEST);
-        if (removals > MOST_REMOVALS) _exit(BROKEN_REQUEST);
-        number size = HEADER + (number)length + (writes ? NUMBERS + part_length : readings * READING + zones + 8 * removals);
+        if (removals > MOST_REMOVALS || sheets > MOST_SHEETS) _exit(BROKEN_REQUEST);
+        number asked = readings * READING + zones + 8 * removals + sheets * SHEET_CALL;
+        number size = HEADER + (number)length + (writes ? NUMBERS + part_length : asked);
         if (held - used < size) break;
         if (writes) answer_writer(mode, (byte)k, settings, request + HEADER, length, part_length);
         else if (mode == LIST) answer_list(request + HEADER, length, settings);
         else if (mode == READINGS) answer_readings(request + HEADER, length, readings, settings);
         else if (mode == FANS) answer_fans(request + HEADER, length, zones, settings);
         else if (mode == REMOVALS) answer_removals(request + HEADER, length, removals, settings);
+        else if (mode == SHEETS) answer_sheets(request + HEADER, length, sheets, settings);
         else answer_reader(mode, request + HEADER, length, k, settings);
         used += size;
     }

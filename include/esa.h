@@ -3,9 +3,9 @@
    docs/CALLS.md has the theorem to each.
 
    WHAT A CALLER OWES. Nothing proves the C around the library, so these three are yours to keep:
-   - Each pointer and the length behind it are memory that may be read, and of 'buffer', 'out', 'numbers' and 'table' that is not
-     const also written, until the call returns; 'numbers' is 32 bytes, the 'out' of esa_list 4,096. With a length of 0 the
-     pointer is not followed: NULL will do.
+   - Each pointer and the length behind it are memory that may be read, and of 'buffer', 'out', 'numbers', 'table' and 'sheet' that is
+     not const also written, until the call returns; 'numbers' is 32 bytes, 'sheet' 25 numbers of two bytes, the 'out' of esa_list
+     4,096 bytes and that of esa_sheet_text 275. With a length of 0 the pointer is not followed: NULL will do.
    - The places lent to one call do not overlap.
    - Nobody else writes to them before the call returns.
    No other condition is asked: any bytes, any lengths and any numbers have an answer. As the code stands (this is no theorem)
@@ -241,6 +241,37 @@ static inline uint16_t esa_data(uint64_t answer)
    listing fits into 'out', and none is ended by a zero. */
 enum { ESA_LISTING = 4096 };
 size_t esa_list(const uint8_t *table, size_t length, uint64_t settings, uint8_t out[ESA_LISTING]);
+
+/* THE PIN SHEET. Which pin is free? A sheet is an array of 25 numbers that the caller lends, one for each pin in the order P0.0 to
+   P0.7, P1.0 to P1.7, P2.0 to P2.7, P3.0 (esa_sheet_at): the offset of the element that claims the pin first, in the order of the
+   claims, and 0 where it is the description (a hardware revision pin); ESA_SHEET_LED for the fault LED, always on P1.0; ESA_SHEET_FREE
+   where no claim names the pin. The pins that a bus, a reference voltage or a chip select shares have the earliest element that
+   claims them. Of the C8051F321 the four pins that it lacks, P2.4 to P2.7, are ESA_SHEET_FREE always. A sheet speaks only for the
+   table that it was made from. The tables are read by the ordinary rules: bit 1 of the settings is ignored. */
+enum { ESA_SHEET = 25, ESA_SHEET_LED = 0xFFFE, ESA_SHEET_FREE = 0xFFFF, ESA_SHEET_TEXT = 275 };
+
+/* Makes the sheet afresh. 0, and beside it the number of elements, with all 25 numbers in 'sheet'; or the table's own refusal as
+   esa_check gives it, and then no number of 'sheet' alters. */
+uint64_t esa_sheet(const uint8_t *table, size_t length, uint64_t settings, uint16_t sheet[ESA_SHEET]);
+
+/* Brings a sheet forward after an append: it is lent the new table, which is checked first, and the sheet of the table before. 0, and
+   beside it the number of elements: the place of the last element is then beside each pin that this element claims and that was
+   ESA_SHEET_FREE, and all other numbers are as they were, whatever they are; without elements all are. Or the new table's own
+   refusal, and then no number of 'sheet' alters. After an append to an accepted table that leaves it accepted this is the sheet that
+   esa_sheet makes of the new table. */
+uint64_t esa_sheet_forward(const uint8_t *table, size_t length, uint64_t settings, uint16_t sheet[ESA_SHEET]);
+
+/* The text of a sheet, of whatever numbers: a line for each pin of the chip from P0.0 up, 25 of them, or the 21 that the C8051F321
+   has: the pin, a tab, L for ESA_SHEET_LED, - for ESA_SHEET_FREE or else the number in decimals, and a line feed. It is put at the
+   front of 'out'; the answer is its length in bytes, and the bytes behind it are as they were. Every text fits into 'out', and none
+   is ended by a zero. */
+size_t esa_sheet_text(const uint16_t sheet[ESA_SHEET], uint64_t settings, uint8_t out[ESA_SHEET_TEXT]);
+
+/* Where P1.3 stands in a sheet: esa_sheet_at(1, 3). */
+static inline size_t esa_sheet_at(unsigned port, unsigned pin)
+{
+    return 8 * (size_t)port + pin;
+}
 
 /* WRITING. A table is started in a buffer and each element appended to it; bytes 1-2 of the buffer hold the length so far.
    With a refusal no byte of the buffer alters. A table that is still being written may break rules over the whole of it (11

@@ -11,6 +11,7 @@ use crate::outcome::Outcome;
 use crate::question::{Origin, Question};
 use crate::removals::Removals;
 use crate::settings;
+use crate::sheets::Sheets;
 use crate::tally::Tally;
 use second::generator::any;
 use second::random::Random;
@@ -29,10 +30,15 @@ pub struct Comparison {
     fans: Option<Fans>,
     /// Take every element out too.
     removals: Option<Removals>,
+    /// Ask for the pin sheet too, and while tables are built.
+    sheets: Option<Sheets>,
 }
 
 /// Numbers that no table has, and that are small ones in their low bits.
 pub const HUGE: [u64; 4] = [u64::MAX, 1 << 63, 1 << 32, (1 << 16) + 1];
+
+/// Where sheets are asked for, beside every so many seeded tables one is built.
+const BUILT: u64 = 40;
 
 /// First, middle, last, one too many and far too many; of a refused table the first and the last.
 fn places(check: Answer, length: usize) -> Vec<u64> {
@@ -63,6 +69,10 @@ impl Comparison {
                 true => Some(Removals::start(options)?),
                 false => None,
             },
+            sheets: match options.sheets {
+                true => Some(Sheets::start(options)?),
+                false => None,
+            },
             elements: options.elements,
             listing: options.listing,
         })
@@ -71,7 +81,13 @@ impl Comparison {
     /// Compares all calls on a table of any sort; the settings that they are made for take turns.
     pub fn seeded(&mut self, random: &mut Random, seed: u64, at: u64) -> Result<(), String> {
         let made_for = Settings::ALL[at as usize % 4];
-        self.table(Origin::Seeded { seed, at }, made_for, any(random, made_for))
+        self.table(Origin::Seeded { seed, at }, made_for, any(random, made_for))?;
+        match &mut self.sheets {
+            Some(sheets) if at.is_multiple_of(BUILT) => {
+                sheets.build(Origin::Built { seed, at }, at / BUILT)
+            }
+            _ => Ok(()),
+        }
     }
 
     /// Compares all calls on one table, with all settings that it is read with; its parts once.
@@ -89,6 +105,7 @@ impl Comparison {
             self.calls(origin, number, &table)?;
             self.fields(origin, number, &table, settings == made_for)?;
             self.fans(origin, number, &table)?;
+            self.sheets(origin, number, &table)?;
         }
         self.removals(origin, turn, &table)
     }
@@ -131,6 +148,7 @@ impl Comparison {
         self.listing(origin, settings, &table)?;
         self.fields(origin, settings, &table, true)?;
         self.fans(origin, settings, &table)?;
+        self.sheets(origin, settings, &table)?;
         self.removals(origin, turn, &table)
     }
 
@@ -142,6 +160,11 @@ impl Comparison {
     /// The same of what is taken out.
     pub fn known_removals(&mut self) -> Result<(), String> {
         self.removals.as_mut().map_or(Ok(()), Removals::known)
+    }
+
+    /// The same of sheets.
+    pub fn known_sheets(&mut self) -> Result<(), String> {
+        self.sheets.as_mut().map_or(Ok(()), Sheets::known)
     }
 
     /// Compares the calls on parts at their edges.
@@ -177,6 +200,13 @@ impl Comparison {
         removals.table(origin, turn, table)
     }
 
+    fn sheets(&mut self, origin: Origin, settings: u64, table: &Rc<[u8]>) -> Result<(), String> {
+        let Some(sheets) = &mut self.sheets else {
+            return Ok(());
+        };
+        sheets.table(origin, settings, table)
+    }
+
     fn listing(&mut self, origin: Origin, settings: u64, table: &Rc<[u8]>) -> Result<(), String> {
         if !self.listing {
             return Ok(());
@@ -208,7 +238,8 @@ impl Comparison {
         let fields = self.fields.as_ref().map_or(0, Fields::differences);
         let fans = self.fans.as_ref().map_or(0, Fans::differences);
         let removals = self.removals.as_ref().map_or(0, Removals::differences);
-        self.exchange.tally.all_differences() + fields + fans + removals
+        let sheets = self.sheets.as_ref().map_or(0, Sheets::differences);
+        self.exchange.tally.all_differences() + fields + fans + removals + sheets
     }
 
     pub fn finish(self) -> Result<Tally, String> {
@@ -216,6 +247,7 @@ impl Comparison {
         tally.fields = self.fields.map(Fields::finish).transpose()?;
         tally.fans = self.fans.map(Fans::finish).transpose()?;
         tally.removals = self.removals.map(Removals::finish).transpose()?;
+        tally.sheets = self.sheets.map(Sheets::finish).transpose()?;
         Ok(tally)
     }
 }

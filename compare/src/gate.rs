@@ -7,6 +7,7 @@ use crate::known;
 use crate::options::Options;
 use crate::question::Origin;
 use crate::removals;
+use crate::sheets;
 use crate::tally::Tally;
 use crate::texts;
 use second::generator::{self, raw};
@@ -23,6 +24,7 @@ pub fn gate(options: &Options) -> Result<bool, String> {
     }
     comparison.known_fans()?;
     comparison.known_removals()?;
+    comparison.known_sheets()?;
     // Two and two, as many cases come in pairs.
     for (at, (name, table)) in generator::targeted().iter().enumerate() {
         let made_for = Settings::ALL[at / 2 % 4];
@@ -71,6 +73,7 @@ fn judged(tally: &Tally, elements: bool) -> bool {
         .removals
         .as_ref()
         .is_none_or(removals::Tally::all_came);
+    good &= tally.sheets.as_ref().is_none_or(sheets::Tally::all_came);
     tally.print_sum();
     good && tally.all_differences() == 0
 }

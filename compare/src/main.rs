@@ -18,6 +18,7 @@ mod progress;
 mod question;
 mod removals;
 mod settings;
+mod sheets;
 mod stand_in;
 mod tally;
 mod texts;
@@ -27,8 +28,8 @@ use options::{Command, Options};
 use std::process::ExitCode;
 
 const USAGE: &str = "\
-use: compare gate [--elements] [--listing] [--fields] [--fans] [--removals] [--writer] [--first] --driver COMMAND...
-     compare long --seed S --count N [--elements] [--listing] [--fields] [--fans] [--removals] --driver COMMAND...
+use: compare gate [--elements] [--listing] [--fields] [--fans] [--removals] [--sheets] [--writer] [--first] --driver COMMAND...
+     compare long --seed S --count N [--elements] [--listing] [--fields] [--fans] [--removals] [--sheets] --driver COMMAND...
      compare writer --seed S --count N --driver COMMAND...
      compare stand-in
 ";

@@ -23,6 +23,7 @@ pub struct Options {
     pub fields: bool,
     pub fans: bool,
     pub removals: bool,
+    pub sheets: bool,
     /// The gate: the writer's calls too.
     pub writer: bool,
     /// The gate: it ends at the first difference.
@@ -41,6 +42,7 @@ struct Given {
     fields: bool,
     fans: bool,
     removals: bool,
+    sheets: bool,
     writer: bool,
     first: bool,
     driver: Vec<String>,
@@ -66,6 +68,7 @@ impl Given {
                 "--fields" => given.fields = true,
                 "--fans" => given.fans = true,
                 "--removals" => given.removals = true,
+                "--sheets" => given.sheets = true,
                 "--writer" => given.writer = true,
                 "--first" => given.first = true,
                 "--driver" => given.driver = words.by_ref().cloned().collect(),
@@ -93,7 +96,8 @@ impl Options {
             return Err("'--writer' and '--first' are for the gate alone".into());
         }
         let of_tables = given.elements || given.listing || given.fields || given.fans;
-        if (of_tables || given.removals) && matches!(command, Command::Writer { .. }) {
+        let of_tables = of_tables || given.removals || given.sheets;
+        if of_tables && matches!(command, Command::Writer { .. }) {
             return Err("the writer's calls take '--seed' and '--count' alone".into());
         }
         if given.driver.is_empty() && command != Command::StandIn {
@@ -106,6 +110,7 @@ impl Options {
             fields: given.fields,
             fans: given.fans,
             removals: given.removals,
+            sheets: given.sheets,
             writer: given.writer,
             first: given.first,
             driver: given.driver,

@@ -13,6 +13,7 @@ pub enum Origin {
     Known(&'static str),
     Case(&'static str),
     Seeded { seed: u64, at: u64 },
+    Built { seed: u64, at: u64 },
 }
 
 impl fmt::Display for Origin {
@@ -21,6 +22,7 @@ impl fmt::Display for Origin {
             Origin::Known(name) => write!(to, "known table '{name}'"),
             Origin::Case(name) => write!(to, "case '{name}'"),
             Origin::Seeded { seed, at } => write!(to, "seed {seed}, table {at}"),
+            Origin::Built { seed, at } => write!(to, "built beside seed {seed}, table {at}"),
         }
     }
 }

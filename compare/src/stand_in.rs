@@ -2,9 +2,11 @@
 //! altered second program it is what `careless` holds against the right one.
 
 use crate::call::Call;
+use crate::fans::{self, Zones};
 use crate::fields::Reading;
 use crate::outcome::Outcome;
 use crate::removals::{self, Removal};
+use crate::sheets::{Asking, SheetCall};
 use crate::writer::{Does, WriterCall};
 use std::io::{self, BufRead, BufReader, BufWriter, Read, Write};
 
@@ -41,7 +43,9 @@ fn answer(from: &mut impl Read) -> io::Result<Vec<u8>> {
     }
     match Does::of(mode, k as u8) {
         Some(does) => of_writer(does, k >> 8, settings, lent, from),
+        None if mode == Zones::MODE => of_fans(k, settings, &lent, from),
         None if mode == Removal::MODE => of_removals(k, settings, &lent, from),
+        None if mode == Asking::MODE => of_sheets(k, settings, &lent, from),
         None => of_readings(k, settings, &lent, from),
     }
 }
@@ -95,6 +99,13 @@ fn of_readings(
     Ok(replies)
 }
 
+/// So many zones follow the table, a byte each.
+fn of_fans(count: u64, settings: u64, table: &[u8], from: &mut impl Read) -> io::Result<Vec<u8>> {
+    let zones = bytes(from, count as usize)?;
+    let answers = fans::second(table, &zones, settings);
+    Ok(answers.iter().flat_map(|one| one.0.to_le_bytes()).collect())
+}
+
 /// So many elements' numbers follow the table.
 fn of_removals(
     count: u64,
@@ -108,6 +119,19 @@ fn of_removals(
         let Outcome { answer, buffer } = removals::second(table, k, settings);
         replies.extend(answer.0.to_le_bytes());
         replies.extend(buffer);
+    }
+    Ok(replies)
+}
+
+/// So many calls on sheets follow the table.
+fn of_sheets(count: u64, settings: u64, table: &[u8], from: &mut impl Read) -> io::Result<Vec<u8>> {
+    let mut replies = Vec::new();
+    for _ in 0..count {
+        let call = SheetCall::of(&bytes(from, SheetCall::LENGTH)?);
+        let Outcome { answer, buffer } = call
+            .ok_or(io::ErrorKind::InvalidData)?
+            .second(table, settings);
+        replies.extend([&answer.0.to_le_bytes(), &buffer[..]].concat());
     }
     Ok(replies)
 }
@@ -128,10 +152,12 @@ fn number(bytes: &[u8]) -> u64 {
 mod tests {
     use super::*;
     use crate::exchange::Asked;
+    use crate::question::Origin;
     use crate::writer::Stream;
     use second::generator::any;
     use second::random::Random;
     use second::Settings;
+    use std::rc::Rc;
 
     /// Two readings of a table in one request.
     fn readings(table: &[u8], requests: &mut Vec<u8>, wanted: &mut Vec<u8>) {
@@ -143,6 +169,46 @@ mod tests {
         for reading in asked {
             reading.request(requests);
             reading.second(table, 3, wanted);
+        }
+    }
+
+    /// Three zones of a table, and two elements to be taken out of it, in a request each.
+    fn zones_and_removals(table: &Rc<[u8]>, requests: &mut Vec<u8>, wanted: &mut Vec<u8>) {
+        let zones = Zones {
+            origin: Origin::Known("any"),
+            settings: 1,
+            table: table.clone(),
+            zones: vec![0, 1, 255],
+        };
+        zones.request(requests);
+        wanted.extend(zones.second().iter().flat_map(|one| one.0.to_le_bytes()));
+        let removal = Removal {
+            origin: Origin::Known("any"),
+            settings: 3,
+            table: table.clone(),
+            elements: vec![0, 200],
+        };
+        removal.request(requests);
+        for Outcome { answer, buffer } in removal.second() {
+            wanted.extend([&answer.0.to_le_bytes()[..], &buffer].concat());
+        }
+    }
+
+    /// A sheet made afresh, brought forward and as text, in one request.
+    fn sheets(table: &[u8], requests: &mut Vec<u8>, wanted: &mut Vec<u8>) {
+        let call = |which| {
+            let numbers = (0..50).map(|at| 7 * at);
+            SheetCall::of(&[which].into_iter().chain(numbers).collect::<Vec<u8>>())
+        };
+        let asking = Asking {
+            origin: Origin::Known("any"),
+            settings: 2,
+            table: table.into(),
+            calls: [0, 1, 2].into_iter().filter_map(call).collect(),
+        };
+        asking.request(requests);
+        for Outcome { answer, buffer } in asking.second() {
+            wanted.extend([&answer.0.to_le_bytes()[..], &buffer].concat());
         }
     }
 
@@ -158,6 +224,8 @@ mod tests {
                 wanted.extend(of_reader(call, &table, 1));
             }
             readings(&table, &mut requests, &mut wanted);
+            zones_and_removals(&table.clone().into(), &mut requests, &mut wanted);
+            sheets(&table, &mut requests, &mut wanted);
             write.request(&mut requests);
             let Outcome { answer, buffer } = write.second();
             wanted.extend([&answer.0.to_le_bytes()[..], &buffer].concat());

@@ -8,6 +8,7 @@ use crate::fields;
 use crate::outcome::{hex, text, Differences, Outcome};
 use crate::question::Question;
 use crate::removals;
+use crate::sheets;
 use second::Settings;
 
 /// By mode of the driver; a listing has no number and is only counted.
@@ -25,6 +26,8 @@ pub struct Tally {
     pub fans: Option<fans::Tally>,
     /// And of what was taken out.
     pub removals: Option<removals::Tally>,
+    /// The same of the sheets.
+    pub sheets: Option<sheets::Tally>,
     /// By mode: how often each number came, both sides agreeing.
     answers: [Answers; 3],
 }
@@ -64,6 +67,9 @@ impl Tally {
         if let Some(removals) = &self.removals {
             removals.print_answers();
         }
+        if let Some(sheets) = &self.sheets {
+            sheets.print_answers();
+        }
     }
 
     /// Prints the answers of this mode that should have come and did not, those to a whole table and these
@@ -84,10 +90,11 @@ impl Tally {
             .map_or(0, |fields| fields.differences.0);
         let fans = self.fans.as_ref().map_or(0, |fans| fans.differences.0);
         let removals = self.removals.as_ref().map_or(0, |them| them.differences.0);
-        self.differences.0 + self.listing_differences.0 + fields + fans + removals
+        let sheets = self.sheets.as_ref().map_or(0, |them| them.differences.0);
+        self.differences.0 + self.listing_differences.0 + fields + fans + removals + sheets
     }
 
-    /// The last line, or the last five.
+    /// The last line, or the last six.
     pub fn print_sum(&self) {
         println!("{} tables, {} differences", self.tables, self.differences.0);
         if self.listings > 0 {
@@ -102,6 +109,9 @@ impl Tally {
         }
         if let Some(removals) = &self.removals {
             removals.print_sum();
+        }
+        if let Some(sheets) = &self.sheets {
+            sheets.print_sum();
         }
     }
 }

@@ -1,6 +1,6 @@
-/* A tour of the library from C: is a file a table, what stands in it, is there a fan in a zone, how a new one is written, and
-   written again; a lamp that one of the two chips has no pin for; an old sensor that the archive's rules alone take; a lamp of
-   three colours on a chip of its own; what an element is called; and how a part is taken out.
+/* A tour of the library from C: is a file a table, what stands in it, is there a fan in a zone, how a new one is written,
+   and written again; which pins are taken; a lamp that one of the two chips has no pin for; an old sensor that the archive's
+   rules alone take; a lamp of three colours on a chip of its own; what an element is called; and how a part is taken out.
    tour [FILE]      without FILE it looks at a table of its own. On x86-64:
    rt staticlib esa && cc -std=c99 -I include examples/c/tour.c target/staticlib/libesa.a -o tour */
 #include <stdio.h>
@@ -70,6 +70,20 @@ static void fan_in(const uint8_t *table, size_t length, uint8_t zone)
         told("a fan", answer, "");
     else
         printf("a fan in zone %u: %s, visited: %zu\n", (unsigned)zone, esa_fan_found(answer) ? "yes" : "no", esa_fan_visited(answer));
+}
+
+/* Which pins are taken, and by whom? The lines of the sheet's text that do not say that a pin is free. */
+static void taken(const uint16_t sheet[ESA_SHEET])
+{
+    uint8_t text[ESA_SHEET_TEXT];
+    size_t length = esa_sheet_text(sheet, CHIP, text);
+    for (size_t start = 0, i = 0; i < length; i++) {
+        if (text[i] != '\n')
+            continue;
+        if (text[i - 1] != '-')
+            printf("  %.*s", (int)(i + 1 - start), (const char *)text + start);
+        start = i + 1;
+    }
 }
 
 /* A table with a fan and its zone; without the zone it is refused. Gives the length, or 0 if the writer refuses. */
@@ -248,12 +262,19 @@ int main(int count, char **arguments)
     size_t written = build(buffer, sizeof buffer);
     told("is it a table", esa_check(buffer, written, CHIP), "elements");
 
+    uint16_t sheet[ESA_SHEET];
+    told("its sheet of pins", esa_sheet(buffer, written, CHIP, sheet), "elements");
+    taken(sheet);
+
     printf("\nthe same with a reserved place in use\n");
     buffer[12] = 0xA5;
     again(buffer, written);
 
     printf("\nthe same with a lamp on P2.7\n");
     written = lamp(buffer, sizeof buffer);
+    told("the sheet brought forward for the 321", esa_sheet_forward(buffer, written, ESA_C8051F321, sheet), "elements");
+    told("the sheet brought forward for the 320", esa_sheet_forward(buffer, written, ESA_C8051F320, sheet), "elements");
+    taken(sheet);
 
     printf("\nthe same with an old sensor\n");
     sensor(buffer, sizeof buffer, written);

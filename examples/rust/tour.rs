@@ -1,6 +1,6 @@
 //! A tour of the library from Rust: is a file a table, what stands in it, is there a fan in a zone, how a new one is written,
-//! and written again; a lamp that one of the two chips has no pin for; an old sensor that the archive's rules alone take; a lamp of
-//! three colours on a chip of its own; what an element is called; and how a part is taken out.
+//! and written again; which pins are taken; a lamp that one of the two chips has no pin for; an old sensor that the archive's
+//! rules alone take; a lamp of three colours on a chip of its own; what an element is called; and how a part is taken out.
 //! tour [FILE]      without FILE it looks at a table of its own. On x86-64:
 //! rt staticlib esa && rustc --edition 2021 -L target/staticlib -l static=esa examples/rust/tour.rs
 
@@ -76,6 +76,19 @@ mod esa {
                 name_length: usize,
             ) -> u64;
             pub fn esa_fan(table: *const u8, length: usize, zone: u8, settings: u64) -> u64;
+            pub fn esa_sheet(
+                table: *const u8,
+                length: usize,
+                settings: u64,
+                sheet: &mut [u16; 25],
+            ) -> u64;
+            pub fn esa_sheet_forward(
+                table: *const u8,
+                length: usize,
+                settings: u64,
+                sheet: &mut [u16; 25],
+            ) -> u64;
+            pub fn esa_sheet_text(sheet: &[u16; 25], settings: u64, out: &mut [u8; 275]) -> usize;
             pub fn esa_colours(part: *const u8, length: usize, w: usize) -> u64;
             pub fn esa_colour(part: *const u8, length: usize, w: usize, i: usize) -> u64;
             pub fn esa_start(
@@ -185,6 +198,28 @@ mod esa {
         let (at, length) = (table.as_ptr(), table.len());
         let beside = unpacked(unsafe { c::esa_fan(at, length, zone, settings.number()) })?;
         Ok((beside & 1 == 1, beside >> 1))
+    }
+
+    /// A number for each pin: where the element stands that claims it first, 0 the description, or that it is free.
+    pub type Sheet = [u16; 25];
+
+    /// Makes the sheet of a table; gives the number of elements.
+    pub fn sheet(table: &[u8], chip: Chip, sheet: &mut Sheet) -> Answer {
+        let (at, length) = (table.as_ptr(), table.len());
+        unpacked(unsafe { c::esa_sheet(at, length, chip as u64, sheet) })
+    }
+
+    /// Brings the sheet of the table before an append forward to the new table.
+    pub fn forward(table: &[u8], chip: Chip, sheet: &mut Sheet) -> Answer {
+        let (at, length) = (table.as_ptr(), table.len());
+        unpacked(unsafe { c::esa_sheet_forward(at, length, chip as u64, sheet) })
+    }
+
+    /// The text of a sheet: a line for each pin of the chip.
+    pub fn sheet_text(sheet: &Sheet, chip: Chip) -> String {
+        let mut text = [0; 275];
+        let length = unsafe { c::esa_sheet_text(sheet, chip as u64, &mut text) };
+        text[..length].iter().map(|&byte| char::from(byte)).collect()
     }
 
     /// Of the part of an external RGB LED: how many register pairs there are for colour w (0 red, 1 green, 2 blue).
@@ -335,6 +370,15 @@ fn fan_in(table: &[u8], zone: u8) {
         Ok((true, visited)) => println!("a fan in zone {zone}: yes, visited: {visited}"),
         Ok((false, visited)) => println!("a fan in zone {zone}: no, visited: {visited}"),
         Err(refusal) => println!("a fan: {refusal}"),
+    }
+}
+
+/// Which pins are taken, and by whom? The lines of the sheet's text that do not say that a pin is free.
+fn taken(sheet: &esa::Sheet) {
+    for line in esa::sheet_text(sheet, CHIP).lines() {
+        if !line.ends_with('-') {
+            println!("  {line}");
+        }
     }
 }
 
@@ -518,12 +562,22 @@ fn tour(table: &[u8]) -> Result<bool, esa::Refusal> {
     let length = build(&mut buffer)?;
     told("is it a table", esa::check(&buffer[..length], READ), "elements")?;
 
+    let mut sheet: esa::Sheet = [0; 25];
+    told("its sheet of pins", esa::sheet(&buffer[..length], CHIP, &mut sheet), "elements")?;
+    taken(&sheet);
+
     println!("\nthe same with a reserved place in use");
     buffer[12] = 0xA5;
     again(&buffer[..length])?;
 
     println!("\nthe same with a lamp on P2.7");
     let length = lamp(&mut buffer)?;
+    let table = &buffer[..length];
+    let small = esa::forward(table, esa::Chip::C8051F321, &mut sheet);
+    let _ = told("the sheet brought forward for the 321", small, "elements");
+    let large = esa::forward(table, esa::Chip::C8051F320, &mut sheet);
+    told("the sheet brought forward for the 320", large, "elements")?;
+    taken(&sheet);
 
     println!("\nthe same with an old sensor");
     sensor(&mut buffer, length)?;

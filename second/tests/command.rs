@@ -62,6 +62,25 @@ fn takes_an_element_out() {
 }
 
 #[test]
+fn prints_the_pin_sheet() {
+    let table = raw::table(&[raw::zone(1, 0), raw::current(1, 0x24)]);
+    let text = String::from_utf8(run(&["pins"], &table).stdout).unwrap();
+    assert_eq!(text.lines().count(), 25);
+    for line in ["P0.7\t46", "P1.0\tL", "P2.4\t46", "P3.0\t-"] {
+        assert!(text.contains(&format!("{line}\n")), "{text}");
+    }
+    assert_eq!(
+        run(&["pins", "--chip", "320"], &table).stdout,
+        text.as_bytes()
+    );
+    let refused = run(&["pins", "--chip", "321"], &table);
+    assert!(refused.status.success());
+    assert_eq!(refused.stdout, b"R\t10\t46\n");
+    let bare = run(&["pins", "--chip", "321"], &TABLE_A).stdout;
+    assert_eq!(bare.iter().filter(|&&byte| byte == b'\n').count(), 21);
+}
+
+#[test]
 fn long_input_is_not_cut_to_a_table() {
     let mut table = raw::table(&[raw::text(1, &vec![0; 4096 - 22])]);
     assert_eq!(run(&["list"], &table).stdout.first(), Some(&b'T'));
@@ -127,7 +146,7 @@ fn holds_itself_against_itself() {
 
 #[test]
 fn misuse_is_told_and_gives_status_2() {
-    let misuses: [&[&str]; 39] = [
+    let misuses: [&[&str]; 41] = [
         &[],
         &["dance"],
         &["list", "extra"],
@@ -166,6 +185,8 @@ fn misuse_is_told_and_gives_status_2() {
         &["remove", "one"],
         &["remove", "1", "2"],
         &["remove", "--archive", "1"],
+        &["pins", "extra"],
+        &["pins", "--archive"],
         &[
             "rows", "--seed", "1", "--count", "1", "--max", "1", "--chip", "321",
         ],

@@ -9,14 +9,16 @@ ready() {
     timeout 900 "$root/esa" rewrite "$root/tables/quiet-box.esa" "$work/first" || die "the program rewrite does not run"
     timeout 900 "$root/esa" fan "$root/tables/quiet-box.esa" 1 >/dev/null || die "the program fan does not run"
     timeout 900 "$root/esa" remove "$root/tables/quiet-box.esa" 0 "$work/first" || die "the program remove does not run"
+    timeout 900 "$root/esa" pins "$root/tables/quiet-box.esa" >/dev/null || die "the program pins does not run"
     list=$("$root/tools/as-rt" "$root/target/bin/list") || exit 2
     rewrite=$("$root/tools/as-rt" "$root/target/bin/rewrite") || exit 2
     seek=$("$root/tools/as-rt" "$root/target/bin/fan") || exit 2
     take=$("$root/tools/as-rt" "$root/target/bin/remove") || exit 2
+    sheet=$("$root/tools/as-rt" "$root/target/bin/pins") || exit 2
 }
 
-# The words of every program that is run: its options, or none; of fan the zone, and of remove the element.
-options='' zone=1 element=0
+# The words of every program that is run: its options, or none; of fan the zone, and of remove the element. Whether pins is run, too.
+options='' zone=1 element=0 sheets=yes
 
 # Byte 23 of a file, or 1 where it has none: the zone of its first element, or what stands there of a string or a zone descriptor.
 zone_of() { # FILE
@@ -65,6 +67,7 @@ judge() { # NAME PROGRAM...
 }
 
 # A file, to the programs at once, on one chip; to remove every fifth time, and the elements that are to go take turns.
+# shellcheck disable=SC2086
 hold_on() { # CHIP NAME FILE
     options="--chip $1"
     zone_of "$3"
@@ -76,16 +79,18 @@ hold_on() { # CHIP NAME FILE
         element=$((files / 10 % 7))
         runs remove "$take" "$element" <"$3" &
     fi
+    if [ $sheets = yes ]; then
+        programs="$programs pins"
+        runs pins "$sheet" <"$3" &
+    fi
     runs rewrite "$rewrite" <"$3"
-    # shellcheck disable=SC2086
     wanted "$3" $programs
     wait
-    # shellcheck disable=SC2086
     judge "$2" $programs
     options=''
 }
 
-# By the archive's rules; there is no such rewriting, and fan and remove have the ordinary ones.
+# By the archive's rules; there is no such rewriting, and fan, remove and pins have the ordinary ones.
 hold_archived() { # CHIP NAME FILE
     options="--chip $1 --archive"
     runs list "$list" <"$3"
@@ -111,6 +116,7 @@ hold_piped() { # NAME FILE COMMAND...
     "$@" 2>/dev/null | runs fan "$seek" "$zone"
     element=0
     "$@" 2>/dev/null | runs remove "$take" "$element"
-    wanted "$file" list rewrite fan remove
-    judge "$name" list rewrite fan remove
+    "$@" 2>/dev/null | runs pins "$sheet"
+    wanted "$file" list rewrite fan remove pins
+    judge "$name" list rewrite fan remove pins
 }

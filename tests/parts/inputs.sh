@@ -58,6 +58,7 @@ no_input() {
     runs rewrite "$rewrite" <&-
     runs fan "$seek" "$zone" <&-
     runs remove "$take" "$element" <&-
-    wanted "$work/input" list rewrite fan remove
-    judge 'a closed standard input' list rewrite fan remove
+    runs pins "$sheet" <&-
+    wanted "$work/input" list rewrite fan remove pins
+    judge 'a closed standard input' list rewrite fan remove pins
 }

@@ -1,5 +1,5 @@
 # Part of tests/files: sample tables, the rows of 'Known tables' with the lines that document 01 gives, and generated tables.
-# shellcheck shell=sh disable=SC2154
+# shellcheck shell=sh disable=SC2034,SC2154
 
 samples() {
     for file in "$root"/tables/*.esa; do
@@ -77,15 +77,17 @@ make() { # OPTIONS KIND COUNT
     "$second" make $1 "$2" --seed "$seed" --count "$3" "$work/tables $1" || die "no tables were made"
 }
 
-# Half of any sort, a quarter of good ones with every kind, a quarter of damaged ones.
+# Half of any sort, a quarter of good ones with every kind, a quarter of damaged ones. The program pins is run on the good ones.
 generated_for() { # OPTIONS COUNT
     quarter=$(($2 / 4))
     make "$1" any $(($2 - 2 * quarter))
     make "$1" mixed $quarter
     make "$1" damaged $quarter
     for made in "$work/tables $1"/*.bin; do
+        case ${made##*/} in mixed*) sheets=yes ;; *) sheets=no ;; esac
         [ ! -f "$made" ] || hold "seed $seed for $1, ${made##*/}" "$made"
     done
+    sheets=yes
 }
 
 generated() {

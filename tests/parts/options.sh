@@ -1,4 +1,4 @@
-# Part of tests/esa: the options of check, list and rewrite, and the words that are none; and those of the programs themselves.
+# Part of tests/esa: the options of check, list, rewrite and others, and the words that are none; and those of the programs themselves.
 # shellcheck shell=sh disable=SC2015,SC2154
 
 lamp_lacks="10 at 88: the pin of the first lamp of the status LED at byte 88 is P2.7, which is not on this chip, the C8051F321; move it to a pin from P0.0 to P0.4 or P1.4 to P2.3, or P3.0, or name the C8051F320 (--chip 320) if the board carries that"
@@ -91,6 +91,7 @@ no_options() {
     no_option_of rewrite never
     no_option_of fan 1
     no_option_of remove 0 never
+    no_option_of pins
     for command in check list; do
         try "$command --archive twice" complains 2 "esa: the option --archive is given twice" $command --archive --chip 321 --archive good
     done
@@ -132,7 +133,7 @@ programs_words() {
     twice="The option --chip stands more than once."
     archive_twice="The option --archive stands more than once."
     extra="A word stands behind the options, and none is taken: the table comes on standard input."
-    for program in list rewrite verdicts; do
+    for program in list rewrite verdicts pins; do
         for word in --all --chip=321 --chi --chipp -x - --archiv --archives; do
             try "the program $program $word" program_says "$unknown" "$program" "$word"
         done
@@ -144,7 +145,7 @@ programs_words() {
         try "the program $program --chip 321 --all" program_says "$unknown" "$program" --chip 321 --all
         try "the program $program --archive twice" program_says "$archive_twice" "$program" --archive --chip 320 --archive
     done
-    for program in list rewrite; do
+    for program in list rewrite pins; do
         try "the program $program with a file" program_says "$extra" "$program" good
         try "the program $program with a file behind its options" program_says "$extra" "$program" --chip 321 -- good
         try "the program $program with an empty word" program_says "$extra" "$program" ''
@@ -152,6 +153,7 @@ programs_words() {
     no_archive="The option --archive is not taken here: this program has the ordinary rules alone."
     try "the program rewrite --archive" program_says "$no_archive" rewrite --archive
     try "the program rewrite --archive --chip 321" program_says "$no_archive" rewrite --archive --chip 321
+    try "the program pins --archive" program_says "$no_archive" pins --archive
     try "the program verdicts without a file" program_says '' verdicts
     try "the program verdicts with options alone" program_says '' verdicts --chip 321 --archive --
 }

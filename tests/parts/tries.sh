@@ -65,4 +65,5 @@ first_use() {
     "$esa" label "$tables/quiet-box.esa" 0 >/dev/null
     "$esa" fan "$tables/quiet-box.esa" 1 >/dev/null
     "$esa" remove "$tables/quiet-box.esa" 0 "$work/first" && rm -f "$work/first"
+    "$esa" pins "$tables/quiet-box.esa" >/dev/null
 }

@@ -22,14 +22,18 @@ fn packed(walked: Walked) -> usize {
     2 * walked.visited + usize::from(walked.met)
 }
 
-impl Asking {
-    const MODE: u8 = 9;
+/// What the second program answers. The table is checked once, and every zone asked of it as accepted.
+pub fn second(table: &[u8], zones: &[u8], settings: u64) -> Vec<Answer> {
+    let accepted = Accepted::checked(table, Settings::of_number(settings));
+    let answer = |&zone| Answer::from(accepted.map(|table| packed(table.fan(zone))));
+    zones.iter().map(answer).collect()
+}
 
-    /// The table is checked once, and every zone asked of it as accepted.
+impl Asking {
+    pub const MODE: u8 = 9;
+
     pub fn second(&self) -> Vec<Answer> {
-        let accepted = Accepted::checked(&self.table, Settings::of_number(self.settings));
-        let answer = |&zone| Answer::from(accepted.map(|table| packed(table.fan(zone))));
-        self.zones.iter().map(answer).collect()
+        second(&self.table, &self.zones, self.settings)
     }
 }
 

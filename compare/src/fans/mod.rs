@@ -13,6 +13,7 @@ use asking::Asking;
 use second::{Settings, Verdict};
 use std::rc::Rc;
 
+pub use asking::{second, Asking as Zones};
 pub use tally::Tally;
 
 pub struct Fans(Exchange<Asking, Tally>);

@@ -9,3 +9,4 @@ pub mod BadWriters
 pub mod OtherChip
 pub mod Malformed
 pub mod Back
+pub mod Appending

@@ -95,6 +95,9 @@ plain-roomy (halves t v ∷ ss) h f = absurd (false≢true h)
 plain-roomy (flag t v ∷ ss) h f = absurd (false≢true h)
 plain-roomy (reserved ∷ ss) h f = absurd (false≢true h)
 
+pub part-roomy : (r : Record) → Bytes (written (part r)) → allRoomy (part r) ≡ true
+part-roomy r f = plain-roomy (part r) (part-plain r) f
+
 never : {A : Type 0} {r : Record} → _≡_ {A = Option Record} none (some r) → A
 never h = let z : _≡_ {A = ℕ} 0 1 = cc in absurd (omega arith)
 
@@ -158,7 +161,7 @@ module _ (r : Record) where
   made e p f m =
       sym (ap (λ (x : Element). assemble x p) (m .element))
       ∙ sym (ap (assemble (elementOf r)) (m .as-written))
-      ∙ assembles r (plain-roomy (part r) (part-plain r) (subst Bytes (sym (m .as-written)) f))
+      ∙ assembles r (part-roomy r (subst Bytes (sym (m .as-written)) f))
 
 -- none exactly where there is no such record
 pub makes-none : (e : Element) (p : List ℕ) → Bytes p → assemble e p ≡ none → (r : Record) → MadeOf e p r → ⊥

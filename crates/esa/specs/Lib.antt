@@ -6,3 +6,4 @@ pub mod Labels
 pub mod Fans
 pub mod Blocks
 pub mod Writing
+pub mod Sheets

@@ -1,9 +1,14 @@
 // The C face: numbers and byte slices. An answer leaves as one number: the number of 'What comes back' and 256 times what
 // stands beside it. Settings come as one number: bit 0 set is the 321, bit 1 the archive's rules, other bits are ignored; the writer
-// ignores bit 1 too.
+// and the pin sheet ignore bit 1 too.
 ghost use mathlib.Core.Path.{_≡_};
 ghost use Rattle.parts.specs.Inside.{blockIn, pairIn, listIn, listPairIn, colourIn, colourPairIn};
 ghost use Rattle.listing.specs.Lines.{Listed};
+ghost use Rattle.format.specs.Writing.{writing};
+ghost use Rattle.spelling.specs.Spelling.{Put};
+ghost use Rattle.pinsheet.specs.Sheet.{sheet as sheetOf, forward as forwardOf};
+ghost use Rattle.sheets.specs.Lines.{read};
+ghost use Rattle.pinlines.specs.Text.{text as textOf};
 ghost use Rattle.esa.specs.Settled.{chipOf, rulesOf, settingsOf};
 ghost use Rattle.esa.specs.Face.{Checked, AskedFor, PartFor};
 ghost use Rattle.esa.specs.Fields.{DescribedFor, FieldsFor};
@@ -12,6 +17,7 @@ ghost use Rattle.esa.specs.Labels.{LabelFor};
 ghost use Rattle.esa.specs.Fans.{FanFor};
 ghost use Rattle.esa.specs.Blocks.{packedBlock, packedPair, packedEntries};
 ghost use Rattle.esa.specs.Writing.{StartedFor, AppendedFor, RewrittenFor, RemovedFor};
+ghost use Rattle.esa.specs.Sheets.{SheetFor};
 use format::answers::Asked;
 use format::answers::Described;
 use format::pins::Chip;
@@ -226,6 +232,31 @@ pub extern "C" fn esa_list(table: &[u8], settings: u64, out: &mut [u8; 4096]) ->
     listing::list(table, out, settings_of(settings))
 }
 
+// The pin sheet of a table, made afresh, by the ordinary rules. Beside 0 stands the number of elements, beside a refusal its place; then the
+// old sheet is kept.
+#[no_mangle]
+pub extern "C" fn esa_sheet(table: &[u8], settings: u64, sheet: &mut [u16; 25]) -> u64
+    ensures { λ r. ⌜ SheetFor (chipOf settings) (now (table .entry)) sheetOf (now (sheet .entry)) r (now (sheet .exit)) ⌝ }
+{
+    packing::answer(sheets::make(table, sheet, ordinary(settings)))
+}
+
+// The same of the sheet of the table before its last element was appended, brought forward.
+#[no_mangle]
+pub extern "C" fn esa_sheet_forward(table: &[u8], settings: u64, sheet: &mut [u16; 25]) -> u64
+    ensures { λ r. ⌜ SheetFor (chipOf settings) (now (table .entry)) (λ d rs. forwardOf rs (read (now (sheet .entry)))) (now (sheet .entry)) r (now (sheet .exit)) ⌝ }
+{
+    packing::answer(sheets::forward(table, sheet, ordinary(settings)))
+}
+
+// The lines of a pin sheet at the front of the buffer. The answer is their length in bytes.
+#[no_mangle]
+pub extern "C" fn esa_sheet_text(sheet: &[u16; 25], settings: u64, out: &mut [u8; 275]) -> usize
+    ensures { λ r. ⌜ Put (now (out .entry)) 0 (textOf (chipOf settings) (now (sheet .entry))) r (now (out .exit)) ⌝ }
+{
+    pinlines::text(sheet, out, chip_of(settings))
+}
+
 // Where the text of element k stands if it is a string: at byte 3 of its part.
 fn text(table: &[u8], k: usize, s: Settings) -> u64
     ensures { λ r. ⌜ TextPlaced s (now (table .entry)) k r ⌝ }
@@ -265,5 +296,15 @@ fn settings_of(settings: u64) -> Settings
     Settings {
         chip: chip_of(settings),
         rules: rules_of(settings),
+    }
+}
+
+// The ordinary rules, whatever bit 1 says.
+fn ordinary(settings: u64) -> Settings
+    ensures { λ r. ⌜ r ≡ writing (chipOf settings) ⌝ }
+{
+    Settings {
+        chip: chip_of(settings),
+        rules: Rules::Ordinary,
     }
 }

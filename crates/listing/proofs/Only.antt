@@ -1,14 +1,14 @@
 -- No second outcome keeps the words of `list`: there is only one list of records and only one verdict, so only one text.
 -- Assumes nothing.
 use Prim.Native.Nat.{ℕ}
-use mathlib.Core.Path.{_≡_, sym, _∙_, ap, subst}
-use mathlib.Core.List.{List, _++_}
-use lib.ListN.{take, drop, take-append-drop}
+use mathlib.Core.Path.{_≡_, subst}
+use mathlib.Core.List.{List}
 use Rattle.format.specs.Slots.{Bytes}
 use Rattle.format.specs.declared.answers.Answer.the-variants.{Refused}
 use Rattle.format.proofs.Asking.{never-both}
 use Rattle.format.proofs.Demand3.{unique, only-one-list}
 use Rattle.spelling.specs.Spelling.{Put}
+use Rattle.spelling.proofs.Putting.{put-one-way}
 use Rattle.listing.specs.Lines.{Listing, listed, refused, Listed}
 use Rattle.format.specs.declared.settings.Settings.{Settings}
 
@@ -21,16 +21,6 @@ only-text σ b s t small (refused v) (listed d rs a) = absurd (never-both σ b d
 only-text σ b s t small (refused {k = k} {p = p} v) (refused {k = k′} {p = p′} v′) =
     let q = unique σ b (Refused k p) (Refused k′ p′) small v v′ in
     cc
-
-put-one-way : (c s : List ℕ) (n n′ : ℕ) (after after′ : List ℕ) → Put c 0 s n after → Put c 0 s n′ after′ → (n ≡ n′) × (after ≡ after′)
-put-one-way c s n n′ after after′ p q =
-    let same : n ≡ n′ = p .ends ∙ sym (q .ends) in
-    let front : take n after ≡ take n after′ = p .front ∙ sym (q .front) ∙ ap (λ (m : ℕ). take m after′) (sym same) in
-    let rest : drop n after ≡ drop n after′ =
-    p .rest ∙ ap (λ (m : ℕ). drop m c) same ∙ sym (q .rest) ∙ ap (λ (m : ℕ). drop m after′) (sym same) in (
-      same,
-      sym (take-append-drop n after) ∙ ap (λ (l : List ℕ). l ++ drop n after) front ∙ ap (λ (l : List ℕ). take n after′ ++ l) rest ∙ take-append-drop n after′,
-    )
 
 pub only-list :
     (σ : Settings) (b c : List ℕ) (n n′ : ℕ) (after after′ : List ℕ)

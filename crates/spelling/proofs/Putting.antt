@@ -5,7 +5,7 @@ use native.Mathlib.Omega.{arith}
 use mathlib.Core.Path.{_≡_, refl, sym, _∙_, ap}
 use mathlib.Core.Bool.{Bool, true, false, cond}
 use mathlib.Core.List.{List, [], _∷_, _++_, append-assoc, append-nil}
-use lib.ListN.{length, take, drop, length-append, length-drop}
+use lib.ListN.{length, take, drop, take-append-drop, length-append, length-drop}
 use lib.Seq.{length-take-le, take-at, drop-at, drop-drop}
 use Rattle.format.specs.Writing.{overwritten}
 use lib.Dec.{eqb}
@@ -59,6 +59,17 @@ no-upper n under =
       unreached 100000 n (omega (arith, under)),
       unreached 10000 n under,
     ) refl
+
+-- there is one way to put a text
+pub put-one-way : (c s : List ℕ) (n n′ : ℕ) (after after′ : List ℕ) → Put c 0 s n after → Put c 0 s n′ after′ → (n ≡ n′) × (after ≡ after′)
+put-one-way c s n n′ after after′ p q =
+    let same : n ≡ n′ = p .ends ∙ sym (q .ends) in
+    let front : take n after ≡ take n after′ = p .front ∙ sym (q .front) ∙ ap (λ (m : ℕ). take m after′) (sym same) in
+    let rest : drop n after ≡ drop n after′ =
+    p .rest ∙ ap (λ (m : ℕ). drop m c) same ∙ sym (q .rest) ∙ ap (λ (m : ℕ). drop m after′) (sym same) in (
+      same,
+      sym (take-append-drop n after) ∙ ap (λ (l : List ℕ). l ++ drop n after) front ∙ ap (λ (l : List ℕ). take n after′ ++ l) rest ∙ take-append-drop n after′,
+    )
 
 -- a used pin, and two more that may be unused
 first-used :

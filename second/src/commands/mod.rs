@@ -16,6 +16,7 @@ use: second COMMAND [--chip 320|321] [--archive] ...
   rewrite                                    write the table on standard input again
   fan ZONE                                   is there a fan in the zone, and the elements visited
   remove K                                   the table on standard input without element K
+  pins                                       the pin sheet of the table on standard input
   check FILE...                              number, place or count, and file, one line each
   rows --seed S --count N --max BYTES        tables in hex with their answers
   make KIND --seed S --count N DIR           tables as files; KIND is valid, mixed, controllers,
@@ -23,7 +24,7 @@ use: second COMMAND [--chip 320|321] [--archive] ...
   self --seed S --count N                    hold the program's own parts against each other
   bench                                      time the reader
 The chip is the 320 if none is named, and the rules are the ordinary ones without --archive. Tables are
-made, read and written for them; rewrite, fan and remove have the ordinary rules alone.
+made, read and written for them; rewrite, fan, remove and pins have the ordinary rules alone.
 ";
 
 /// A command's end: good, a failure already told, or a misuse to be told with the usage.
@@ -55,12 +56,13 @@ pub fn run(arguments: &[String]) -> ExitCode {
 fn dispatch(command: &str, settings: Settings, rest: &[String]) -> End {
     match command {
         "list" => stream::list(settings, rest),
-        "rewrite" | "fan" | "remove" if settings.rules == Rules::Archive => {
+        "rewrite" | "fan" | "remove" | "pins" if settings.rules == Rules::Archive => {
             End::Misused(format!("'{command}' has the ordinary rules alone"))
         }
         "rewrite" => stream::rewrite(settings.chip, rest),
         "fan" => stream::fan(settings.chip, rest),
         "remove" => stream::remove(settings.chip, rest),
+        "pins" => stream::pins(settings.chip, rest),
         "check" => files::check(settings, rest),
         "rows" => rows::rows(settings, rest),
         "make" => files::make(settings, rest),

@@ -1,6 +1,7 @@
-//! `list`, `rewrite`, `fan` and `remove`: a table from standard input.
+//! `list`, `rewrite`, `fan`, `remove` and `pins`: a table from standard input.
 
 use super::End;
+use second::sheet::FREE;
 use second::{Chip, Refusal, Settings};
 use std::io::{Read, Write};
 
@@ -76,6 +77,17 @@ pub fn remove(chip: Chip, arguments: &[String]) -> End {
         let mut lent = table.to_vec();
         match second::remove(&mut lent, k, chip) {
             Ok(length) => lent[..length].to_vec(),
+            Err(refusal) => refusal_line(refusal),
+        }
+    })
+}
+
+/// The text of the pin sheet, or the `R` line.
+pub fn pins(chip: Chip, arguments: &[String]) -> End {
+    transform(arguments, |table| {
+        let mut sheet = [FREE; 25];
+        match second::sheet(table, chip, &mut sheet) {
+            Ok(_) => second::sheet_text(&sheet, chip).into_bytes(),
             Err(refusal) => refusal_line(refusal),
         }
     })

@@ -23,37 +23,38 @@ pub struct Claim {
 
 /// All claims in order: the fault LED, hardware revision 0 to 2, then each element in turn.
 pub fn claims(description: &Description, found: &[Found]) -> Vec<Claim> {
-    let mut claims = vec![Claim {
-        pin: FAULT_LED,
-        usage: Use::Alone,
-        place: 0,
-    }];
-    for &pin in &description.hardware {
-        if pin.is_used() {
-            claims.push(Claim {
-                pin: pin.byte(),
-                usage: Use::Alone,
-                place: 0,
-            });
-        }
-    }
+    let mut claims = of_description(description);
     for one in found {
-        for pin in shared_pins(&one.element) {
-            claims.push(Claim {
-                pin,
-                usage: Use::Shared,
-                place: one.place,
-            });
-        }
-        for pin in own_pins(&one.element) {
-            claims.push(Claim {
-                pin: pin.byte(),
-                usage: own_use(&one.element),
-                place: one.place,
-            });
-        }
+        claims.extend(of_element(one.place, &one.element));
     }
     claims
+}
+
+/// The fault LED's claim, and those of the hardware revision pins that are used.
+pub fn of_description(description: &Description) -> Vec<Claim> {
+    let hardware = description.hardware.iter().filter(|pin| pin.is_used());
+    let hardware = hardware.map(|pin| pin.byte());
+    let alone = |pin: u8| Claim {
+        pin,
+        usage: Use::Alone,
+        place: 0,
+    };
+    [FAULT_LED].into_iter().chain(hardware).map(alone).collect()
+}
+
+/// What the element at this place claims: its shared pins, then its own.
+pub fn of_element(place: usize, element: &Element) -> Vec<Claim> {
+    let shared = shared_pins(element).into_iter().map(|pin| Claim {
+        pin,
+        usage: Use::Shared,
+        place,
+    });
+    let own = own_pins(element).into_iter().map(|pin| Claim {
+        pin: pin.byte(),
+        usage: own_use(element),
+        place,
+    });
+    shared.chain(own).collect()
 }
 
 /// P0.3 and P0.4 for bus types 0 to 2, P0.0 to P0.2 for SPI, P0.7 for 02h, 05h, 07h and 08h.

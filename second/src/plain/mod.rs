@@ -4,7 +4,7 @@
 //! pairwise. Its listing is put together of pieces of text. It exists to be held against the fast reader
 //! and the fast listing.
 
-mod claims;
+pub mod claims;
 mod fan;
 mod label;
 mod listing;
