@@ -40,19 +40,22 @@ __attribute__((weak)) number esa_remove(byte *table, number length, number k, nu
 __attribute__((weak)) number esa_sheet(const byte *table, number length, number settings, unsigned short *sheet);
 __attribute__((weak)) number esa_sheet_forward(const byte *table, number length, number settings, unsigned short *sheet);
 __attribute__((weak)) number esa_sheet_text(const unsigned short *sheet, number settings, byte *out);
+__attribute__((weak)) number esa_hex(const byte *table, number length, number settings, byte *out, number room);
+__attribute__((weak)) number esa_unhex(const byte *text, number length, number settings, byte *out, number room);
 
 enum { CHECK = 0, ELEMENT = 1, PART = 2, START = 3, APPEND = 4, REWRITE = 5, LIST = 6, READINGS = 7, FANS = 9 };
 enum { SHEETS = 12, REMOVALS = 13 };
+enum { HEX = 21, UNHEX = 22, LONGEST_TEXT = 1000000, UNWRITTEN = 0xA5 }; /* a table there, and a text back */
 /* exit status; TOUCHED: bytes in front of the buffer, the numbers, the part or the table have changed */
 enum { BROKEN_REQUEST = 3, NO_INPUT_OR_OUTPUT = 4, NO_MEMORY = 5, TOUCHED = 6 };
 enum { HEADER = 21, NUMBERS = 32, LISTING = 4096, LONGEST = 70000, READING = 17, MOST_READINGS = 1 << 15, MOST_ZONES = 256 };
 enum { MOST_REMOVALS = 128 };
 enum { SHEET = 50, SHEET_TEXT = 275, SHEET_CALL = 1 + SHEET, MOST_SHEETS = 256 }; /* in bytes, but for the last */
 /* A lent name is no well-formed text: it comes back as it is. */
-enum { FRONT = 256, FRONT_BYTE = 0xC3, NAME_BYTE = 0xD8, ROOM = 1 << 17, GUARD = 1 << 16 };
+enum { FRONT = 256, FRONT_BYTE = 0xC3, NAME_BYTE = 0xD8, ROOM = 1 << 20, GUARD = 1 << 16 };
 #define NO_SUCH_CALL (~0UL)
 
-static byte input[1 << 20];
+static byte input[1 << 21];
 static byte output[1 << 16];
 static number waiting; /* bytes of output */
 static byte *table_end, *numbers_end, *part_end, *text_end, *name_end; /* of five guarded places */
@@ -290,6 +293,22 @@ static void answer_sheets(const byte *body, number length, number count, number 
     if (memcmp(sheet - FRONT, front, FRONT) || memcmp(text - FRONT, front, FRONT) || memcmp(table, body, length)) _exit(TOUCHED);
 }
 
+/* A table to its text or a text to its table, into a buffer of 'room' bytes. The answer goes out, and then the buffer, whole. */
+static void answer_moved(byte mode, const byte *body, number length, number room, number settings)
+{
+    byte *lent = part_end - length;
+    byte *out = table_end - room;
+    memcpy(out - FRONT, front, FRONT);
+    memset(out, UNWRITTEN, room);
+    memcpy(lent, body, length);
+    number value = NO_SUCH_CALL;
+    if (mode == HEX && esa_hex) value = esa_hex(lent, length, settings, out, room);
+    if (mode == UNHEX && esa_unhex) value = esa_unhex(lent, length, settings, out, room);
+    if (memcmp(out - FRONT, front, FRONT) || memcmp(lent, body, length)) _exit(TOUCHED);
+    put(&value, 8);
+    put(out, room);
+}
+
 /* Answers the whole requests among the bytes held, and gives the number of bytes that they took. */
 static number answer_all(number held)
 {
@@ -298,6 +317,7 @@ static number answer_all(number held)
         const byte *request = input + used;
         byte mode = request[0];
         int writes = mode == START || mode == APPEND || mode == REWRITE;
+        int moves = mode == HEX || mode == UNHEX;
         unsigned length;
         number k, settings;
         memcpy(&length, request + 1, 4);
@@ -308,7 +328,8 @@ static number answer_all(number held)
         number zones = mode == FANS ? k : 0;
         number removals = mode == REMOVALS ? k : 0;
         number sheets = mode == SHEETS ? k : 0;
-        if (length > LONGEST || part_length > LONGEST || readings > MOST_READINGS || zones > MOST_ZONES) _exit(BROKEN_REQUEST);
+        if (length > (moves ? LONGEST_TEXT : LONGEST) || (moves && k > LONGEST_TEXT)) _exit(BROKEN_REQUEST);
+        if (part_length > LONGEST || readings > MOST_READINGS || zones > MOST_ZONES) _exit(BROKEN_REQUEST);
         if (removals > MOST_REMOVALS || sheets > MOST_SHEETS) _exit(BROKEN_REQUEST);
         number asked = readings * READING + zones + 8 * removals + sheets * SHEET_CALL;
         number size = HEADER + (number)length + (writes ? NUMBERS + part_length : asked);
@@ -319,6 +340,7 @@ static number answer_all(number held)
         else if (mode == FANS) answer_fans(request + HEADER, length, zones, settings);
         else if (mode == REMOVALS) answer_removals(request + HEADER, length, removals, settings);
         else if (mode == SHEETS) answer_sheets(request + HEADER, length, sheets, settings);
+        else if (moves) answer_moved(mode, request + HEADER, length, k, settings);
         else answer_reader(mode, request + HEADER, length, k, settings);
         used += size;
     }

@@ -21,7 +21,8 @@ extern "C" {
 #endif
 
 /* ANSWERS. One number: the number of the refusal in bits 7-0, 0 for success; and above them what stands beside it. Beside a
-   refusal that is its place: the offset of the element in the table, or 0. Beside 0 it is what each call says. */
+   refusal that is its place: the offset of the element in the table, or 0; of 21 the number of the line. Beside 0 it is what each
+   call says. */
 
 static inline unsigned esa_number(uint64_t answer)
 {
@@ -56,8 +57,10 @@ enum esa_numbers {
     ESA_NO_ZONE = 13,          /* the zone of an element has no descriptor; element */
     ESA_NO_STRING = 14,        /* a string index that is not 0 and has no string; element, or 0 */
     ESA_CLASH = 15,            /* a pin is claimed twice; element of the later claim, or 0 */
-    ESA_NO_ROOM = 16,          /* writer: the new length passes the buffer or 4,096; 0 */
+    ESA_NO_ROOM = 16,          /* writer: the new length passes the buffer or 4,096; 0. Of hex and unhex: what is to be written
+                                  passes the buffer; 0 */
     ESA_PAST_THE_LAST = 17,    /* there is no element k; in a part, no such block or pair; 0 */
+    ESA_HEX = 21,              /* a line that is not Intel HEX as it is taken here; the line's number, from 1 */
     ESA_STILL_NAMED = 22,      /* remove: something still names the zone or string that was to go; element */
     ESA_RETIRED = 23,          /* bus type 2, SMBus block mode, by the ordinary rules; element. It stands between 9 and 10 */
     ESA_TOO_LARGE = 25         /* writer: a number is too large for its field; 0 */
@@ -85,6 +88,7 @@ static inline const char *esa_words(unsigned number)
     case ESA_CLASH: return "a pin is claimed a second time";
     case ESA_NO_ROOM: return "no room for it";
     case ESA_PAST_THE_LAST: return "there is no such element, block or pair";
+    case ESA_HEX: return "a line that is not Intel HEX as it is taken here";
     case ESA_STILL_NAMED: return "something still names it";
     case ESA_RETIRED: return "a bus type that is retired";
     case ESA_TOO_LARGE: return "a number is too large for its field";
@@ -300,6 +304,24 @@ uint64_t esa_rewrite(const uint8_t *table, size_t length, uint64_t settings, uin
    names it: of a zone an element, by its zone identifier; of a string the description, an element or a zone descriptor, by its
    string index. Elements of the other kinds are never named, and always go. With a refusal no byte alters. */
 uint64_t esa_remove(uint8_t *table, size_t length, size_t k, uint64_t settings);
+
+/* MOVING. A raw table as Intel HEX, the text that a programmer takes, and back: the same bytes, reserved places as they stand. Both
+   ways the table is judged by the archive's rules, and bit 1 of the settings is ignored. The bytes of 'out' behind what is written
+   are as they were; with a refusal no byte of it alters. */
+
+/* The text of a table: data records of 16 bytes from address 0, the last one shorter if need be, in capitals, each line closed by
+   one line feed; then the line :00000001FF. 0, and beside it the length of the text, which no zero ends: 2 for each byte of the
+   table, 12 for each record and 12 for the last line, so at most ESA_LONGEST_TEXT. Or the table's own refusal as esa_check gives it
+   with ESA_ARCHIVE; or 16 at 0 when 'room' is under the length of the text. */
+enum { ESA_LONGEST_TEXT = 11276 };
+uint64_t esa_hex(const uint8_t *table, size_t length, uint64_t settings, uint8_t *out, size_t room);
+
+/* The table of a text. Data records of 1 to 255 bytes are taken, each at the address at which the one before it ends, the first at
+   0, and else written as above. 0, and beside it the table's length. Or, in this order: 21 with the number of the first bad line,
+   counted from 1: a bad character, length, sum, address or type, a line that no line feed closes, the end record missing (the line
+   after the last) or anything after it (the line after it); the table's own refusal as esa_check gives it with ESA_ARCHIVE; 16 at 0
+   when 'room' is under the table's length. */
+uint64_t esa_unhex(const uint8_t *text, size_t length, uint64_t settings, uint8_t *out, size_t room);
 
 /* NAMES. The fourteen identifiers, the bounds, and how a pin and a number of two or four bytes are put. */
 enum esa_identifiers {

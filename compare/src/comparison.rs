@@ -5,6 +5,7 @@ use crate::call::Call;
 use crate::exchange::Exchange;
 use crate::fans::Fans;
 use crate::fields::Fields;
+use crate::hex::Hex;
 use crate::known::Row;
 use crate::options::Options;
 use crate::outcome::Outcome;
@@ -15,7 +16,7 @@ use crate::sheets::Sheets;
 use crate::tally::Tally;
 use second::generator::any;
 use second::random::Random;
-use second::Settings;
+use second::{Chip, Settings};
 use std::rc::Rc;
 
 pub struct Comparison {
@@ -32,6 +33,8 @@ pub struct Comparison {
     removals: Option<Removals>,
     /// Ask for the pin sheet too, and while tables are built.
     sheets: Option<Sheets>,
+    /// Move every table to HEX and back too.
+    hex: Option<Hex>,
 }
 
 /// Numbers that no table has, and that are small ones in their low bits.
@@ -73,6 +76,10 @@ impl Comparison {
                 true => Some(Sheets::start(options)?),
                 false => None,
             },
+            hex: match options.hex {
+                true => Some(Hex::start(options)?),
+                false => None,
+            },
             elements: options.elements,
             listing: options.listing,
         })
@@ -100,14 +107,16 @@ impl Comparison {
         let table: Rc<[u8]> = table.into();
         let turn = self.exchange.tally.tables;
         self.exchange.tally.tables += 1;
-        for settings in settings::of_table(made_for, turn, &table) {
+        let all = settings::of_table(made_for, turn, &table);
+        for &settings in &all {
             let number = settings::reading(settings, turn);
             self.calls(origin, number, &table)?;
             self.fields(origin, number, &table, settings == made_for)?;
             self.fans(origin, number, &table)?;
             self.sheets(origin, number, &table)?;
         }
-        self.removals(origin, turn, &table)
+        self.removals(origin, turn, &table)?;
+        self.hex(origin, &all, turn, &table)
     }
 
     fn calls(&mut self, origin: Origin, settings: u64, table: &Rc<[u8]>) -> Result<(), String> {
@@ -148,8 +157,9 @@ impl Comparison {
         self.listing(origin, settings, &table)?;
         self.fields(origin, settings, &table, true)?;
         self.fans(origin, settings, &table)?;
+        self.removals(origin, turn, &table)?;
         self.sheets(origin, settings, &table)?;
-        self.removals(origin, turn, &table)
+        self.hex(origin, &[row.settings], turn, &table)
     }
 
     /// Holds both sides to the papers' answers of fans, if they are asked for.
@@ -165,6 +175,11 @@ impl Comparison {
     /// The same of sheets.
     pub fn known_sheets(&mut self) -> Result<(), String> {
         self.sheets.as_mut().map_or(Ok(()), Sheets::known)
+    }
+
+    /// Holds both sides to the papers' answers of texts in HEX, and compares those at the edges.
+    pub fn hex_texts(&mut self) -> Result<(), String> {
+        self.hex.as_mut().map_or(Ok(()), Hex::texts)
     }
 
     /// Compares the calls on parts at their edges.
@@ -207,6 +222,25 @@ impl Comparison {
         sheets.table(origin, settings, table)
     }
 
+    /// Once for each chip: the rules are the archive's, whatever the settings say.
+    fn hex(
+        &mut self,
+        origin: Origin,
+        all: &[Settings],
+        turn: u64,
+        table: &Rc<[u8]>,
+    ) -> Result<(), String> {
+        let Some(hex) = &mut self.hex else {
+            return Ok(());
+        };
+        for chip in Chip::BOTH {
+            if all.iter().any(|settings| settings.chip == chip) {
+                hex.table(origin, chip, turn, table)?;
+            }
+        }
+        Ok(())
+    }
+
     fn listing(&mut self, origin: Origin, settings: u64, table: &Rc<[u8]>) -> Result<(), String> {
         if !self.listing {
             return Ok(());
@@ -239,7 +273,8 @@ impl Comparison {
         let fans = self.fans.as_ref().map_or(0, Fans::differences);
         let removals = self.removals.as_ref().map_or(0, Removals::differences);
         let sheets = self.sheets.as_ref().map_or(0, Sheets::differences);
-        self.exchange.tally.all_differences() + fields + fans + removals + sheets
+        let hex = self.hex.as_ref().map_or(0, Hex::differences);
+        self.exchange.tally.all_differences() + fields + fans + removals + sheets + hex
     }
 
     pub fn finish(self) -> Result<Tally, String> {
@@ -248,6 +283,7 @@ impl Comparison {
         tally.fans = self.fans.map(Fans::finish).transpose()?;
         tally.removals = self.removals.map(Removals::finish).transpose()?;
         tally.sheets = self.sheets.map(Sheets::finish).transpose()?;
+        tally.hex = self.hex.map(Hex::finish).transpose()?;
         Ok(tally)
     }
 }

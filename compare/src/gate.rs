@@ -3,6 +3,7 @@
 use crate::comparison::Comparison;
 use crate::fans;
 use crate::fields;
+use crate::hex;
 use crate::known;
 use crate::options::Options;
 use crate::question::Origin;
@@ -25,6 +26,7 @@ pub fn gate(options: &Options) -> Result<bool, String> {
     comparison.known_fans()?;
     comparison.known_removals()?;
     comparison.known_sheets()?;
+    comparison.hex_texts()?;
     // Two and two, as many cases come in pairs.
     for (at, (name, table)) in generator::targeted().iter().enumerate() {
         let made_for = Settings::ALL[at / 2 % 4];
@@ -74,6 +76,7 @@ fn judged(tally: &Tally, elements: bool) -> bool {
         .as_ref()
         .is_none_or(removals::Tally::all_came);
     good &= tally.sheets.as_ref().is_none_or(sheets::Tally::all_came);
+    good &= tally.hex.as_ref().is_none_or(hex::Tally::all_came);
     tally.print_sum();
     good && tally.all_differences() == 0
 }

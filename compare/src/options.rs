@@ -24,6 +24,7 @@ pub struct Options {
     pub fans: bool,
     pub removals: bool,
     pub sheets: bool,
+    pub hex: bool,
     /// The gate: the writer's calls too.
     pub writer: bool,
     /// The gate: it ends at the first difference.
@@ -43,6 +44,7 @@ struct Given {
     fans: bool,
     removals: bool,
     sheets: bool,
+    hex: bool,
     writer: bool,
     first: bool,
     driver: Vec<String>,
@@ -69,6 +71,7 @@ impl Given {
                 "--fans" => given.fans = true,
                 "--removals" => given.removals = true,
                 "--sheets" => given.sheets = true,
+                "--hex" => given.hex = true,
                 "--writer" => given.writer = true,
                 "--first" => given.first = true,
                 "--driver" => given.driver = words.by_ref().cloned().collect(),
@@ -96,7 +99,7 @@ impl Options {
             return Err("'--writer' and '--first' are for the gate alone".into());
         }
         let of_tables = given.elements || given.listing || given.fields || given.fans;
-        let of_tables = of_tables || given.removals || given.sheets;
+        let of_tables = of_tables || given.removals || given.sheets || given.hex;
         if of_tables && matches!(command, Command::Writer { .. }) {
             return Err("the writer's calls take '--seed' and '--count' alone".into());
         }
@@ -111,6 +114,7 @@ impl Options {
             fans: given.fans,
             removals: given.removals,
             sheets: given.sheets,
+            hex: given.hex,
             writer: given.writer,
             first: given.first,
             driver: given.driver,

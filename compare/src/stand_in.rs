@@ -4,6 +4,7 @@
 use crate::call::Call;
 use crate::fans::{self, Zones};
 use crate::fields::Reading;
+use crate::hex::Way;
 use crate::outcome::Outcome;
 use crate::removals::{self, Removal};
 use crate::sheets::{Asking, SheetCall};
@@ -41,6 +42,9 @@ fn answer(from: &mut impl Read) -> io::Result<Vec<u8>> {
     if let Some(call) = Call::of(mode, k) {
         return Ok(of_reader(call, &lent, settings));
     }
+    if let Some(way) = Way::of(mode) {
+        return Ok(of_moving(way, &lent, k as usize, settings));
+    }
     match Does::of(mode, k as u8) {
         Some(does) => of_writer(does, k >> 8, settings, lent, from),
         None if mode == Zones::MODE => of_fans(k, settings, &lent, from),
@@ -58,6 +62,12 @@ fn of_reader(call: Call, table: &[u8], settings: u64) -> Vec<u8> {
         Call::List => [&answer.0.to_le_bytes(), &length, &buffer[..]].concat(),
         _ => answer.0.to_le_bytes().to_vec(),
     }
+}
+
+/// The whole buffer follows the answer.
+fn of_moving(way: Way, lent: &[u8], room: usize, settings: u64) -> Vec<u8> {
+    let Outcome { answer, buffer } = way.second(lent, room, settings);
+    [&answer.0.to_le_bytes(), &buffer[..]].concat()
 }
 
 /// Numbers and part follow the buffer.

@@ -5,6 +5,7 @@ use crate::call::Call;
 use crate::exchange::Takes;
 use crate::fans;
 use crate::fields;
+use crate::hex::Tally as HexTally;
 use crate::outcome::{hex, text, Differences, Outcome};
 use crate::question::Question;
 use crate::removals;
@@ -28,6 +29,8 @@ pub struct Tally {
     pub removals: Option<removals::Tally>,
     /// The same of the sheets.
     pub sheets: Option<sheets::Tally>,
+    /// And of texts in HEX.
+    pub hex: Option<HexTally>,
     /// By mode: how often each number came, both sides agreeing.
     answers: [Answers; 3],
 }
@@ -70,6 +73,9 @@ impl Tally {
         if let Some(sheets) = &self.sheets {
             sheets.print_answers();
         }
+        if let Some(hex) = &self.hex {
+            hex.print_answers();
+        }
     }
 
     /// Prints the answers of this mode that should have come and did not, those to a whole table and these
@@ -91,10 +97,12 @@ impl Tally {
         let fans = self.fans.as_ref().map_or(0, |fans| fans.differences.0);
         let removals = self.removals.as_ref().map_or(0, |them| them.differences.0);
         let sheets = self.sheets.as_ref().map_or(0, |them| them.differences.0);
-        self.differences.0 + self.listing_differences.0 + fields + fans + removals + sheets
+        let hex = self.hex.as_ref().map_or(0, |hex| hex.differences.0);
+        let asked_of_tables = fields + fans + removals + sheets + hex;
+        self.differences.0 + self.listing_differences.0 + asked_of_tables
     }
 
-    /// The last line, or the last six.
+    /// The last line, or the last seven.
     pub fn print_sum(&self) {
         println!("{} tables, {} differences", self.tables, self.differences.0);
         if self.listings > 0 {
@@ -112,6 +120,9 @@ impl Tally {
         }
         if let Some(sheets) = &self.sheets {
             sheets.print_sum();
+        }
+        if let Some(hex) = &self.hex {
+            hex.print_sum();
         }
     }
 }

@@ -1,6 +1,7 @@
 /* A tour of the library from C: is a file a table, what stands in it, is there a fan in a zone, how a new one is written,
-   and written again; which pins are taken; a lamp that one of the two chips has no pin for; an old sensor that the archive's
-   rules alone take; a lamp of three colours on a chip of its own; what an element is called; and how a part is taken out.
+   which pins are taken, how it is written again and moved to Intel HEX and back; a lamp that one of the two chips has no pin for; an
+   old sensor that the archive's rules alone take; a lamp of three colours on a chip of its own; what an element is called; and how a
+   part is taken out.
    tour [FILE]      without FILE it looks at a table of its own. On x86-64:
    rt staticlib esa && cc -std=c99 -I include examples/c/tour.c target/staticlib/libesa.a -o tour */
 #include <stdio.h>
@@ -227,6 +228,19 @@ static void again(const uint8_t *table, size_t length)
             printf("  byte %zu: %02X, now %02X\n", i, (unsigned)table[i], (unsigned)out[i]);
 }
 
+/* The table as Intel HEX, which a programmer takes, and back; and what is said of the text without its last line. */
+static void moved(const uint8_t *table, size_t length)
+{
+    uint8_t text[ESA_LONGEST_TEXT], back[ESA_LONGEST];
+    uint64_t answer = esa_hex(table, length, CHIP, text, sizeof text);
+    if (!told("as Intel HEX", answer, "characters"))
+        return;
+    fwrite(text, 1, esa_beside(answer), stdout);
+    size_t last = strlen(":00000001FF\n");
+    told("and back", esa_unhex(text, esa_beside(answer), CHIP, back, sizeof back), "bytes");
+    told("without its last line", esa_unhex(text, esa_beside(answer) - last, CHIP, back, sizeof back), "bytes");
+}
+
 /* One byte more than the longest table tells a table from a file that is too long. Gives 0 if it cannot be read. */
 static int read_file(const char *name, uint8_t *bytes, size_t most, size_t *length)
 {
@@ -269,6 +283,7 @@ int main(int count, char **arguments)
     printf("\nthe same with a reserved place in use\n");
     buffer[12] = 0xA5;
     again(buffer, written);
+    moved(buffer, written);
 
     printf("\nthe same with a lamp on P2.7\n");
     written = lamp(buffer, sizeof buffer);

@@ -1,6 +1,7 @@
 //! A tour of the library from Rust: is a file a table, what stands in it, is there a fan in a zone, how a new one is written,
-//! and written again; which pins are taken; a lamp that one of the two chips has no pin for; an old sensor that the archive's
-//! rules alone take; a lamp of three colours on a chip of its own; what an element is called; and how a part is taken out.
+//! which pins are taken, how it is written again and moved to Intel HEX and back; a lamp that one of the two chips has no pin for; an
+//! old sensor that the archive's rules alone take; a lamp of three colours on a chip of its own; what an element is called; and how a
+//! part is taken out.
 //! tour [FILE]      without FILE it looks at a table of its own. On x86-64:
 //! rt staticlib esa && rustc --edition 2021 -L target/staticlib -l static=esa examples/rust/tour.rs
 
@@ -12,6 +13,8 @@ use std::process::ExitCode;
 mod esa {
     /// The longest table.
     pub const LONGEST: usize = 4096;
+    /// The text of the longest table in Intel HEX.
+    pub const LONGEST_TEXT: usize = 11276;
     pub const DIGITAL_SENSOR: u8 = 0x01;
     pub const PWM_FAN: u8 = 0x03;
     pub const STATUS_LED: u8 = 0x04;
@@ -114,6 +117,20 @@ mod esa {
                 room: usize,
             ) -> u64;
             pub fn esa_remove(table: *mut u8, length: usize, k: usize, settings: u64) -> u64;
+            pub fn esa_hex(
+                table: *const u8,
+                length: usize,
+                settings: u64,
+                out: *mut u8,
+                room: usize,
+            ) -> u64;
+            pub fn esa_unhex(
+                text: *const u8,
+                length: usize,
+                settings: u64,
+                out: *mut u8,
+                room: usize,
+            ) -> u64;
             pub fn esa_list(
                 table: *const u8,
                 length: usize,
@@ -258,6 +275,18 @@ mod esa {
         unpacked(unsafe { c::esa_remove(at, length, k, chip as u64) })
     }
 
+    /// The length of the table's text in Intel HEX. The rules are the archive's.
+    pub fn hex(table: &[u8], chip: Chip, out: &mut [u8]) -> Answer {
+        let (at, room) = (out.as_mut_ptr(), out.len());
+        unpacked(unsafe { c::esa_hex(table.as_ptr(), table.len(), chip as u64, at, room) })
+    }
+
+    /// The length of the table of such a text; of refusal 21 the place is the number of a line.
+    pub fn unhex(text: &[u8], chip: Chip, out: &mut [u8]) -> Answer {
+        let (at, room) = (out.as_mut_ptr(), out.len());
+        unpacked(unsafe { c::esa_unhex(text.as_ptr(), text.len(), chip as u64, at, room) })
+    }
+
     /// The listing: a line for the table and one for each element, or the refusal.
     pub fn list(table: &[u8], settings: Settings) -> String {
         let mut text = [0; 4096];
@@ -310,6 +339,7 @@ fn words(number: u8) -> &'static str {
         15 => "a pin is claimed a second time",
         16 => "no room for it",
         17 => "there is no such element, block or pair",
+        21 => "a line that is not Intel HEX as it is taken here",
         22 => "something still names it",
         23 => "a bus type that is retired",
         25 => "a number is too large for its field",
@@ -531,6 +561,19 @@ fn again(table: &[u8]) -> Result<(), esa::Refusal> {
     Ok(())
 }
 
+/// The table as Intel HEX, which a programmer takes, and back; and what is said of the text without its last line.
+fn moved(table: &[u8]) -> Result<(), esa::Refusal> {
+    let mut text = [0; esa::LONGEST_TEXT];
+    let mut back = [0; esa::LONGEST];
+    let length = told("as Intel HEX", esa::hex(table, CHIP, &mut text), "characters")?;
+    let text = &text[..length];
+    print!("{}", String::from_utf8_lossy(text));
+    let _ = told("and back", esa::unhex(text, CHIP, &mut back), "bytes");
+    let cut = &text[..length - ":00000001FF\n".len()];
+    let _ = told("without its last line", esa::unhex(cut, CHIP, &mut back), "bytes");
+    Ok(())
+}
+
 /// A computer case with one fan in zone 1.
 fn own_table() -> Vec<u8> {
     // revision 0.90, 62 bytes, type 2, no string, serial number 7, own power, no hardware revision pins
@@ -569,6 +612,7 @@ fn tour(table: &[u8]) -> Result<bool, esa::Refusal> {
     println!("\nthe same with a reserved place in use");
     buffer[12] = 0xA5;
     again(&buffer[..length])?;
+    moved(&buffer[..length])?;
 
     println!("\nthe same with a lamp on P2.7");
     let length = lamp(&mut buffer)?;

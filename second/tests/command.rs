@@ -81,6 +81,46 @@ fn prints_the_pin_sheet() {
 }
 
 #[test]
+fn moves_to_hex_and_back() {
+    let lines = b":10000000011000020007000080FFFFFF0000000059\n:00000001FF\n";
+    assert_eq!(run(&["hex"], &TABLE_A).stdout, lines);
+    assert_eq!(run(&["hex", "--chip", "321"], &TABLE_A).stdout, lines);
+    assert_eq!(run(&["unhex"], lines).stdout, TABLE_A);
+    assert_eq!(run(&["unhex", "--chip", "321"], lines).stdout, TABLE_A);
+    assert_eq!(run(&["hex"], lines).stdout, b"R\t2\t0\n");
+    let refused = run(&["unhex"], &TABLE_A);
+    assert!(refused.status.success());
+    assert_eq!(refused.stdout, b"R\t21\t1\n");
+    let four = raw::table(&[raw::zone(1, 0), raw::current(1, 0x24)]);
+    let text = run(&["hex"], &four).stdout;
+    assert_eq!(run(&["unhex"], &text).stdout, four);
+    assert_eq!(
+        run(&["unhex", "--chip", "321"], &text).stdout,
+        b"R\t10\t46\n"
+    );
+    assert_eq!(run(&["hex", "--chip", "321"], &four).stdout, b"R\t10\t46\n");
+    // The archive's rules, which are not asked for.
+    let old = raw::table(&[raw::digital(1, 2, 0x40), raw::zone(1, 0)]);
+    let text = run(&["hex"], &old).stdout;
+    assert_eq!(run(&["unhex"], &text).stdout, old);
+}
+
+/// The longest good text is read to its end, and of longer ones enough.
+#[test]
+fn long_texts_are_not_cut_short() {
+    let longest = second::hex::text(&[1; 65_536], 1);
+    assert_eq!(longest.len(), 917_516);
+    assert_eq!(run(&["unhex"], &longest).stdout, b"R\t3\t0\n");
+    let open = &longest[..longest.len() - 1];
+    assert_eq!(run(&["unhex"], open).stdout, b"R\t21\t65537\n");
+    for more in [&b"\n"[..], &[0; 1_000_000]] {
+        let text = [&longest[..], more].concat();
+        assert_eq!(run(&["unhex"], &text).stdout, b"R\t21\t65538\n");
+    }
+    assert_eq!(run(&["unhex"], &[0; 2_000_000]).stdout, b"R\t21\t1\n");
+}
+
+#[test]
 fn long_input_is_not_cut_to_a_table() {
     let mut table = raw::table(&[raw::text(1, &vec![0; 4096 - 22])]);
     assert_eq!(run(&["list"], &table).stdout.first(), Some(&b'T'));
@@ -146,7 +186,7 @@ fn holds_itself_against_itself() {
 
 #[test]
 fn misuse_is_told_and_gives_status_2() {
-    let misuses: [&[&str]; 41] = [
+    let misuses: [&[&str]; 46] = [
         &[],
         &["dance"],
         &["list", "extra"],
@@ -187,6 +227,11 @@ fn misuse_is_told_and_gives_status_2() {
         &["remove", "--archive", "1"],
         &["pins", "extra"],
         &["pins", "--archive"],
+        &["hex", "extra"],
+        &["hex", "--archive"],
+        &["unhex", "extra"],
+        &["unhex", "--archive"],
+        &["unhex", "--chip", "322"],
         &[
             "rows", "--seed", "1", "--count", "1", "--max", "1", "--chip", "321",
         ],

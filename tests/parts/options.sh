@@ -92,6 +92,8 @@ no_options() {
     no_option_of fan 1
     no_option_of remove 0 never
     no_option_of pins
+    no_option_of hex never
+    no_option_of unhex never
     for command in check list; do
         try "$command --archive twice" complains 2 "esa: the option --archive is given twice" $command --archive --chip 321 --archive good
     done

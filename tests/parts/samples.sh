@@ -54,7 +54,7 @@ sample_with() { # NAME STATUS OPTION STATUS
 }
 
 eleven_samples() {
-    [ "$(find "$tables" -type f | wc -l)" -eq 22 ]
+    [ "$(find "$tables" -type f | wc -l)" -eq 23 ]
 }
 
 samples() {
@@ -69,5 +69,5 @@ samples() {
     sample twice 1
     sample_with larger-chip 0 '--chip 321' 1
     sample_with old-box 1 --archive 0
-    try "eleven sample tables with a text each, and nothing else" eleven_samples
+    try "eleven sample tables with a text each, one of them as Intel HEX too, and nothing else" eleven_samples
 }

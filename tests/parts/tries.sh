@@ -66,4 +66,5 @@ first_use() {
     "$esa" fan "$tables/quiet-box.esa" 1 >/dev/null
     "$esa" remove "$tables/quiet-box.esa" 0 "$work/first" && rm -f "$work/first"
     "$esa" pins "$tables/quiet-box.esa" >/dev/null
+    "$esa" hex "$tables/quiet-box.esa" "$work/first" && "$esa" unhex "$work/first" "$work/first" && rm -f "$work/first"
 }

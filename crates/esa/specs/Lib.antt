@@ -7,3 +7,4 @@ pub mod Fans
 pub mod Blocks
 pub mod Writing
 pub mod Sheets
+pub mod Hex

@@ -18,6 +18,7 @@ ghost use Rattle.esa.specs.Fans.{FanFor};
 ghost use Rattle.esa.specs.Blocks.{packedBlock, packedPair, packedEntries};
 ghost use Rattle.esa.specs.Writing.{StartedFor, AppendedFor, RewrittenFor, RemovedFor};
 ghost use Rattle.esa.specs.Sheets.{SheetFor};
+ghost use Rattle.esa.specs.Hex.{HexFor, UnhexFor};
 use format::answers::Asked;
 use format::answers::Described;
 use format::pins::Chip;
@@ -222,6 +223,24 @@ pub extern "C" fn esa_remove(table: &mut [u8], k: usize, settings: u64) -> u64
     ensures { λ r. ⌜ RemovedFor (chipOf settings) (now (table .entry)) k r (now (table .exit)) ⌝ }
 {
     packing::written(removing::remove(table, k, chip_of(settings)))
+}
+
+// The text in Intel HEX of a table that the archive's rules accept, at the front of the buffer. Beside 0 stands its length, beside a
+// refusal its place.
+#[no_mangle]
+pub extern "C" fn esa_hex(table: &[u8], settings: u64, out: &mut [u8]) -> u64
+    ensures { λ r. ⌜ HexFor (chipOf settings) (now (table .entry)) (now (out .entry)) r (now (out .exit)) ⌝ }
+{
+    packing::moved(tohex::to_hex(table, out, chip_of(settings)))
+}
+
+// The table that a text in Intel HEX sends, at the front of the buffer, if the archive's rules accept it. Beside 0 stands its length,
+// beside 21 the number of the first bad line, beside another refusal its place.
+#[no_mangle]
+pub extern "C" fn esa_unhex(text: &[u8], settings: u64, out: &mut [u8]) -> u64
+    ensures { λ r. ⌜ UnhexFor (chipOf settings) (now (text .entry)) (now (out .entry)) r (now (out .exit)) ⌝ }
+{
+    packing::moved(fromhex::from_hex(text, out, chip_of(settings)))
 }
 
 // The listing of a table at the front of the buffer. The answer is its length in bytes.

@@ -44,6 +44,14 @@ pub fn written(w: Written) -> u64
     requires { ⌜ valueOfWritten w ≤ 4096 ⌝ }
     ensures { λ r. ⌜ r ≡ packedWritten w ⌝ }
 {
+    moved(w)
+}
+
+// Of moving a table into Intel HEX and back, the same: a text is longer than a table, and the number of a line may be over 4,096.
+pub fn moved(w: Written) -> u64
+    requires { ⌜ valueOfWritten w ≤ 65538 ⌝ }
+    ensures { λ r. ⌜ r ≡ packedWritten w ⌝ }
+{
     match w {
         Written::Length(n) => pack(0, n),
         Written::Refused(k, p) => pack(k, p),

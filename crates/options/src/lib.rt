@@ -40,7 +40,7 @@ pub enum Misuse {
     NoChip,
     ChipTwice,
     ArchiveTwice,
-    // --archive, to a program that has the ordinary rules alone
+    // --archive, to a program that has one set of rules
     NoArchive,
     // a word more behind the options of a program that takes none
     Extra,
@@ -229,9 +229,7 @@ pub fn complain(m: Misuse) {
         Misuse::ChipTwice => say(b"The option --chip stands more than once.\n"),
         Misuse::ArchiveTwice => say(b"The option --archive stands more than once.\n"),
         Misuse::NoArchive => {
-            say(
-                b"The option --archive is not taken here: this program has the ordinary rules alone.\n",
-            )
+            say(b"The option --archive is not taken here: this program has one set of rules.\n")
         }
         Misuse::Extra => {
             say(

@@ -5,9 +5,9 @@ pub fn put(text: &[u8]) {
     io::write_all(STDOUT_FILENO, text);
 }
 
-// The first n bytes. No table and no listing is longer than 4,096 bytes.
+// The first n bytes. No table and no listing is longer than 4,096 bytes, no text in Intel HEX longer than 11,276.
 pub fn send(n: usize, out: &[u8]) {
-    if n <= 4096 {
+    if n <= 11276 {
         let count = io::count(n as isize, out);
         put(&out[..count]);
     }

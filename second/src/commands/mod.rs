@@ -17,6 +17,8 @@ use: second COMMAND [--chip 320|321] [--archive] ...
   fan ZONE                                   is there a fan in the zone, and the elements visited
   remove K                                   the table on standard input without element K
   pins                                       the pin sheet of the table on standard input
+  hex                                        the table on standard input as Intel HEX
+  unhex                                      the table of the Intel HEX on standard input
   check FILE...                              number, place or count, and file, one line each
   rows --seed S --count N --max BYTES        tables in hex with their answers
   make KIND --seed S --count N DIR           tables as files; KIND is valid, mixed, controllers,
@@ -24,7 +26,8 @@ use: second COMMAND [--chip 320|321] [--archive] ...
   self --seed S --count N                    hold the program's own parts against each other
   bench                                      time the reader
 The chip is the 320 if none is named, and the rules are the ordinary ones without --archive. Tables are
-made, read and written for them; rewrite, fan, remove and pins have the ordinary rules alone.
+made, read and written for them; rewrite, fan, remove and pins have the ordinary rules alone, hex and
+unhex the archive's.
 ";
 
 /// A command's end: good, a failure already told, or a misuse to be told with the usage.
@@ -59,10 +62,15 @@ fn dispatch(command: &str, settings: Settings, rest: &[String]) -> End {
         "rewrite" | "fan" | "remove" | "pins" if settings.rules == Rules::Archive => {
             End::Misused(format!("'{command}' has the ordinary rules alone"))
         }
+        "hex" | "unhex" if settings.rules == Rules::Archive => {
+            End::Misused(format!("'{command}' has the archive's rules always"))
+        }
         "rewrite" => stream::rewrite(settings.chip, rest),
         "fan" => stream::fan(settings.chip, rest),
         "remove" => stream::remove(settings.chip, rest),
         "pins" => stream::pins(settings.chip, rest),
+        "hex" => stream::hex(settings.chip, rest),
+        "unhex" => stream::unhex(settings.chip, rest),
         "check" => files::check(settings, rest),
         "rows" => rows::rows(settings, rest),
         "make" => files::make(settings, rest),

@@ -40,8 +40,8 @@ fn read(arguments: &[String]) -> Result<(u64, u64), String> {
     Ok((options.number("seed")?, options.number("count")?))
 }
 
-/// Fast against plain, of readers, listings and fans; the two rules against each other; what is rewritten
-/// and what is taken out; the listing's shape.
+/// Fast against plain, of readers, listings, fans and texts in HEX; the two rules against each other; what is
+/// rewritten and what is taken out; the listing's shape.
 fn compare(table: &[u8], settings: Settings, fast: Verdict) -> Result<(), &'static str> {
     if plain::check(table, settings) != fast {
         return Err("the fast and the plain reader differ");
@@ -54,6 +54,7 @@ fn compare(table: &[u8], settings: Settings, fast: Verdict) -> Result<(), &'stat
     }
     rewritten(table, settings.chip, strict)?;
     removed(table, settings.chip, strict)?;
+    moved(table, settings.chip, old)?;
     for zone in zones_in(table).take(4).chain([0, 255]) {
         if second::fan(table, zone, settings) != plain::fan(table, zone, settings) {
             return Err("the fast and the plain walk to a fan differ");
@@ -110,6 +111,32 @@ fn removed(table: &[u8], chip: Chip, strict: Verdict) -> Result<(), &'static str
         if answer.is_err() && lent != table {
             return Err("a refusal to take out changes something");
         }
+    }
+    Ok(())
+}
+
+/// There and back as the archive's reader says, and by both forms.
+fn moved(table: &[u8], chip: Chip, old: Verdict) -> Result<(), &'static str> {
+    let text = second::hex::text(table, second::hex::WRITTEN);
+    let mut out = vec![0xA5; text.len()];
+    let there = second::hex(table, chip, &mut out);
+    if there != old.into_result().map(|_| text.len()) {
+        return Err("reader and text in HEX differ");
+    }
+    if plain::hex(table, chip) != there.map(|_| out) {
+        return Err("two texts in HEX differ");
+    }
+    // More bytes than there are addresses have no text.
+    if table.len() > 65_536 {
+        return Ok(());
+    }
+    let mut out = vec![0xA5; table.len()];
+    let back = second::unhex(&text, chip, &mut out);
+    if back != old.into_result().map(|_| table.len()) || back.is_ok() && out != table {
+        return Err("there and back differ");
+    }
+    if plain::unhex(&text, chip) != back.map(|_| out) {
+        return Err("two tables of one text differ");
     }
     Ok(())
 }

@@ -1,23 +1,32 @@
-//! `list`, `rewrite`, `fan`, `remove` and `pins`: a table from standard input.
+//! `list`, `rewrite`, `fan`, `remove`, `pins`, `hex` and `unhex`: a table, or its text, from standard input.
 
 use super::End;
 use second::sheet::FREE;
 use second::{Chip, Refusal, Settings};
 use std::io::{Read, Write};
 
-/// Standard input up to 4,097 bytes. No more is needed: a table over 4,096 bytes answers 2 or 3 by
-/// its first byte alone, and 4,097 of its bytes still are such a table.
-fn read_table() -> std::io::Result<Vec<u8>> {
-    let mut table = Vec::new();
-    std::io::stdin().lock().take(4097).read_to_end(&mut table)?;
-    Ok(table)
+/// Of standard input as much as is needed: a table over 4,096 bytes answers 2 or 3 by its first byte alone, and
+/// 4,097 of its bytes still are such a table.
+const OF_A_TABLE: u64 = 4_097;
+/// The longest text without a bad line has 65,536 data records of one byte, 14 characters each, and the end record of
+/// 12. In a longer one the first bad line, or what follows the end, is met within one byte more.
+const OF_A_TEXT: u64 = 65_536 * 14 + 12 + 1;
+
+fn read(most: u64) -> std::io::Result<Vec<u8>> {
+    let mut bytes = Vec::new();
+    std::io::stdin().lock().take(most).read_to_end(&mut bytes)?;
+    Ok(bytes)
 }
 
 fn transform(arguments: &[String], make: impl Fn(&[u8]) -> Vec<u8>) -> End {
+    transform_most(OF_A_TABLE, arguments, make)
+}
+
+fn transform_most(most: u64, arguments: &[String], make: impl Fn(&[u8]) -> Vec<u8>) -> End {
     if let Some(other) = arguments.first() {
         return End::Misused(format!("'{other}' is one argument too many"));
     }
-    let done = read_table().and_then(|table| {
+    let done = read(most).and_then(|table| {
         let mut out = std::io::stdout().lock();
         out.write_all(&make(&table))?;
         out.flush()
@@ -43,10 +52,7 @@ pub fn list(settings: Settings, arguments: &[String]) -> End {
 pub fn rewrite(chip: Chip, arguments: &[String]) -> End {
     transform(arguments, |table| {
         let mut out = vec![0; table.len()];
-        match second::rewrite(table, chip, &mut out) {
-            Ok(length) => out[..length].to_vec(),
-            Err(refusal) => refusal_line(refusal),
-        }
+        written(second::rewrite(table, chip, &mut out), out)
     })
 }
 
@@ -91,4 +97,30 @@ pub fn pins(chip: Chip, arguments: &[String]) -> End {
             Err(refusal) => refusal_line(refusal),
         }
     })
+}
+
+/// The text of the table, or the `R` line.
+pub fn hex(chip: Chip, arguments: &[String]) -> End {
+    transform(arguments, |table| {
+        let mut out = vec![0; second::hex::LONGEST_TEXT];
+        written(second::hex(table, chip, &mut out), out)
+    })
+}
+
+/// The table of the text, or the `R` line.
+pub fn unhex(chip: Chip, arguments: &[String]) -> End {
+    transform_most(OF_A_TEXT, arguments, |text| {
+        let mut out = vec![0; text.len()];
+        written(second::unhex(text, chip, &mut out), out)
+    })
+}
+
+fn written(answer: Result<usize, Refusal>, mut out: Vec<u8>) -> Vec<u8> {
+    match answer {
+        Ok(length) => {
+            out.truncate(length);
+            out
+        }
+        Err(refusal) => refusal_line(refusal),
+    }
 }

@@ -6,6 +6,7 @@
 
 pub mod claims;
 mod fan;
+mod hex;
 mod label;
 mod listing;
 mod remove;
@@ -22,6 +23,7 @@ use claims::{check_claims, claims};
 
 pub use claims::own_pins;
 pub use fan::fan;
+pub use hex::{hex, unhex};
 pub use label::label;
 pub use listing::listing;
 pub use remove::remove;

@@ -1,9 +1,9 @@
--- `packing::written` meets its contract: each case has its number and value.
+-- `packing::moved` meets its contract: each case has its number and value.
 -- Assumes nothing.
 use native.Mathlib.Omega.{arith}
 use borrow.Author.Needs.{needs}
-use Rattle.esa.proofs.packing.written.Statement.{statement}
-use Rattle.esa.proofs.packing.written.Tie as tie
+use Rattle.esa.proofs.packing.moved.Statement.{statement}
+use Rattle.esa.proofs.packing.moved.Tie as tie
 
 pack-requires : tie.Need-pack-requires
 pack-requires c κs = omega (arith, rw (c .before .w .given .1) at (c .before .before .before .pre))
@@ -17,5 +17,5 @@ returns c = rw (c .before .before .w .given .1) (c .pack .ensures)
 returns-2 : tie.Need-returns-2
 returns-2 c = rw (c .before .before .w2 .given .1) (c .pack2 .ensures)
 
-pub written-spec : {M : Type 1} → statement M
-written-spec = tie.close (tie.spec (search needs) pack-requires (search needs) pack-requires-2 returns returns-2)
+pub moved-spec : {M : Type 1} → statement M
+moved-spec = tie.close (tie.spec (search needs) pack-requires (search needs) pack-requires-2 returns returns-2)
