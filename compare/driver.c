@@ -42,23 +42,60 @@ __attribute__((weak)) number esa_sheet_forward(const byte *table, number length,
 __attribute__((weak)) number esa_sheet_text(const unsigned short *sheet, number settings, byte *out);
 __attribute__((weak)) number esa_hex(const byte *table, number length, number settings, byte *out, number room);
 __attribute__((weak)) number esa_unhex(const byte *text, number length, number settings, byte *out, number room);
+/* A state, as the header has it. 'build' takes STATE from ESA_RECEIVING of the header. */
+struct state {
+    number numbers[16];
+    unsigned short places[2][256];
+    _Bool flags[4][256];
+    byte described[30], under[30];
+};
+_Static_assert(sizeof(struct state) == STATE, "a state is as long as the header says");
+__attribute__((weak)) number esa_receiving_start(number *numbers, byte *described, byte *under, number settings);
+__attribute__((weak)) number esa_receiving_piece(number *numbers, byte *described, byte *under, _Bool *zones, _Bool *strings,
+                                                 _Bool *named_zones, _Bool *named_strings, unsigned short *zone_places,
+                                                 unsigned short *string_places, const byte *piece, number length);
+__attribute__((weak)) number esa_receiving_end(number *numbers, const byte *described, const _Bool *zones, const _Bool *strings,
+                                               const _Bool *named_zones, const _Bool *named_strings,
+                                               const unsigned short *zone_places, const unsigned short *string_places);
 
-enum { CHECK = 0, ELEMENT = 1, PART = 2, START = 3, APPEND = 4, REWRITE = 5, LIST = 6, READINGS = 7, FANS = 9 };
+static number esa_receive_start(byte *state, number settings)
+{
+    struct state *s = (struct state *)(void *)state;
+    return esa_receiving_start(s->numbers, s->described, s->under, settings);
+}
+
+static number esa_receive_piece(byte *state, const byte *piece, number length)
+{
+    struct state *s = (struct state *)(void *)state;
+    return esa_receiving_piece(s->numbers, s->described, s->under, s->flags[0], s->flags[1], s->flags[2], s->flags[3],
+                               s->places[0], s->places[1], piece, length);
+}
+
+static number esa_receive_end(byte *state)
+{
+    struct state *s = (struct state *)(void *)state;
+    return esa_receiving_end(s->numbers, s->described, s->flags[0], s->flags[1], s->flags[2], s->flags[3], s->places[0],
+                             s->places[1]);
+}
+
+enum { CHECK = 0, ELEMENT = 1, PART = 2, START = 3, APPEND = 4, REWRITE = 5, LIST = 6, READINGS = 7, RECEIVE = 8, FANS = 9 };
 enum { SHEETS = 12, REMOVALS = 13 };
 enum { HEX = 21, UNHEX = 22, LONGEST_TEXT = 1000000, UNWRITTEN = 0xA5 }; /* a table there, and a text back */
-/* exit status; TOUCHED: bytes in front of the buffer, the numbers, the part or the table have changed */
+/* exit status; TOUCHED: bytes in front of the buffer, the numbers, the state, or of what is lent to be read, have changed */
 enum { BROKEN_REQUEST = 3, NO_INPUT_OR_OUTPUT = 4, NO_MEMORY = 5, TOUCHED = 6 };
 enum { HEADER = 21, NUMBERS = 32, LISTING = 4096, LONGEST = 70000, READING = 17, MOST_READINGS = 1 << 15, MOST_ZONES = 256 };
 enum { MOST_REMOVALS = 128 };
 enum { SHEET = 50, SHEET_TEXT = 275, SHEET_CALL = 1 + SHEET, MOST_SHEETS = 256 }; /* in bytes, but for the last */
-/* A lent name is no well-formed text: it comes back as it is. */
-enum { FRONT = 256, FRONT_BYTE = 0xC3, NAME_BYTE = 0xD8, ROOM = 1 << 20, GUARD = 1 << 16 };
+/* A lent name is no well-formed text: it comes back as it is. A piece is gone when its call returns. */
+enum { FRONT = 256, FRONT_BYTE = 0xC3, NAME_BYTE = 0xD8, GONE_BYTE = 0x5A, ROOM = 1 << 20, GUARD = 1 << 16 };
+enum { STEP = 9, MOST_STEPS = 1 << 16, REPORT = 64 };
 #define NO_SUCH_CALL (~0UL)
+#define STATE_CHANGED (~1UL) /* by a call that was to keep it */
 
 static byte input[1 << 21];
 static byte output[1 << 16];
 static number waiting; /* bytes of output */
-static byte *table_end, *numbers_end, *part_end, *text_end, *name_end; /* of five guarded places */
+static byte *table_end, *numbers_end, *part_end, *text_end, *name_end, *state_end; /* of six guarded places */
 static byte front[FRONT];
 /* What a listing's buffer, and the numbers of a reading, hold before the call: no byte of a text, and no zero. */
 static union {
@@ -309,6 +346,114 @@ static void answer_moved(byte mode, const byte *body, number length, number room
     put(out, room);
 }
 
+/* The calls that receive, on the one state, which stays from request to request. ended: after an end without a start. */
+static byte kept_state[STATE];
+static int ended;
+
+/* The answer, if the state is as it was where the call was to keep it. */
+static number if_kept(number value, int keeps)
+{
+    return keeps && memcmp(kept_state, state_end - STATE, STATE) ? STATE_CHANGED : value;
+}
+
+static number receive_end(void)
+{
+    byte *state = state_end - STATE;
+    int keeps = ended;
+    if (keeps) memcpy(kept_state, state, STATE);
+    ended = 1;
+    return if_kept(esa_receive_end(state), keeps);
+}
+
+/* A few bytes at the end of their memory one by one: memcmp may take its time over what it must not read there. */
+static int differ(const byte *one, const byte *other, number count)
+{
+    if (count > REPORT) return memcmp(one, other, count);
+    for (number i = 0; i < count; i++)
+        if (one[i] != other[i]) return 1;
+    return 0;
+}
+
+/* So many times the same piece. It ends where its memory ends. */
+static number receive_piece(const byte *from, number length, number times)
+{
+    byte *state = state_end - STATE, *piece = table_end - length;
+    int keeps = ended || length == 0;
+    number value = 0;
+    if (keeps) memcpy(kept_state, state, STATE);
+    memcpy(piece, from, length);
+    for (number i = 0; i < times && value == 0; i++) value = if_kept(esa_receive_piece(state, piece, length), keeps);
+    if (differ(piece, from, length)) _exit(TOUCHED);
+    memset(piece, GONE_BYTE, length);
+    return value;
+}
+
+/* The bytes in pieces of so many, the last one fewer: the first answer that is not 0. */
+static number receive_reports(const byte *bytes, number length, number size)
+{
+    number value = 0;
+    for (number at = 0; at < length && value == 0; at += size)
+        value = receive_piece(bytes + at, size < length - at ? size : length - at, 1);
+    return value;
+}
+
+/* A flag is 0 or 1, as a bool of C is. */
+static void plain_flags(byte *state)
+{
+    byte *flags = (byte *)((struct state *)(void *)state)->flags;
+    for (int i = 0; i < 4 * 256; i++) flags[i] &= 1;
+}
+
+/* A state that no start gave: whatever it answers first, a second end is 20 and keeps it. */
+static number receive_wild(const byte *bytes, number length, number seed, number size)
+{
+    byte *state = state_end - STATE;
+    for (int i = 0; i < STATE; i++) {
+        seed = seed * 6364136223846793005UL + 1442695040888963407UL;
+        state[i] = (byte)(seed >> 56);
+    }
+    plain_flags(state);
+    ended = 0;
+    for (number at = 0; at < length; at += size) receive_piece(bytes + at, size < length - at ? size : length - at, 1);
+    receive_end();
+    return receive_end();
+}
+
+static number receive_step(byte which, const byte *bytes, number length, unsigned a, unsigned b, number settings)
+{
+    byte *state = state_end - STATE;
+    if (!esa_receiving_start || !esa_receiving_piece || !esa_receiving_end) return NO_SUCH_CALL;
+    switch (which) {
+    case 0:
+        if (a < 256) {
+            memset(state, (int)a, STATE);
+            plain_flags(state);
+        }
+        ended = 0;
+        return esa_receive_start(state, settings);
+    case 1: return a > length || b > length - a ? NO_SUCH_CALL : receive_piece(bytes + a, b, 1);
+    case 2: return a > length || b == 0 ? NO_SUCH_CALL : receive_reports(bytes + a, length - a, b);
+    case 3: return a > length ? NO_SUCH_CALL : receive_piece(bytes, a, b);
+    case 4: return receive_end();
+    case 5: return b == 0 ? NO_SUCH_CALL : receive_wild(bytes, length, a, b);
+    default: return NO_SUCH_CALL;
+    }
+}
+
+static void answer_receive(const byte *body, number length, number count, number settings)
+{
+    memcpy(state_end - STATE - FRONT, front, FRONT);
+    for (number at = 0; at < count; at++) {
+        const byte *step = body + length + at * STEP;
+        unsigned a, b;
+        memcpy(&a, step + 1, 4);
+        memcpy(&b, step + 5, 4);
+        number value = receive_step(step[0], body, length, a, b, settings);
+        put(&value, 8);
+    }
+    if (memcmp(state_end - STATE - FRONT, front, FRONT)) _exit(TOUCHED);
+}
+
 /* Answers the whole requests among the bytes held, and gives the number of bytes that they took. */
 static number answer_all(number held)
 {
@@ -324,14 +469,12 @@ static number answer_all(number held)
         memcpy(&k, request + 5, 8);
         memcpy(&settings, request + 13, 8);
         number part_length = writes ? k >> 8 : 0;
-        number readings = mode == READINGS ? k : 0;
-        number zones = mode == FANS ? k : 0;
-        number removals = mode == REMOVALS ? k : 0;
-        number sheets = mode == SHEETS ? k : 0;
+        number readings = mode == READINGS ? k : 0, zones = mode == FANS ? k : 0, removals = mode == REMOVALS ? k : 0;
+        number sheets = mode == SHEETS ? k : 0, steps = mode == RECEIVE ? k : 0;
         if (length > (moves ? LONGEST_TEXT : LONGEST) || (moves && k > LONGEST_TEXT)) _exit(BROKEN_REQUEST);
         if (part_length > LONGEST || readings > MOST_READINGS || zones > MOST_ZONES) _exit(BROKEN_REQUEST);
-        if (removals > MOST_REMOVALS || sheets > MOST_SHEETS) _exit(BROKEN_REQUEST);
-        number asked = readings * READING + zones + 8 * removals + sheets * SHEET_CALL;
+        if (removals > MOST_REMOVALS || sheets > MOST_SHEETS || steps > MOST_STEPS) _exit(BROKEN_REQUEST);
+        number asked = readings * READING + zones + 8 * removals + sheets * SHEET_CALL + steps * STEP;
         number size = HEADER + (number)length + (writes ? NUMBERS + part_length : asked);
         if (held - used < size) break;
         if (writes) answer_writer(mode, (byte)k, settings, request + HEADER, length, part_length);
@@ -341,6 +484,7 @@ static number answer_all(number held)
         else if (mode == REMOVALS) answer_removals(request + HEADER, length, removals, settings);
         else if (mode == SHEETS) answer_sheets(request + HEADER, length, sheets, settings);
         else if (moves) answer_moved(mode, request + HEADER, length, k, settings);
+        else if (mode == RECEIVE) answer_receive(request + HEADER, length, steps, settings);
         else answer_reader(mode, request + HEADER, length, k, settings);
         used += size;
     }
@@ -355,6 +499,7 @@ int main(void)
     memset(front, FRONT_BYTE, FRONT);
     text_end = guarded_end();
     name_end = guarded_end();
+    state_end = guarded_end();
     memset(name_end - LONGEST, NAME_BYTE, LONGEST);
     for (int i = 0; i < LISTING; i++) pattern.bytes[i] = (byte)(0x80 + i % 127);
     memcpy(text_end - LISTING - FRONT, front, FRONT);

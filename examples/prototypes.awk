@@ -2,22 +2,51 @@
 BEGIN {
     type["&[u8]"] = "const uint8_t *, size_t"
     type["&mut [u8]"] = "uint8_t *, size_t"
-    type["&[u8; 32]"] = "const uint8_t *"
-    type["&mut [u8; 32]"] = "uint8_t *"
-    type["&mut [u8; 4096]"] = "uint8_t *"
-    type["&[u16; 25]"] = "const uint16_t *"
-    type["&mut [u16; 25]"] = "uint16_t *"
-    type["&mut [u8; 275]"] = "uint8_t *"
     type["u8"] = "uint8_t"
     type["u64"] = "uint64_t"
     type["usize"] = "size_t"
+    of_c["u8"] = "uint8_t"
+    of_c["u16"] = "uint16_t"
+    of_c["usize"] = "size_t"
+    of_c["bool"] = "bool"
     print "#include \"esa.h\""
 }
 
 function c_type(of) {
     if (of in type) return type[of]
+    if (of ~ /^&(mut )?\[(u8|u16|usize|bool); [0-9]+\]$/) return array(of)
     print "examples/prototypes.awk: no type of C for '" of "'" > "/dev/stderr"
     exit 1
+}
+
+# An array is a pointer. Its size is one that the header names, or, of a receiver's parts, that of the header's struct.
+function array(of,    size, kind) {
+    size = of
+    sub(/.*; /, "", size)
+    sub(/\]/, "", size)
+    kind = of
+    sub(/.*\[/, "", kind)
+    sub(/;.*/, "", kind)
+    if (kind == "u8" && size != 30) return sized(of, kind, size, "NUMBERS LISTING SHEET_TEXT")
+    if (kind == "u16" && size != 256) return sized(of, kind, size, "SHEET")
+    return part(of, kind, size)
+}
+
+function sized(of, kind, size, names,    i, sizes, test) {
+    split(names, sizes, " ")
+    for (i = 1; i in sizes; i++) test = test (i == 1 ? "" : " || ") size " == ESA_" sizes[i]
+    if (!named[kind, size]++) print "typedef char of_" kind "_" size "[" test " ? 1 : -1];"
+    return (of ~ /mut/ ? "" : "const ") of_c[kind] " *"
+}
+
+function part(of, kind, size,    member) {
+    member["u8"] = "element"
+    member["u16"] = "zone_places"
+    member["usize"] = "numbers"
+    member["bool"] = "zones"
+    if (!named[kind]++)
+        print "typedef char of_" kind "[sizeof(((struct esa_receiving *)0)->" member[kind] ") == " size " * sizeof(" of_c[kind] ") ? 1 : -1];"
+    return (of ~ /mut/ ? "" : "const ") of_c[kind] " *"
 }
 
 # NAME(PARAMETER: TYPE, ..) -> TYPE

@@ -4,8 +4,8 @@
 
    WHAT A CALLER OWES. Nothing proves the C around the library, so these three are yours to keep:
    - Each pointer and the length behind it are memory that may be read, and of 'buffer', 'out', 'numbers', 'table' and 'sheet' that is
-     not const also written, until the call returns; 'numbers' is 32 bytes, 'sheet' 25 numbers of two bytes, the 'out' of esa_list
-     4,096 bytes and that of esa_sheet_text 275. With a length of 0 the pointer is not followed: NULL will do.
+     not const also written, until the call returns; so is '*state'. 'numbers' is 32 bytes, 'sheet' 25 numbers of two bytes, the 'out' of
+     esa_list 4,096 bytes and that of esa_sheet_text 275. A bool is 0 or 1. With a length of 0 the pointer is not followed: NULL will do.
    - The places lent to one call do not overlap.
    - Nobody else writes to them before the call returns.
    No other condition is asked: any bytes, any lengths and any numbers have an answer. As the code stands (this is no theorem)
@@ -15,6 +15,9 @@
 
 #include <stddef.h>
 #include <stdint.h>
+#ifndef __cplusplus
+#include <stdbool.h>
+#endif
 
 #ifdef __cplusplus
 extern "C" {
@@ -60,6 +63,7 @@ enum esa_numbers {
     ESA_NO_ROOM = 16,          /* writer: the new length passes the buffer or 4,096; 0. Of hex and unhex: what is to be written
                                   passes the buffer; 0 */
     ESA_PAST_THE_LAST = 17,    /* there is no element k; in a part, no such block or pair; 0 */
+    ESA_AFTER_THE_END = 20,    /* receiving: a piece or an end after the end; 0 */
     ESA_HEX = 21,              /* a line that is not Intel HEX as it is taken here; the line's number, from 1 */
     ESA_STILL_NAMED = 22,      /* remove: something still names the zone or string that was to go; element */
     ESA_RETIRED = 23,          /* bus type 2, SMBus block mode, by the ordinary rules; element. It stands between 9 and 10 */
@@ -88,6 +92,7 @@ static inline const char *esa_words(unsigned number)
     case ESA_CLASH: return "a pin is claimed a second time";
     case ESA_NO_ROOM: return "no room for it";
     case ESA_PAST_THE_LAST: return "there is no such element, block or pair";
+    case ESA_AFTER_THE_END: return "the end has been called, and nothing more is received";
     case ESA_HEX: return "a line that is not Intel HEX as it is taken here";
     case ESA_STILL_NAMED: return "something still names it";
     case ESA_RETIRED: return "a bus type that is retired";
@@ -275,6 +280,55 @@ size_t esa_sheet_text(const uint16_t sheet[ESA_SHEET], uint64_t settings, uint8_
 static inline size_t esa_sheet_at(unsigned port, unsigned pin)
 {
     return 8 * (size_t)port + pin;
+}
+
+/* RECEIVING. A table that comes in pieces, as over USB in reports of 64 bytes. Wherever it is cut, the end gives the answer that
+   esa_check gives to all its bytes together, and nothing is told before. No copy of the table is needed on either side: a piece may
+   be overwritten as soon as its call returns. What must be known of the bytes gone by is kept in 'state', which the caller lends to
+   each call and else leaves alone: numbers of the description, of the one element under way, of zones, strings and pins. A state
+   has the same size whatever the table's; it may be copied and moved, and several tables may be received at a time, each with a
+   state of its own. What comes of a state that no start gave stands in docs/CALLS.md. */
+enum { ESA_RECEIVING = 2240 };
+
+struct esa_receiving {
+    size_t numbers[16];
+    uint16_t zone_places[256], string_places[256];
+    bool zones[256], strings[256], named_zones[256], named_strings[256];
+    uint8_t description[30], element[30];
+};
+typedef char esa_receiving_is_so_long[sizeof(struct esa_receiving) == ESA_RECEIVING ? 1 : -1];
+
+/* The library's calls, to which a state is lent part by part; those to use stand below. */
+uint64_t esa_receiving_start(size_t numbers[16], uint8_t description[30], uint8_t element[30], size_t settings);
+uint64_t esa_receiving_piece(size_t numbers[16], uint8_t description[30], uint8_t element[30], bool zones[256], bool strings[256],
+                             bool named_zones[256], bool named_strings[256], uint16_t zone_places[256],
+                             uint16_t string_places[256], const uint8_t *piece, size_t length);
+uint64_t esa_receiving_end(size_t numbers[16], const uint8_t description[30], const bool zones[256], const bool strings[256],
+                           const bool named_zones[256], const bool named_strings[256], const uint16_t zone_places[256],
+                           const uint16_t string_places[256]);
+
+/* Begins with no byte, for the chip and by the rules of the settings, whatever stood in 'state'. Always 0, and beside it 0. (The flags are
+   set here only to be 0 or 1, as a bool of C is: memory that was never written may hold anything.) */
+static inline uint64_t esa_receive_start(struct esa_receiving *state, uint64_t settings)
+{
+    for (size_t i = 0; i < 256; i++)
+        state->zones[i] = state->strings[i] = state->named_zones[i] = state->named_strings[i] = false;
+    return esa_receiving_start(state->numbers, state->description, state->element, (size_t)settings);
+}
+
+/* Takes the next bytes, however many; a piece of none changes nothing. 0, and beside it 0, also where the table is lost already. Or 20
+   at 0 after the end, and then no byte of 'state' alters. */
+static inline uint64_t esa_receive_piece(struct esa_receiving *state, const uint8_t *piece, size_t length)
+{
+    return esa_receiving_piece(state->numbers, state->description, state->element, state->zones, state->strings,
+                               state->named_zones, state->named_strings, state->zone_places, state->string_places, piece, length);
+}
+
+/* No more bytes come: what esa_check answers to those that came. Or 20 at 0 after the end, and then no byte of 'state' alters. */
+static inline uint64_t esa_receive_end(struct esa_receiving *state)
+{
+    return esa_receiving_end(state->numbers, state->description, state->zones, state->strings, state->named_zones,
+                             state->named_strings, state->zone_places, state->string_places);
 }
 
 /* WRITING. A table is started in a buffer and each element appended to it; bytes 1-2 of the buffer hold the length so far.

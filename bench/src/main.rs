@@ -5,6 +5,7 @@ mod corpora;
 mod fans;
 mod growth;
 mod putting;
+mod receiving;
 mod rounds;
 mod sides;
 mod writing;
@@ -12,9 +13,10 @@ mod writing;
 use std::process::ExitCode;
 
 /// What can be measured, by its name: prints and gives the number of differences.
-const PARTS: [(&str, fn() -> usize); 6] = [
+const PARTS: [(&str, fn() -> usize); 7] = [
     ("check", checking::report),
     ("growth", growth::report),
+    ("receiving", receiving::report),
     ("writing", writing::report),
     ("listing", putting::listing),
     ("rewriting", putting::rewriting),

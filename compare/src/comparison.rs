@@ -10,6 +10,7 @@ use crate::known::Row;
 use crate::options::Options;
 use crate::outcome::Outcome;
 use crate::question::{Origin, Question};
+use crate::receiving::Receiving;
 use crate::removals::Removals;
 use crate::settings;
 use crate::sheets::Sheets;
@@ -35,6 +36,8 @@ pub struct Comparison {
     sheets: Option<Sheets>,
     /// Move every table to HEX and back too.
     hex: Option<Hex>,
+    /// Have every table received in pieces too.
+    receiving: Option<Receiving>,
 }
 
 /// Numbers that no table has, and that are small ones in their low bits.
@@ -80,6 +83,10 @@ impl Comparison {
                 true => Some(Hex::start(options)?),
                 false => None,
             },
+            receiving: match options.receive {
+                true => Some(Receiving::start(options)?),
+                false => None,
+            },
             elements: options.elements,
             listing: options.listing,
         })
@@ -114,6 +121,7 @@ impl Comparison {
             self.fields(origin, number, &table, settings == made_for)?;
             self.fans(origin, number, &table)?;
             self.sheets(origin, number, &table)?;
+            self.receive(origin, number, &table)?;
         }
         self.removals(origin, turn, &table)?;
         self.hex(origin, &all, turn, &table)
@@ -159,7 +167,8 @@ impl Comparison {
         self.fans(origin, settings, &table)?;
         self.removals(origin, turn, &table)?;
         self.sheets(origin, settings, &table)?;
-        self.hex(origin, &[row.settings], turn, &table)
+        self.hex(origin, &[row.settings], turn, &table)?;
+        self.receive(origin, settings, &table)
     }
 
     /// Holds both sides to the papers' answers of fans, if they are asked for.
@@ -185,6 +194,18 @@ impl Comparison {
     /// Compares the calls on parts at their edges.
     pub fn part_edges(&mut self) -> Result<(), String> {
         self.fields.as_mut().map_or(Ok(()), Fields::part_edges)
+    }
+
+    /// Compares receivers at their edges.
+    pub fn receiving_edges(&mut self) -> Result<(), String> {
+        self.receiving.as_mut().map_or(Ok(()), Receiving::edges)
+    }
+
+    fn receive(&mut self, origin: Origin, settings: u64, table: &Rc<[u8]>) -> Result<(), String> {
+        match &mut self.receiving {
+            Some(receiving) => receiving.table(origin, settings, table),
+            None => Ok(()),
+        }
     }
 
     /// Those of its parts too, if they are asked for.
@@ -274,7 +295,9 @@ impl Comparison {
         let removals = self.removals.as_ref().map_or(0, Removals::differences);
         let sheets = self.sheets.as_ref().map_or(0, Sheets::differences);
         let hex = self.hex.as_ref().map_or(0, Hex::differences);
-        self.exchange.tally.all_differences() + fields + fans + removals + sheets + hex
+        let receiving = self.receiving.as_ref().map_or(0, Receiving::differences);
+        let asked_of_tables = fields + fans + removals + sheets + hex + receiving;
+        self.exchange.tally.all_differences() + asked_of_tables
     }
 
     pub fn finish(self) -> Result<Tally, String> {
@@ -284,6 +307,7 @@ impl Comparison {
         tally.removals = self.removals.map(Removals::finish).transpose()?;
         tally.sheets = self.sheets.map(Sheets::finish).transpose()?;
         tally.hex = self.hex.map(Hex::finish).transpose()?;
+        tally.receiving = self.receiving.map(Receiving::finish).transpose()?;
         Ok(tally)
     }
 }

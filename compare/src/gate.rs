@@ -7,6 +7,7 @@ use crate::hex;
 use crate::known;
 use crate::options::Options;
 use crate::question::Origin;
+use crate::receiving;
 use crate::removals;
 use crate::sheets;
 use crate::tally::Tally;
@@ -36,6 +37,7 @@ pub fn gate(options: &Options) -> Result<bool, String> {
         comparison.table(Origin::Case(name), Chip::F321.into(), table)?;
     }
     comparison.part_edges()?;
+    comparison.receiving_edges()?;
     for seed in SEEDS {
         let mut random = Random::new(seed);
         for at in 0..TABLES_OF_A_SEED {
@@ -77,6 +79,8 @@ fn judged(tally: &Tally, elements: bool) -> bool {
         .is_none_or(removals::Tally::all_came);
     good &= tally.sheets.as_ref().is_none_or(sheets::Tally::all_came);
     good &= tally.hex.as_ref().is_none_or(hex::Tally::all_came);
+    let receiving = tally.receiving.as_ref();
+    good &= receiving.is_none_or(receiving::Tally::all_came);
     tally.print_sum();
     good && tally.all_differences() == 0
 }

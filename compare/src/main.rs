@@ -17,6 +17,7 @@ mod options;
 mod outcome;
 mod progress;
 mod question;
+mod receiving;
 mod removals;
 mod settings;
 mod sheets;
@@ -29,8 +30,8 @@ use options::{Command, Options};
 use std::process::ExitCode;
 
 const USAGE: &str = "\
-use: compare gate [--elements] [--listing] [--fields] [--fans] [--removals] [--sheets] [--hex] [--writer] [--first] --driver COMMAND...
-     compare long --seed S --count N [--elements] [--listing] [--fields] [--fans] [--removals] [--sheets] [--hex] --driver COMMAND...
+use: compare gate [--elements] [--listing] [--fields] [--fans] [--removals] [--sheets] [--hex] [--receive] [--writer] [--first] --driver COMMAND...
+     compare long --seed S --count N [--elements] [--listing] [--fields] [--fans] [--removals] [--sheets] [--hex] [--receive] --driver COMMAND...
      compare writer --seed S --count N --driver COMMAND...
      compare stand-in
 ";

@@ -25,6 +25,7 @@ pub struct Options {
     pub removals: bool,
     pub sheets: bool,
     pub hex: bool,
+    pub receive: bool,
     /// The gate: the writer's calls too.
     pub writer: bool,
     /// The gate: it ends at the first difference.
@@ -45,6 +46,7 @@ struct Given {
     removals: bool,
     sheets: bool,
     hex: bool,
+    receive: bool,
     writer: bool,
     first: bool,
     driver: Vec<String>,
@@ -72,6 +74,7 @@ impl Given {
                 "--removals" => given.removals = true,
                 "--sheets" => given.sheets = true,
                 "--hex" => given.hex = true,
+                "--receive" => given.receive = true,
                 "--writer" => given.writer = true,
                 "--first" => given.first = true,
                 "--driver" => given.driver = words.by_ref().cloned().collect(),
@@ -99,7 +102,7 @@ impl Options {
             return Err("'--writer' and '--first' are for the gate alone".into());
         }
         let of_tables = given.elements || given.listing || given.fields || given.fans;
-        let of_tables = of_tables || given.removals || given.sheets || given.hex;
+        let of_tables = of_tables || given.removals || given.sheets || given.hex || given.receive;
         if of_tables && matches!(command, Command::Writer { .. }) {
             return Err("the writer's calls take '--seed' and '--count' alone".into());
         }
@@ -115,6 +118,7 @@ impl Options {
             removals: given.removals,
             sheets: given.sheets,
             hex: given.hex,
+            receive: given.receive,
             writer: given.writer,
             first: given.first,
             driver: given.driver,

@@ -6,6 +6,8 @@ use crate::fans::{self, Zones};
 use crate::fields::Reading;
 use crate::hex::Way;
 use crate::outcome::Outcome;
+use crate::question::Origin;
+use crate::receiving::{Conversation, Step};
 use crate::removals::{self, Removal};
 use crate::sheets::{Asking, SheetCall};
 use crate::writer::{Does, WriterCall};
@@ -50,6 +52,7 @@ fn answer(from: &mut impl Read) -> io::Result<Vec<u8>> {
         None if mode == Zones::MODE => of_fans(k, settings, &lent, from),
         None if mode == Removal::MODE => of_removals(k, settings, &lent, from),
         None if mode == Asking::MODE => of_sheets(k, settings, &lent, from),
+        None if mode == Conversation::MODE => of_steps(k, settings, &lent, from),
         None => of_readings(k, settings, &lent, from),
     }
 }
@@ -146,6 +149,23 @@ fn of_sheets(count: u64, settings: u64, table: &[u8], from: &mut impl Read) -> i
     Ok(replies)
 }
 
+/// So many steps follow the bytes that are received.
+fn of_steps(count: u64, settings: u64, lent: &[u8], from: &mut impl Read) -> io::Result<Vec<u8>> {
+    let mut steps = Vec::new();
+    for _ in 0..count {
+        let step = Step::of(&bytes(from, Step::LENGTH)?);
+        steps.push(step.ok_or(io::ErrorKind::InvalidData)?);
+    }
+    let conversation = Conversation {
+        origin: Origin::Known("as requested"),
+        settings,
+        bytes: lent.into(),
+        steps,
+    };
+    let answers = conversation.second();
+    Ok(answers.iter().flat_map(|one| one.0.to_le_bytes()).collect())
+}
+
 fn bytes(from: &mut impl Read, count: usize) -> io::Result<Vec<u8>> {
     let mut bytes = vec![0; count];
     from.read_exact(&mut bytes)?;
@@ -162,7 +182,6 @@ fn number(bytes: &[u8]) -> u64 {
 mod tests {
     use super::*;
     use crate::exchange::Asked;
-    use crate::question::Origin;
     use crate::writer::Stream;
     use second::generator::any;
     use second::random::Random;
@@ -204,6 +223,34 @@ mod tests {
         }
     }
 
+    /// A table in pieces of every sort, an end and what comes after it, in one request.
+    fn steps(table: &Rc<[u8]>, requests: &mut Vec<u8>, wanted: &mut Vec<u8>) {
+        let length = table.len();
+        let from = length / 2;
+        let conversation = Conversation {
+            origin: Origin::Known("any"),
+            settings: 3,
+            bytes: table.clone(),
+            steps: vec![
+                Step::Start(Some(7)),
+                Step::Piece {
+                    from: 0,
+                    length: from,
+                },
+                Step::Reports { from, size: 3 },
+                Step::End,
+                Step::End,
+                Step::Start(None),
+                Step::Again { length, times: 1 },
+                Step::End,
+                Step::Wild { seed: 5, size: 64 },
+            ],
+        };
+        conversation.request(requests);
+        let answers = conversation.second();
+        wanted.extend(answers.iter().flat_map(|one| one.0.to_le_bytes()));
+    }
+
     /// A sheet made afresh, brought forward and as text, in one request.
     fn sheets(table: &[u8], requests: &mut Vec<u8>, wanted: &mut Vec<u8>) {
         let call = |which| {
@@ -234,7 +281,9 @@ mod tests {
                 wanted.extend(of_reader(call, &table, 1));
             }
             readings(&table, &mut requests, &mut wanted);
-            zones_and_removals(&table.clone().into(), &mut requests, &mut wanted);
+            let lent: Rc<[u8]> = table.clone().into();
+            zones_and_removals(&lent, &mut requests, &mut wanted);
+            steps(&lent, &mut requests, &mut wanted);
             sheets(&table, &mut requests, &mut wanted);
             write.request(&mut requests);
             let Outcome { answer, buffer } = write.second();

@@ -8,6 +8,7 @@ use crate::fields;
 use crate::hex::Tally as HexTally;
 use crate::outcome::{hex, text, Differences, Outcome};
 use crate::question::Question;
+use crate::receiving;
 use crate::removals;
 use crate::sheets;
 use second::Settings;
@@ -31,6 +32,8 @@ pub struct Tally {
     pub sheets: Option<sheets::Tally>,
     /// And of texts in HEX.
     pub hex: Option<HexTally>,
+    /// And of tables in pieces.
+    pub receiving: Option<receiving::Tally>,
     /// By mode: how often each number came, both sides agreeing.
     answers: [Answers; 3],
 }
@@ -76,6 +79,9 @@ impl Tally {
         if let Some(hex) = &self.hex {
             hex.print_answers();
         }
+        if let Some(receiving) = &self.receiving {
+            receiving.print_answers();
+        }
     }
 
     /// Prints the answers of this mode that should have come and did not, those to a whole table and these
@@ -98,11 +104,12 @@ impl Tally {
         let removals = self.removals.as_ref().map_or(0, |them| them.differences.0);
         let sheets = self.sheets.as_ref().map_or(0, |them| them.differences.0);
         let hex = self.hex.as_ref().map_or(0, |hex| hex.differences.0);
-        let asked_of_tables = fields + fans + removals + sheets + hex;
+        let receiving = self.receiving.as_ref().map_or(0, |them| them.differences.0);
+        let asked_of_tables = fields + fans + removals + sheets + hex + receiving;
         self.differences.0 + self.listing_differences.0 + asked_of_tables
     }
 
-    /// The last line, or the last seven.
+    /// The last line, or the last eight.
     pub fn print_sum(&self) {
         println!("{} tables, {} differences", self.tables, self.differences.0);
         if self.listings > 0 {
@@ -123,6 +130,9 @@ impl Tally {
         }
         if let Some(hex) = &self.hex {
             hex.print_sum();
+        }
+        if let Some(receiving) = &self.receiving {
+            receiving.print_sum();
         }
     }
 }

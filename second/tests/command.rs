@@ -113,6 +113,12 @@ fn long_texts_are_not_cut_short() {
     assert_eq!(run(&["unhex"], &longest).stdout, b"R\t3\t0\n");
     let open = &longest[..longest.len() - 1];
     assert_eq!(run(&["unhex"], open).stdout, b"R\t21\t65537\n");
+    // A record at the last address may be long.
+    let front = &longest[..65_535 * 14];
+    let last = second::hex::record(65_535, 0, &[1; 255]);
+    let longer = [front, &last, b":00000001FF\n"].concat();
+    assert_eq!(longer.len(), 918_024);
+    assert_eq!(run(&["unhex"], &longer).stdout, b"R\t3\t0\n");
     for more in [&b"\n"[..], &[0; 1_000_000]] {
         let text = [&longest[..], more].concat();
         assert_eq!(run(&["unhex"], &text).stdout, b"R\t21\t65538\n");
@@ -130,6 +136,34 @@ fn long_input_is_not_cut_to_a_table() {
     assert_eq!(run(&["list"], &table).stdout, b"R\t3\t0\n");
     table[0] = 0x10;
     assert_eq!(run(&["list"], &table).stdout, b"R\t2\t0\n");
+}
+
+#[test]
+fn receives_in_reports_of_any_size() {
+    let good = raw::table(&[raw::fan(1, 0x05, 0x06), raw::zone(1, 0)]);
+    let bad = raw::table(&[raw::fan(1, 0x05, 0x06)]);
+    for words in [
+        &["receive"][..],
+        &["receive", "1"],
+        &["receive", "--chip", "321", "4096"],
+    ] {
+        assert_eq!(run(words, &good).stdout, b"ok\t2\n", "{words:?}");
+        assert_eq!(run(words, &bad).stdout, b"R\t13\t16\n", "{words:?}");
+        assert_eq!(run(words, &[]).stdout, b"R\t1\t0\n", "{words:?}");
+    }
+    let mut pin = TABLE_A;
+    pin[9] = 0x24;
+    assert_eq!(run(&["receive", "--chip", "320"], &pin).stdout, b"ok\t0\n");
+    assert_eq!(
+        run(&["receive", "--chip", "321"], &pin).stdout,
+        b"R\t10\t0\n"
+    );
+    let old = raw::table(&[raw::digital(1, 2, 0x40), raw::zone(1, 0)]);
+    assert_eq!(run(&["receive"], &old).stdout, b"R\t23\t16\n");
+    assert_eq!(run(&["receive", "--archive"], &old).stdout, b"ok\t2\n");
+    let mut long = TABLE_A.to_vec();
+    long.resize(65_552, 0);
+    assert_eq!(run(&["receive"], &long).stdout, b"R\t3\t0\n");
 }
 
 #[test]
@@ -186,7 +220,7 @@ fn holds_itself_against_itself() {
 
 #[test]
 fn misuse_is_told_and_gives_status_2() {
-    let misuses: [&[&str]; 46] = [
+    let misuses: [&[&str]; 52] = [
         &[],
         &["dance"],
         &["list", "extra"],
@@ -196,6 +230,12 @@ fn misuse_is_told_and_gives_status_2() {
         &["self", "--speed", "1"],
         &["make", "cake", "--seed", "1", "--count", "1", "somewhere"],
         &["bench", "now"],
+        &["receive", "0"],
+        &["receive", "4097"],
+        &["receive", "64", "64"],
+        &["receive", "x"],
+        &["receive", ""],
+        &["receive", "--report", "64"],
         &["list", "--chip"],
         &["list", "--chip", "322"],
         &["list", "--chip", "0320"],

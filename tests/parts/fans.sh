@@ -103,7 +103,7 @@ fans_program() {
     try "the program fan without a word" program_complains
     try "the program fan with options alone" program_complains --chip 321
     try "the program fan with two words" program_complains 0 1
-    try "the program fan --archive" program_says "The option --archive is not taken here: this program has the ordinary rules alone." fan --archive 1
+    try "the program fan --archive" program_says "The option --archive is not taken here: this program has one set of rules." fan --archive 1
 }
 
 fans() {

@@ -10,7 +10,9 @@ ready() {
     timeout 900 "$root/esa" fan "$root/tables/quiet-box.esa" 1 >/dev/null || die "the program fan does not run"
     timeout 900 "$root/esa" remove "$root/tables/quiet-box.esa" 0 "$work/first" || die "the program remove does not run"
     timeout 900 "$root/esa" pins "$root/tables/quiet-box.esa" >/dev/null || die "the program pins does not run"
+    timeout 900 "$root/esa" receive "$root/tables/quiet-box.esa" >/dev/null || die "the program receive does not run"
     list=$("$root/tools/as-rt" "$root/target/bin/list") || exit 2
+    receive=$("$root/tools/as-rt" "$root/target/bin/receive") || exit 2
     rewrite=$("$root/tools/as-rt" "$root/target/bin/rewrite") || exit 2
     seek=$("$root/tools/as-rt" "$root/target/bin/fan") || exit 2
     take=$("$root/tools/as-rt" "$root/target/bin/remove") || exit 2
@@ -99,10 +101,24 @@ hold_archived() { # CHIP NAME FILE
     options=''
 }
 
+# In reports of a size that changes from file to file.
+hold_received() { # CHIP NAME FILE
+    options="--chip $1 $(report)"
+    runs receive "$receive" <"$3"
+    wanted "$3" receive
+    judge "$2" receive
+    options=''
+}
+
+report() {
+    case $((files / 6 % 4)) in 0) echo 64 ;; 1) echo 1 ;; 2) echo 7 ;; 3) echo 4096 ;; esac
+}
+
 hold() { # NAME FILE
     for chip in 320 321; do
         hold_on $chip "$1" "$2"
         hold_archived $chip "$1" "$2"
+        hold_received $chip "$1" "$2"
     done
 }
 
@@ -119,4 +135,13 @@ hold_piped() { # NAME FILE COMMAND...
     "$@" 2>/dev/null | runs pins "$sheet"
     wanted "$file" list rewrite fan remove pins
     judge "$name" list rewrite fan remove pins
+}
+
+# The same to receive, through a pipe that ends.
+hold_piped_received() { # NAME FILE COMMAND...
+    name=$1 file=$2
+    shift 2
+    "$@" 2>/dev/null | runs receive "$receive"
+    wanted "$file" receive
+    judge "$name" receive
 }

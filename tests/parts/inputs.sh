@@ -39,13 +39,15 @@ slowly() { # FILE
 
 pipes() {
     box=$root/tables/quiet-box.esa
-    hold_piped 'a pipe' "$box" cat "$box"
-    hold_piped 'a pipe, filled byte by byte' "$box" dd bs=1 if="$box"
-    hold_piped '4,097 bytes and more, byte by byte' "$work/large" dd bs=1 if="$work/large"
-    head -c 62 "$root/tables/spring.esa" >"$work/input"
-    hold_piped 'a slow pipe that ends early' "$work/input" slowly "$work/input"
-    "$root/tools/bytes" 011000020007000080FFFFFF00000000 >"$work/input"
-    hold_piped 'a slow pipe' "$work/input" slowly "$work/input"
+    for way in hold_piped hold_piped_received; do
+        $way 'a pipe' "$box" cat "$box"
+        $way 'a pipe, filled byte by byte' "$box" dd bs=1 if="$box"
+        $way '4,097 bytes and more, byte by byte' "$work/large" dd bs=1 if="$work/large"
+        head -c 62 "$root/tables/spring.esa" >"$work/input"
+        $way 'a slow pipe that ends early' "$work/input" slowly "$work/input"
+        "$root/tools/bytes" 011000020007000080FFFFFF00000000 >"$work/input"
+        $way 'a slow pipe' "$work/input" slowly "$work/input"
+    done
     yes | head -c 5000 >"$work/input"
     hold_piped 'a pipe that never ends' "$work/input" yes
 }
@@ -59,6 +61,7 @@ no_input() {
     runs fan "$seek" "$zone" <&-
     runs remove "$take" "$element" <&-
     runs pins "$sheet" <&-
-    wanted "$work/input" list rewrite fan remove pins
-    judge 'a closed standard input' list rewrite fan remove pins
+    runs receive "$receive" <&-
+    wanted "$work/input" list rewrite fan remove pins receive
+    judge 'a closed standard input' list rewrite fan remove pins receive
 }

@@ -18,6 +18,7 @@ row() { # NAME HEX LINE
             printf "wrong: %s: %s the %s the documents want '%s'\n" "$1" $way $chip "$3"
             [ "$right" = no ] || wrong=$((wrong + 1))
         done
+        hold_received $chip "$1" "$work/row"
     done
 }
 

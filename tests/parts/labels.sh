@@ -69,7 +69,7 @@ labels_program() {
     try "the program label with options alone" program_says "$words" label --chip 321 --
     try "the program label with three words" program_says "$words" label 0 1 2
     try "the program label with a name of 65,537 bytes" program_says "$words" label 0 "$(printf '%065537d' 0)"
-    try "the program label --archive" program_says "The option --archive is not taken here: this program has the ordinary rules alone." label --archive 0
+    try "the program label --archive" program_says "The option --archive is not taken here: this program has one set of rules." label --archive 0
 }
 
 labels() {

@@ -69,7 +69,7 @@ both_rules() {
 no_option_of() { # COMMAND OUT...
     command=$1
     shift
-    for word in --all --archives --chip=321 -x --chips; do
+    for word in --all --archives --chip=321 -x --chips --reports; do
         none="esa: there is no option '$word'; if it is a file, put ./ before it"
         try "$command $word" complains 2 "$none" "$command" "$word" good "$@"
         try "$command --chip 321 $word" complains 2 "$none" "$command" --chip 321 "$word" good "$@"
@@ -94,6 +94,7 @@ no_options() {
     no_option_of pins
     no_option_of hex never
     no_option_of unhex never
+    no_option_of receive
     for command in check list; do
         try "$command --archive twice" complains 2 "esa: the option --archive is given twice" $command --archive --chip 321 --archive good
     done
@@ -135,7 +136,7 @@ programs_words() {
     twice="The option --chip stands more than once."
     archive_twice="The option --archive stands more than once."
     extra="A word stands behind the options, and none is taken: the table comes on standard input."
-    for program in list rewrite verdicts pins; do
+    for program in list rewrite verdicts pins receive; do
         for word in --all --chip=321 --chi --chipp -x - --archiv --archives; do
             try "the program $program $word" program_says "$unknown" "$program" "$word"
         done
@@ -152,7 +153,7 @@ programs_words() {
         try "the program $program with a file behind its options" program_says "$extra" "$program" --chip 321 -- good
         try "the program $program with an empty word" program_says "$extra" "$program" ''
     done
-    no_archive="The option --archive is not taken here: this program has the ordinary rules alone."
+    no_archive="The option --archive is not taken here: this program has one set of rules."
     try "the program rewrite --archive" program_says "$no_archive" rewrite --archive
     try "the program rewrite --archive --chip 321" program_says "$no_archive" rewrite --archive --chip 321
     try "the program pins --archive" program_says "$no_archive" pins --archive

@@ -131,7 +131,7 @@ removals_program() {
     try "the program remove without a word" program_says "$words" remove
     try "the program remove with options alone" program_says "$words" remove --chip 321 --
     try "the program remove with two words" program_says "$words" remove 0 1
-    try "the program remove --archive" program_says "The option --archive is not taken here: this program has the ordinary rules alone." remove --archive 0
+    try "the program remove --archive" program_says "The option --archive is not taken here: this program has one set of rules." remove --archive 0
 }
 
 # Every command of a text, one after the other, prints on either output what stands under it.

@@ -67,4 +67,5 @@ first_use() {
     "$esa" remove "$tables/quiet-box.esa" 0 "$work/first" && rm -f "$work/first"
     "$esa" pins "$tables/quiet-box.esa" >/dev/null
     "$esa" hex "$tables/quiet-box.esa" "$work/first" && "$esa" unhex "$work/first" "$work/first" && rm -f "$work/first"
+    "$esa" receive "$tables/quiet-box.esa" >/dev/null
 }

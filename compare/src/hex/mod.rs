@@ -39,14 +39,19 @@ fn has_its_turn(turn: u64) -> bool {
     (turn + turn / 8).is_multiple_of(8)
 }
 
+/// Half of those that are moved, whatever chip they were made for.
+fn every_other(turn: u64) -> bool {
+    (turn / 64).is_multiple_of(2)
+}
+
 /// What is written needs so much: just that, one byte less, and now and then more. With a refusal all of it or little.
 fn rooms(accepted: bool, needed: usize, turn: u64) -> Vec<usize> {
     let some = turn as usize % 50;
-    match (accepted, turn % 2) {
-        (true, 0) => vec![needed, needed - 1],
-        (true, _) => vec![needed, needed - 1, needed + 1 + some],
-        (false, 0) => vec![needed],
-        (false, _) => vec![some],
+    match (accepted, every_other(turn)) {
+        (true, false) => vec![needed, needed - 1],
+        (true, true) => vec![needed, needed - 1, needed + 1 + some],
+        (false, false) => vec![needed],
+        (false, true) => vec![some],
     }
 }
 
@@ -77,7 +82,7 @@ impl Hex {
         for room in rooms(good, table.len(), turn) {
             self.ask(origin, Way::Back, settings, &text, room)?;
         }
-        if good || turn % 2 == 0 {
+        if good || every_other(turn) {
             let other = second::hex::text(table, 1 + turn as usize % 255).into();
             self.ask(origin, Way::Back, settings, &other, table.len())?;
         }

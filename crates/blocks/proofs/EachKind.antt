@@ -50,7 +50,7 @@ module _ (r : Counted) (end least most : ℕ) where
   filled-by e h g = rw (eq-eqb (r .at) end e, le-leb least (r .blocks) h, le-leb (r .blocks) most g) refl
 
 -- so many blocks of ENTRIES and pairs, after a cut past so many or more
-counted-pairs : (n m : ℕ) (p : List ℕ) → n ≤ m → fills (countOf m 0 p) (length p) n n ≡ isSome (exact n 0 p)
+pub counted-pairs : (n m : ℕ) (p : List ℕ) → n ≤ m → fills (countOf m 0 p) (length p) n n ≡ isSome (exact n 0 p)
 counted-pairs n m p h =
     let e : length p + 0 ≡ length p = omega arith in
     go (countOf m 0 p) (exact n 0 p) (rw e at (told 0 n m p h))

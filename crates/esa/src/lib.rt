@@ -9,6 +9,11 @@ ghost use Rattle.spelling.specs.Spelling.{Put};
 ghost use Rattle.pinsheet.specs.Sheet.{sheet as sheetOf, forward as forwardOf};
 ghost use Rattle.sheets.specs.Lines.{read};
 ghost use Rattle.pinlines.specs.Text.{text as textOf};
+ghost use Rattle.pass.specs.Tracks.{flags};
+ghost use Rattle.states.specs.Numbers.{settingsOf as settledOf};
+ghost use Rattle.ending.specs.Stands.{lent};
+ghost use Rattle.receiving.specs.Receiving.{PieceIs};
+ghost use Rattle.reports.specs.Face.{StartedFor as BegunFor, EndedFor};
 ghost use Rattle.esa.specs.Settled.{chipOf, rulesOf, settingsOf};
 ghost use Rattle.esa.specs.Face.{Checked, AskedFor, PartFor};
 ghost use Rattle.esa.specs.Fields.{DescribedFor, FieldsFor};
@@ -131,6 +136,55 @@ pub extern "C" fn esa_fan(table: &[u8], zone: u8, settings: u64) -> u64
     ensures { λ r. ⌜ FanFor (settingsOf settings) (now (table .entry)) zone r ⌝ }
 {
     packing::zoned(fans::in_zone(table, zone, settings_of(settings)))
+}
+
+// A table that comes in pieces, over a state that is lent part by part: begins with no byte. 0.
+#[no_mangle]
+pub extern "C" fn esa_receiving_start(
+    n: &mut [usize; 16],
+    first: &mut [u8; 30],
+    head: &mut [u8; 30],
+    settings: usize,
+) -> u64
+    ensures { λ r. ⌜ BegunFor (settledOf settings) r (now (n .exit)) (now (first .exit)) (now (head .exit)) ⌝ }
+{
+    reports::start(n, first, head, settings)
+}
+
+// The next bytes: 0, or 20 after the end.
+#[no_mangle]
+pub extern "C" fn esa_receiving_piece(
+    n: &mut [usize; 16],
+    first: &mut [u8; 30],
+    head: &mut [u8; 30],
+    zs: &mut [bool; 256],
+    ss: &mut [bool; 256],
+    zu: &mut [bool; 256],
+    su: &mut [bool; 256],
+    zp: &mut [u16; 256],
+    sp: &mut [u16; 256],
+    piece: &[u8],
+) -> u64
+    ensures { λ r. ⌜ PieceIs (lent (now (n .entry)) (now (first .entry)) (now (head .entry)) (flags (now (zs .entry)) (now (ss .entry)) (now (zu .entry)) (now (su .entry))) (now (zp .entry)) (now (sp .entry))) (now (piece .entry)) r (lent (now (n .exit)) (now (first .exit)) (now (head .exit)) (flags (now (zs .exit)) (now (ss .exit)) (now (zu .exit)) (now (su .exit))) (now (zp .exit)) (now (sp .exit))) ⌝ }
+{
+    reports::piece(n, first, head, zs, ss, zu, su, zp, sp, piece)
+}
+
+// No more bytes come. Beside 0 stands the number of elements, beside a refusal its place.
+#[no_mangle]
+pub extern "C" fn esa_receiving_end(
+    n: &mut [usize; 16],
+    first: &[u8; 30],
+    zs: &[bool; 256],
+    ss: &[bool; 256],
+    zu: &[bool; 256],
+    su: &[bool; 256],
+    zp: &[u16; 256],
+    sp: &[u16; 256],
+) -> u64
+    ensures { λ r. ⌜ EndedFor (now (n .entry)) (now (first .entry)) (flags (now (zs .entry)) (now (ss .entry)) (now (zu .entry)) (now (su .entry))) (now (zp .entry)) (now (sp .entry)) r (now (n .exit)) ⌝ }
+{
+    reports::end(n, first, zs, ss, zu, su, zp, sp)
 }
 
 // 09h: SPEED and ENTRIES of speed block j of a part.

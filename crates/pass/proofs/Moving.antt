@@ -17,7 +17,7 @@ use Rattle.format.specs.Decode.{content, decode}
 use Rattle.format.specs.Reader.{judge, orStop, step, Outcome, took, stop}
 use Rattle.format.specs.declared.settings.Settings.{Settings}
 use Rattle.format.specs.declared.records.Description.{Description}
-use Rattle.pass.specs.Tracks.{Flags, Tracks, Went, TakeIs, Moves, MoveIs}
+use Rattle.pass.specs.Tracks.{Flags, Low, Tracks, Went, TakeIs, Moves, MoveIs}
 use Rattle.pass.specs.declared.State.{State}
 use Rattle.pass.specs.declared.Step.{Step}
 use Rattle.pass.specs.declared.Moved.{Moved}
@@ -55,14 +55,19 @@ content-at t at {n} p g =
 byte-first : (t : List ℕ) (at : ℕ) → byte (drop at t) 0 ≡ byte t at
 byte-first t at = getD-drop at t 0 0 ∙ ap (λ (n : ℕ). getD t n 0) (omega arith)
 
-module _ (σ : Settings) (t : List ℕ) (at : ℕ) (s : State) (f : Flags) (r : Moved) (g : Flags) where
-  pub move-6 : r .stop ≡ 6 → r .state ≡ s → g ≡ f → framed (drop at t) ≡ false → MoveIs σ t at s f r g
-  unfolding step
-  move-6 p q w e = record { moves = λ d before place k. rw e (p, omega arith, q, w) }
+-- 6
+pub unframed : (σ : Settings) (t : List ℕ) (at : ℕ) (before : List Record) → framed (drop at t) ≡ false → step σ before (drop at t) ≡ stop 6
+unfolding step
+unframed σ t at before e = rw e refl
 
-  pub move-11 : r .stop ≡ 11 → r .state ≡ s → g ≡ f → framed (drop at t) ≡ true → 96 ≤ s .count → MoveIs σ t at s f r g
+module _ (σ : Settings) (t : List ℕ) (at base : ℕ) (s : State) (f : Flags) (r : Moved) (g : Flags) where
+  pub move-6 : Low (r .state) → r .stop ≡ 6 → r .state ≡ s → g ≡ f → framed (drop at t) ≡ false → MoveIs σ t at base s f r g
   unfolding step
-  move-11 p q w e h = record { moves = λ d before place k. rw (e, le-ltb (length before) 96 (omega (arith, k .count))) (p, omega arith, q, w) }
+  move-6 low p q w e = record { low = low; fits = λ z. absurd (omega (arith, z, p)); moves = λ d before place k. rw e (p, omega arith, q, w) }
+
+  pub move-11 : Low (r .state) → r .stop ≡ 11 → r .state ≡ s → g ≡ f → framed (drop at t) ≡ true → 96 ≤ s .count → MoveIs σ t at base s f r g
+  unfolding step
+  move-11 low p q w e h = record { low = low; fits = λ z. absurd (omega (arith, z, p)); moves = λ d before place k. rw (e, le-ltb (length before) 96 (omega (arith, k .count))) (p, omega arith, q, w) }
 
   moved :
       (d : Description) (before : List Record) (q : Step) (o : Outcome)
@@ -80,18 +85,21 @@ module _ (σ : Settings) (t : List ℕ) (at : ℕ) (s : State) (f : Flags) (r : 
       (q : Step) {id : ℕ} {c : List ℕ}
       → id ≡ byte t at
       → c ≡ content (drop at t)
-      → TakeIs σ id c at s f q g
+      → TakeIs σ id c (base + at) s f q g
       → r .stop ≡ q .stop
       → r .state ≡ q .state
       → r .len ≡ stated (drop at t)
       → 3 ≤ r .len
       → r .len ≤ length t - at
+      → at ≤ length t
       → s .count < 96
-      → MoveIs σ t at s f r g
+      → MoveIs σ t at base s f r g
   unfolding step
-  move-on q {id} {c} i same w p st l m h n =
+  move-on q {id} {c} i same w p st l m h k n =
       let d : id ≡ byte (drop at t) 0 = i ∙ sym (byte-first t at) in
       record {
+        low = rw st (w .low);
+        fits = λ _. (m, omega arith);
         moves =
             λ e before place k.
             rw (framed-good t at l m h, lt-ltb (length before) 96 (omega (arith, k .count)), ← d, ← same)

@@ -19,9 +19,13 @@ use Rattle.format.proofs.Kept.{zero-none, some-number, own-numbered, against-nu
 use Rattle.format.proofs.Growing.{gathered-snoc, claims-snoc, last-snoc}
 use Rattle.flags.specs.Marks.{Marks}
 use Rattle.claims.specs.Taken.{HeldIs}
-use Rattle.pass.specs.Tracks.{Flags, Tracks, Leaves, StepIs}
+use Rattle.pass.specs.Tracks.{Flags, Low, Tracks, Leaves, StepIs}
 use Rattle.pass.specs.declared.State.{State}
 use Rattle.pass.specs.declared.Step.{Step}
+
+-- a step can go on from the state as it was
+pub low-kept : (s t : State) → s .count ≤ 96 → s .zones ≤ 12 → t ≡ s → Low t
+low-kept s t a b e = rw e (record { most = a; few = b })
 
 -- one element more is tracked
 pub track :

@@ -34,7 +34,7 @@ use Rattle.claims.specs.declared.Held.{Held}
 use Rattle.rules.specs.Broken.{orElse}
 use Rattle.found.specs.Judged.{FansAre, ownFault, Judged}
 use Rattle.found.specs.declared.Found.{Found}
-use Rattle.pass.specs.Tracks.{Flags, flags, Tracks, Leaves, StepIs, PlacedStep, Went, TakeIs}
+use Rattle.pass.specs.Tracks.{Flags, flags, Low, Tracks, Leaves, StepIs, PlacedStep, Went, TakeIs}
 use Rattle.pass.specs.declared.State.{State}
 use Rattle.pass.specs.declared.Step.{Step}
 use Rattle.pass.proofs.Stepped.{track, own-fault, later-fault, no-fault}
@@ -101,6 +101,14 @@ module _ (σ : Settings) (c : List ℕ) (small : Bytes c) (at : ℕ) (s : State)
         (no-claims (s .held) (r .state .held) h (tr .held))
         g)
 
+-- .. and where 11 is not said there is room for a zone more
+pub zone-room : (z m : ℕ) {k : ℕ} → k ≡ orElse (ltb z 12) 11 m → k ≡ 0 → z < 12
+zone-room z m {k} l n = go (ltb z 12) refl l
+  where
+    go : (t : Bool) → ltb z 12 ≡ t → k ≡ orElse t 11 m → z < 12
+    go true e q = ltb-true z 12 e
+    go false e q = absurd (omega (arith, q, n))
+
 -- 0Ch
 module _ (σ : Settings) (c : List ℕ) (small : Bytes c) (at : ℕ) (s : State) (zs ss zu su : List Bool) (r : Step) where
   module _ {j : ℕ} (e : j ≡ numbered (firstBroken (ownRules σ (string c)))) (o : j ≡ 0) {t : ℕ} (w : t ≡ byte c 0) where
@@ -143,10 +151,11 @@ module _ (σ : Settings) (c : List ℕ) (small : Bytes c) (at : ℕ) (s : State)
         g)
 
 -- an element in a zone
-module _ (f : Found) (c : List ℕ) (small : Bytes c) (at : ℕ) (s : State) (zu su : List Bool) (r : Step) where
+module _ (f : Found) (c : List ℕ) (small : Bytes c) (at : ℕ) (s : State) (zu su : List Bool) (r : Step) (down : Low (r .state)) where
   pub placed-fault : (f .fault ≡ 0 → ⊥) → r .stop ≡ f .fault → r .state ≡ s → PlacedStep f c at s zu su r zu su
   placed-fault n p q =
       record {
+        low = down;
         faulty = λ _. (p, q, refl, refl);
         steps = λ σ x v e k w zs ss. own-fault σ x at s (flags zs ss zu su) r (flags zs ss zu su) e n p q refl;
       }
@@ -167,6 +176,7 @@ module _ (f : Found) (c : List ℕ) (small : Bytes c) (at : ℕ) (s : State) (zu
       pub placed-late : t ≡ false → r .stop ≡ 10 → r .state ≡ s → PlacedStep f c at s zu su r zu su
       placed-late e p q =
           record {
+            low = down;
             faulty = λ n. absurd (n o);
             steps =
                 λ σ x y i k w zs ss.
@@ -197,6 +207,7 @@ module _ (f : Found) (c : List ℕ) (small : Bytes c) (at : ℕ) (s : State) (zu
       → PlacedStep f c at s zu su r zu′ su′
   placed-good {z} {t} {zu′} {su′} {h} o i j low w v p a b m g l q u =
       record {
+        low = down;
         faulty = λ n. absurd (n o);
         steps =
             λ σ x y e k n zs ss.
@@ -225,10 +236,10 @@ went-of :
 went-of d before x s f r g none l = l
 went-of d before x s f r g (some k) l = l
 
-module _ (σ : Settings) (id : ℕ) (c : List ℕ) (at : ℕ) (s : State) (f : Flags) (r : Step) (g : Flags) where
+module _ (σ : Settings) (id : ℕ) (c : List ℕ) (at : ℕ) (s : State) (f : Flags) (r : Step) (g : Flags) (low : Low (r .state)) where
   take-record : (x : Record) → known id ≡ true → decode (σ .chip) id c ≡ some x → StepIs σ x at s f r g → TakeIs σ id c at s f r g
   take-record x n e l =
-      record { takes = λ d before place t. rw (n, e) (went-of d before x s f r g (elementBreaks σ before x) (l .leaves d before place t)) }
+      record { low = low; takes = λ d before place t. rw (n, e) (went-of d before x s f r g (elementBreaks σ before x) (l .leaves d before place t)) }
 
   pub take-zone : id ≡ 11 → StepIs σ (zone c) at s f r g → TakeIs σ id c at s f r g
   unfolding decode
@@ -240,7 +251,7 @@ module _ (σ : Settings) (id : ℕ) (c : List ℕ) (at : ℕ) (s : State) (f : F
 
   -- 7
   pub take-unknown : known id ≡ false → r .stop ≡ 7 → r .state ≡ s → g ≡ f → TakeIs σ id c at s f r g
-  take-unknown e p q w = record { takes = λ d before place t. rw e (p, omega arith, q, w) }
+  take-unknown e p q w = record { low = low; takes = λ d before place t. rw e (p, omega arith, q, w) }
 
 -- the others: each is placed in a zone
 abbrev pub Placed : List ℕ → Option Record → Type 0
@@ -309,13 +320,14 @@ module _ (σ : Settings) (id k : ℕ) (c : List ℕ) (at : ℕ) (s : State) (zs 
           let q : f .fault ≡ 8 = j .right ∙ ap (ownFault σ) d in
           let w = p .faulty (λ n. omega (arith, q, n)) in
           record {
+            low = p .low;
             takes =
                 λ d′ before place t.
                 rw (known-placed k zone-not text-not i, d)
                 (w .0 ∙ q, omega arith, w .1, cc);
           }
       by (some x) d =
-          take-record σ k c at s (flags zs ss zu su) r (flags zs ss zu′ su′) x (known-placed k zone-not text-not i) d
+          take-record σ k c at s (flags zs ss zu su) r (flags zs ss zu′ su′) (p .low) x (known-placed k zone-not text-not i) d
           (p .steps σ x (subst (Placed c) d (decode-placed (σ .chip) k c zone-not text-not)) (j .right ∙ ap (ownFault σ) d) (λ n. j .claimed n x d) (λ n. j .counted n x d) zs ss)
 
 pub not-known :

@@ -1,13 +1,13 @@
 -- What the state and the flags of the pass say of the elements so far, and what its steps leave.
 -- Assumes nothing.
-use Prim.Native.Nat.{ℕ, _+_, _<_, _≤_}
+use Prim.Native.Nat.{ℕ, _+_, _-_, _<_, _≤_}
 use mathlib.Core.Path.{_≡_}
 use mathlib.Core.Bool.{Bool}
 use mathlib.Core.List.{List, [], _∷_, _++_}
 use mathlib.Core.Option.{Option, none, some}
 use lib.ListN.{length, drop}
-use Rattle.format.specs.Slots.{byte}
-use Rattle.format.specs.Records.{Record}
+use Rattle.format.specs.Slots.{byte, Bytes}
+use Rattle.format.specs.Records.{Record, string}
 use Rattle.format.specs.Layout.{placeAfter}
 use Rattle.format.specs.Rules.{numbered, firstBroken, ownRules}
 use Rattle.format.specs.ZonesAndStrings.{placed, role, gathered, zones, strings, zoneNamed, stringNamed}
@@ -38,6 +38,11 @@ pub record Flags : Type 0 where
 abbrev pub flags : List Bool → List Bool → List Bool → List Bool → Flags
 flags zs ss zu su = record { zones-declared = zs; strings-declared = ss; zones-named = zu; strings-named = su }
 
+-- numbers that a step can go on from, whatever they stand for
+pub record Low (s : State) : Type 0 where
+  pub most : s .count ≤ 96
+  pub few : s .zones ≤ 12
+
 -- the state and the flags say what the elements before declare, name, claim and use of the fan list, after a description
 pub record Tracks (d : Description) (s : State) (f : Flags) (before : List Record) : Type 0 where
   pub count : s .count ≡ length before
@@ -64,8 +69,20 @@ pub record StepIs (σ : Settings) (x : Record) (at : ℕ) (s : State) (f : Flags
       → Tracks d s f before
       → Leaves d before x s f r after (elementBreaks σ before x)
 
+-- the step of a string, from what is known of its bytes alone and its number
+pub record TextJudged (own n : ℕ) (s : State) (ss : List Bool) (r : Step) (ss′ : List Bool) : Type 0 where
+  pub low : Low (r .state)
+  pub steps :
+      (σ : Settings) (c : List ℕ)
+      → Bytes c
+      → own ≡ numbered (firstBroken (ownRules σ (string c)))
+      → n ≡ byte c 0
+      → (at : ℕ) (zs zu su : List Bool)
+      → StepIs σ (string c) at s (flags zs ss zu su) r (flags zs ss′ zu su)
+
 -- the step of an element that stands in a zone, from what was found of its bytes: of no element, the fault alone
 pub record PlacedStep (f : Found) (c : List ℕ) (at : ℕ) (s : State) (zu su : List Bool) (r : Step) (zu′ su′ : List Bool) : Type 0 where
+  pub low : Low (r .state)
   pub faulty : (f .fault ≡ 0 → ⊥) → (r .stop ≡ f .fault) × (r .state ≡ s) × (zu′ ≡ zu) × (su′ ≡ su)
   pub steps :
       (σ : Settings) (x : Record)
@@ -82,6 +99,7 @@ Went d before s f r after (took x) = (r .stop ≡ 0) × Tracks d (r .state) afte
 Went d before s f r after (stop k) = (r .stop ≡ k) × (0 < k) × (r .state ≡ s) × (after ≡ f)
 
 pub record TakeIs (σ : Settings) (id : ℕ) (c : List ℕ) (at : ℕ) (s : State) (f : Flags) (r : Step) (after : Flags) : Type 0 where
+  pub low : Low (r .state)
   pub takes :
       (d : Description) (before : List Record)
       → at ≡ placeAfter before
@@ -97,17 +115,50 @@ Moves t at d before s f r after (took x) =
     × Tracks d (r .state) after (before ++ x ∷ [])
 Moves t at d before s f r after (stop k) = (r .stop ≡ k) × (0 < k) × (r .state ≡ s) × (after ≡ f)
 
-pub record MoveIs (σ : Settings) (t : List ℕ) (at : ℕ) (s : State) (f : Flags) (r : Moved) (after : Flags) : Type 0 where
+pub record MoveIs (σ : Settings) (t : List ℕ) (at base : ℕ) (s : State) (f : Flags) (r : Moved) (after : Flags) : Type 0 where
+  pub low : Low (r .state)
+  pub fits : r .stop ≡ 0 → (3 ≤ r .len) × (at + r .len ≤ length t)
   pub moves :
       (d : Description) (before : List Record)
-      → at ≡ placeAfter before
+      → base + at ≡ placeAfter before
       → Tracks d s f before
       → Moves t at d before s f r after (step σ before (drop at t))
 
--- what the whole pass says: where it stopped, state and flags are those of the elements before
-abbrev pub OverIs : Description → Over → Flags → Result → Type 0
-OverIs d r f (halted k p) = (r .stop ≡ k) × (0 < k) × (r .place ≡ p) × (before : List Record) × (p ≡ placeAfter before) × Tracks d (r .state) f before
-OverIs d r f (through rs) = (r .stop ≡ 0) × Tracks d (r .state) f rs
+-- some elements are taken from bytes that start at a place: from the elements before, the place and the bytes to those after
+pub data Took (σ : Settings) : List Record → ℕ → List ℕ → List Record → ℕ → List ℕ → Type 0 where
+  none-yet : {rs : List Record} {at : ℕ} {bs : List ℕ} → Took σ rs at bs rs at bs
+  one-more :
+      {rs qs : List Record} {at p : ℕ} {bs left : List ℕ} (x : Record)
+      → step σ qs left ≡ took x
+      → 3 ≤ stated left
+      → stated left ≤ length left
+      → Took σ rs at bs qs p left
+      → Took σ rs at bs (qs ++ x ∷ []) (p + stated left) (drop (stated left) left)
 
-pub record WalkIs (d : Description) (r : Over) (f : Flags) (o : Result) : Type 0 where
-  pub over : OverIs d r f o
+-- what the walk over some bytes says: which elements it took, what state and flags track, and how it stopped before the rest
+pub record Walked (σ : Settings) (d : Description) (t : List ℕ) (base : ℕ) (before : List Record) (r : Over) (f : Flags) : Type 0 where
+  pub gone : List Record
+  pub left : List ℕ
+  pub way : Took σ before base t gone (r .place) left
+  pub tracks : Tracks d (r .state) f gone
+  pub place : r .place ≡ placeAfter gone
+  pub rest : left ≡ drop (r .place - base) t
+  pub ends : r .stop ≡ 0 → left ≡ []
+  pub more : (r .stop ≡ 0 → ⊥) → 0 < length left
+  pub stops : (r .stop ≡ 0 → ⊥) → step σ gone left ≡ stop (r .stop)
+
+pub record WalkIs (σ : Settings) (t : List ℕ) (base : ℕ) (s : State) (f : Flags) (r : Over) (after : Flags) : Type 0 where
+  pub from : base ≤ r .place
+  pub to : r .place ≤ base + length t
+  pub low : Low (r .state)
+  pub walks :
+      (d : Description) (before : List Record)
+      → Bytes t
+      → base ≡ placeAfter before
+      → Tracks d s f before
+      → Walked σ d t base before r after
+
+-- the same as a result of the pass
+abbrev pub OverIs : Description → Over → Flags → Result → Type 0
+OverIs d r f (halted k p) = (r .stop ≡ k) × (0 < k) × (r .place ≡ p)
+OverIs d r f (through rs) = (r .stop ≡ 0) × Tracks d (r .state) f rs

@@ -6,15 +6,13 @@ ghost use mathlib.Core.List.{List, []};
 ghost use Prim.Native.Nat.{ℕ, _+_, _<_, _≤_};
 ghost use lib.ListN.{length};
 ghost use lib.Dec.{ltb};
-ghost use Rattle.format.specs.Slots.{byte, Bytes};
-ghost use Rattle.format.specs.Decode.{readDescription};
-ghost use Rattle.format.specs.Reader.{elementsOf};
+ghost use Rattle.format.specs.Slots.{byte};
 ghost use Rattle.format.specs.Records.{zone, string};
 ghost use Rattle.format.specs.declared.settings.Settings.{Settings};
 ghost use Rattle.format.specs.FanList.{comesAfter, lastPin};
 ghost use Rattle.rules.specs.Broken.{orElse};
 ghost use Rattle.found.specs.Judged.{FansAre};
-ghost use Rattle.pass.specs.Tracks.{flags, Tracks, StepIs, PlacedStep, TakeIs, MoveIs, WalkIs};
+ghost use Rattle.pass.specs.Tracks.{flags, Low, StepIs, TextJudged, PlacedStep, TakeIs, MoveIs, WalkIs};
 use claims::Held;
 use format::settings::Settings;
 use found::Fans;
@@ -50,7 +48,7 @@ pub struct Over {
     pub state: State,
 }
 
-fn stopped(stop: u8, state: State) -> Step
+pub fn stopped(stop: u8, state: State) -> Step
     ensures { λ r. ⌜ (r .stop ≡ stop) × (r .state ≡ state) ⌝ }
 {
     Step { stop, state }
@@ -69,7 +67,7 @@ fn zone_against(zones: usize, seen: bool) -> u8
 // 0Bh
 fn zone_step(b: &[u8], s: State, zs: &mut [bool; 256], su: &mut [bool; 256]) -> Step
     requires { ⌜ (s .count < 96) × (s .zones ≤ 12) ⌝ }
-    ensures { λ r. ⌜ ((σ : Settings) (at : ℕ) (ss zu : List Bool) → StepIs σ (zone (now (b .entry))) at s (flags (now (zs .entry)) ss zu (now (su .entry))) r (flags (now (zs .exit)) ss zu (now (su .exit)))) ⌝ }
+    ensures { λ r. ⌜ ((σ : Settings) (at : ℕ) (ss zu : List Bool) → StepIs σ (zone (now (b .entry))) at s (flags (now (zs .entry)) ss zu (now (su .entry))) r (flags (now (zs .exit)) ss zu (now (su .exit)))) × Low (r .state) ⌝ }
 {
     let own = rules::zone_breaks(b);
     if own != 0 {
@@ -95,16 +93,15 @@ fn zone_step(b: &[u8], s: State, zs: &mut [bool; 256], su: &mut [bool; 256]) -> 
     }
 }
 
-// 0Ch, with 12 against those before
-fn text_step(b: &[u8], s: State, ss: &mut [bool; 256]) -> Step
-    requires { ⌜ s .count < 96 ⌝ }
-    ensures { λ r. ⌜ ((σ : Settings) (at : ℕ) (zs zu su : List Bool) → StepIs σ (string (now (b .entry))) at s (flags zs (now (ss .entry)) zu su) r (flags zs (now (ss .exit)) zu su)) ⌝ }
+// 0Ch, of which 8 and 9 are known, with 12 against those before
+pub fn text_judged(own: u8, number: u8, s: State, ss: &mut [bool; 256]) -> Step
+    requires { ⌜ (s .count < 96) × (s .zones ≤ 12) ⌝ }
+    ensures { λ r. ⌜ TextJudged own number s (now (ss .entry)) r (now (ss .exit)) ⌝ }
 {
-    let own = rules::text_breaks(b);
     if own != 0 {
         return stopped(own, s);
     }
-    let t = wide(b[0]);
+    let t = wide(number);
     if ss[t] {
         return stopped(12, s);
     }
@@ -119,6 +116,25 @@ fn text_step(b: &[u8], s: State, ss: &mut [bool; 256]) -> Step
             last: s.last,
         },
     }
+}
+
+// The first byte, 0 where there is none.
+fn first(b: &[u8]) -> u8
+    ensures { λ r. ⌜ r ≡ byte (now (b .entry)) 0 ⌝ }
+{
+    if b.len() == 0 {
+        return 0;
+    }
+    b[0]
+}
+
+// 0Ch
+fn text_step(b: &[u8], s: State, ss: &mut [bool; 256]) -> Step
+    requires { ⌜ (s .count < 96) × (s .zones ≤ 12) ⌝ }
+    ensures { λ r. ⌜ ((σ : Settings) (at : ℕ) (zs zu su : List Bool) → StepIs σ (string (now (b .entry))) at s (flags zs (now (ss .entry)) zu su) r (flags zs (now (ss .exit)) zu su)) × Low (r .state) ⌝ }
+{
+    let own = rules::text_breaks(b);
+    text_judged(own, first(b), s, ss)
 }
 
 // 10 of the fan list: the first pin of an element comes after the last one used.
@@ -136,7 +152,7 @@ fn last_of(fans: Fans, last: usize) -> usize
 }
 
 // An element that stands in a zone: its fault, or what it leaves.
-fn placed_step(
+pub fn placed_step(
     f: Found,
     b: &[u8],
     at: usize,
@@ -144,7 +160,7 @@ fn placed_step(
     zu: &mut [bool; 256],
     su: &mut [bool; 256],
 ) -> Step
-    requires { ⌜ (s .count < 96) × (at < 65536) × (f .fault ≡ 0 → 5 ≤ length (now b)) ⌝ }
+    requires { ⌜ (s .count < 96) × (s .zones ≤ 12) × (at < 65536) × (f .fault ≡ 0 → 5 ≤ length (now b)) ⌝ }
     ensures { λ r. ⌜ PlacedStep f (now (b .entry)) at s (now (zu .entry)) (now (su .entry)) r (now (zu .exit)) (now (su .exit)) ⌝ }
 {
     if f.fault != 0 {
@@ -216,10 +232,11 @@ fn halted(stop: u8, state: State) -> Moved
     }
 }
 
-// What stands at a place of the table, where there is room for a header.
+// What stands at a place of the bytes, where there is room for a header; `base` is the place of the first of them in the table.
 fn one_step(
     t: &[u8],
     at: usize,
+    base: usize,
     s: State,
     zs: &mut [bool; 256],
     ss: &mut [bool; 256],
@@ -227,8 +244,8 @@ fn one_step(
     su: &mut [bool; 256],
     settings: Settings,
 ) -> Moved
-    requires { ⌜ (at + 2 < length (now t)) × (length (now t) ≤ 4096) × (s .count ≤ 96) × (s .zones ≤ 12) ⌝ }
-    ensures { λ r. ⌜ MoveIs settings (now (t .entry)) at s (flags (now (zs .entry)) (now (ss .entry)) (now (zu .entry)) (now (su .entry))) r (flags (now (zs .exit)) (now (ss .exit)) (now (zu .exit)) (now (su .exit))) ⌝ }
+    requires { ⌜ (at + 2 < length (now t)) × (base + length (now t) ≤ 4097) × Low s ⌝ }
+    ensures { λ r. ⌜ MoveIs settings (now (t .entry)) at base s (flags (now (zs .entry)) (now (ss .entry)) (now (zu .entry)) (now (su .entry))) r (flags (now (zs .exit)) (now (ss .exit)) (now (zu .exit)) (now (su .exit))) ⌝ }
 {
     let left = t.len() - at;
     let len = wide(t[at + 1]) + 256 * wide(t[at + 2]);
@@ -243,7 +260,17 @@ fn one_step(
     }
     let from = at + 3;
     let next = at + len;
-    let r = take(t[at], &t[from..next], at, s, zs, ss, zu, su, settings);
+    let r = take(
+        t[at],
+        &t[from..next],
+        base + at,
+        s,
+        zs,
+        ss,
+        zu,
+        su,
+        settings,
+    );
     let state = r.state;
     Moved {
         stop: r.stop,
@@ -252,9 +279,11 @@ fn one_step(
     }
 }
 
-// All elements. The loop ends where no header can stand: at the end, or 6.
+// All elements of some bytes, the first of which stands at the place `base` of the table. The loop ends where no header can stand: at
+// the end, or 6.
 pub fn walk(
     t: &[u8],
+    base: usize,
     start: State,
     zs: &mut [bool; 256],
     ss: &mut [bool; 256],
@@ -262,18 +291,18 @@ pub fn walk(
     su: &mut [bool; 256],
     settings: Settings,
 ) -> Over
-    requires { ⌜ (16 ≤ length (now t)) × (length (now t) ≤ 4096) × Bytes (now t) × Tracks (readDescription (settings .chip) (byte (now t))) start (flags (now zs) (now ss) (now zu) (now su)) [] ⌝ }
-    ensures { λ r. ⌜ WalkIs (readDescription (settings .chip) (byte (now (t .entry)))) r (flags (now (zs .exit)) (now (ss .exit)) (now (zu .exit)) (now (su .exit))) (elementsOf settings (now (t .entry))) ⌝ }
+    requires { ⌜ (base + length (now t) ≤ 4097) × Low start ⌝ }
+    ensures { λ r. ⌜ WalkIs settings (now (t .entry)) base start (flags (now (zs .entry)) (now (ss .entry)) (now (zu .entry)) (now (su .entry))) r (flags (now (zs .exit)) (now (ss .exit)) (now (zu .exit)) (now (su .exit))) ⌝ }
 {
     let mut s = start;
-    let mut at: usize = 16;
+    let mut at: usize = 0;
     while at + 2 < t.len() {
-        let r = one_step(t, at, s, zs, ss, zu, su, settings);
+        let r = one_step(t, at, base, s, zs, ss, zu, su, settings);
         let next = r.state;
         if r.stop != 0 {
             return Over {
                 stop: r.stop,
-                place: at,
+                place: base + at,
                 state: next,
             };
         }
@@ -283,13 +312,13 @@ pub fn walk(
     if at < t.len() {
         return Over {
             stop: 6,
-            place: at,
+            place: base + at,
             state: s,
         };
     }
     Over {
         stop: 0,
-        place: 0,
+        place: base + at,
         state: s,
     }
 }

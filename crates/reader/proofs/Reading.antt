@@ -1,12 +1,14 @@
 -- From the pass to the whole answer: what is gathered, the description before it, and the first three rules.
 -- Assumes nothing.
-use Prim.Native.Nat.{ℕ, _≤_, _<_}
+use Prim.Native.Nat.{ℕ, _-_, _≤_, _<_}
 use native.Mathlib.Omega.{arith}
 use mathlib.Core.Path.{_≡_, refl, sym, _∙_, ap, subst}
 use mathlib.Core.Bool.{Bool, true, false}
 use mathlib.Core.List.{List, [], _∷_, append-nil}
 use mathlib.Core.Option.{Option, none, some}
-use lib.ListN.{length, set, drop, replicate}
+use lib.ListN.{length, set, take, drop, replicate, length-drop}
+use lib.Seq.{take-all}
+use Rattle.format.proofs.Slots.{bytes-drop}
 use borrow.Author.Tests.{eq-eqb, le-leb}
 use Rattle.format.specs.Slots.{byte, Bytes}
 use Rattle.format.specs.ZonesAndStrings.{strings}
@@ -15,7 +17,7 @@ use Rattle.format.specs.Claims.{madeAt, firstClaims}
 use Rattle.format.specs.Table.{descriptionBreaks}
 use Rattle.format.specs.Verdict.{stated}
 use Rattle.format.specs.Decode.{readDescription}
-use Rattle.format.specs.Reader.{Result, halted, through, pass, elementsOf, conclude, unlessMisdescribed, afterDescription, verdictOf}
+use Rattle.format.specs.Reader.{pass, elementsOf, conclude, unlessMisdescribed, afterDescription, verdictOf}
 use Rattle.format.specs.declared.records.Description.{Description}
 use Rattle.format.specs.declared.answers.Answer.{Answer}
 use Rattle.format.specs.declared.answers.Answer.the-variants.{Refused}
@@ -23,7 +25,8 @@ use Rattle.format.proofs.Kept.{zero-none, some-number, description-numbered, de
 use Rattle.flags.specs.Marks.{Marks}
 use Rattle.flags.proofs.Marked.{marks-clear, marks-put, marks-front}
 use Rattle.claims.specs.Taken.{HeldIs}
-use Rattle.pass.specs.Tracks.{flags, Tracks, WalkIs}
+use Rattle.pass.specs.Tracks.{Flags, flags, Low, Tracks, Walked, WalkIs}
+use Rattle.pass.proofs.Walking.{walk-halted, walk-through}
 use Rattle.pass.specs.declared.State.{State}
 use Rattle.pass.specs.declared.Over.{Over}
 use Rattle.reader.specs.Whole.{Gathered}
@@ -54,33 +57,42 @@ at-start d s n low e c z h l =
       fans = l;
     }
 
+-- the walk over the bytes from 16 on, as the code takes them
+pub walked :
+    (σ : Settings) (t : List ℕ) (s : State) (f : Flags) (r : Over) (g : Flags)
+    → Bytes t
+    → Tracks (readDescription (σ .chip) (byte t)) s f []
+    → WalkIs σ (take (length t - 16) (drop 16 t)) 16 s f r g
+    → Walked σ (readDescription (σ .chip) (byte t)) (drop 16 t) 16 [] r g
+walked σ t s f r g small k w =
+    let e : take (length t - 16) (drop 16 t) ≡ drop 16 t = take-all (length t - 16) (drop 16 t) (omega (arith, length-drop 16 t)) in
+    subst (λ (l : List ℕ). WalkIs σ l 16 s f r g) e w .walks (readDescription (σ .chip) (byte t)) [] (bytes-drop 16 t small) refl k
+
 -- where the pass stopped
 pub stopped-there :
-    (d : Description) (r : Over) (zs ss zu su : List Bool) (o : Result)
-    → WalkIs d r (flags zs ss zu su) o
+    (σ : Settings) (d : Description) (t : List ℕ) (r : Over) (f : Flags)
+    → Walked σ d (drop 16 t) 16 [] r f
     → (r .stop ≡ 0 → ⊥)
-    → Refused (r .stop) (r .place) ≡ conclude d o
-stopped-there d r zs ss zu su (halted k p) h n = let x = h .over .0 in let y = h .over .2 in cc
-stopped-there d r zs ss zu su (through rs) h n = absurd (n (h .over .0))
+    → Refused (r .stop) (r .place) ≡ conclude d (elementsOf σ t)
+stopped-there σ d t r f w n = sym (ap (conclude d) (walk-halted σ d (drop 16 t) 16 [] r f w n))
 
 -- where it came through
 pub came-through :
-    (σ : Settings) (t : List ℕ) (r : Over) (zs ss zu su : List Bool) (o : Result)
-    → elementsOf σ t ≡ o
-    → WalkIs (readDescription (σ .chip) (byte t)) r (flags zs ss zu su) o
+    (σ : Settings) (t : List ℕ) (r : Over) (zs ss zu su : List Bool)
+    → Walked σ (readDescription (σ .chip) (byte t)) (drop 16 t) 16 [] r (flags zs ss zu su)
     → r .stop ≡ 0
     → Bytes t
     → 16 ≤ length t
     → length t ≤ 4096
     → Gathered σ t (r .state) zs (set ss 0 true) zu su
-came-through σ t r zs ss zu su (halted k p) e h n b l m = absurd (omega (arith, h .over .0, h .over .1, n))
-came-through σ t r zs ss zu su (through rs) e h n b l m =
-    let k = h .over .1 in
+came-through σ t r zs ss zu su w n b l m =
+    let k = w .tracks in
+    let e = walk-through σ (readDescription (σ .chip) (byte t)) (drop 16 t) 16 [] r (flags zs ss zu su) w n in
     record {
-      table = record { bytes = b; long = l; top = m; rs = rs; whole = e };
+      table = record { bytes = b; long = l; top = m; rs = w .gone; whole = e };
       count = k .count;
       zone = k .zone;
-      string = marks-front ss (strings rs) 0 (omega arith) (k .string);
+      string = marks-front ss (strings (w .gone)) 0 (omega arith) (k .string);
       zone-use = k .zone-use;
       string-use = k .string-use;
       held = k .held;

@@ -191,7 +191,16 @@ fn elements(t: &[u8], held: Held, settings: Settings) -> Answer
         held,
         last: 0,
     };
-    let r = walk(t, start, &mut zs, &mut ss, &mut zu, &mut su, settings);
+    let r = walk(
+        &t[16..],
+        16,
+        start,
+        &mut zs,
+        &mut ss,
+        &mut zu,
+        &mut su,
+        settings,
+    );
     if r.stop != 0 {
         return Answer::Refused(r.stop, r.place);
     }

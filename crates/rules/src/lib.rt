@@ -1,7 +1,11 @@
 // What a record breaks by itself: 4, 5, 10 of the description, 8, 9, 23 and 10 of each kind of element (8 of 09h, 0Ah and 0Dh
 // is found in `blocks`). One place for the reader and the writer. A rule's number, or 0.
 ghost use mathlib.Core.Path.{_≡_};
-ghost use Rattle.format.specs.Records.{Record, digital, analogue, fan, led, water, pump, voltage, current, zone, string, rgb, elementOf};
+ghost use mathlib.Core.List.{List};
+ghost use Prim.Native.Nat.{ℕ, _≤_};
+ghost use lib.ListN.{length};
+ghost use Rattle.format.specs.Slots.{byte};
+ghost use Rattle.format.specs.Records.{Record, digital, analogue, fan, led, water, pump, voltage, current, zone, string, rgb, elementOf, textOf};
 ghost use Rattle.format.specs.Rules.{numbered, firstBroken, ownRules, typed, powered, strapped, addressed, selected, scaled, shaped, coded, typeInUse, inUse, pinned, rises, coloured, chipIdentifiers};
 ghost use Rattle.format.specs.Pins.{among, unused};
 ghost use Rattle.format.specs.declared.settings.Settings.{Settings};
@@ -269,7 +273,7 @@ pub fn zone_breaks(part: &[u8]) -> u8
 }
 
 // A unit is a low surrogate where the one before it is a high surrogate, and only there.
-fn agrees(high: bool, low: bool) -> bool
+pub fn agrees(high: bool, low: bool) -> bool
     ensures { λ r. ⌜ r ≡ agrees high low ⌝ }
 {
     if high { low } else { !low }
@@ -293,6 +297,13 @@ pub fn well_formed(text: &[u8]) -> bool
     good & !high
 }
 
+// 0Ch, where there is room for its number: that it is not 0, and what is known of its text.
+pub fn text_rules(number: u8, good: bool) -> u8
+    ensures { λ r. ⌜ ((s : Settings) (c : List ℕ) → 3 ≤ length c → number ≡ byte c 0 → good ≡ wellFormed (textOf c) → r ≡ numbered (firstBroken (ownRules s (string c)))) ⌝ }
+{
+    own_breaks(true, (number != 0) & good, true, true)
+}
+
 // 0Ch, of all bytes after the header: its number and two bytes more, and the number not 0; then its text.
 pub fn text_breaks(part: &[u8]) -> u8
     ensures { λ r. ⌜ ((s : Settings) → r ≡ numbered (firstBroken (ownRules s (string (now (part .entry)))))) ⌝ }
@@ -300,7 +311,7 @@ pub fn text_breaks(part: &[u8]) -> u8
     if part.len() < 3 {
         return 8;
     }
-    own_breaks(true, (part[0] != 0) & well_formed(&part[3..]), true, true)
+    text_rules(part[0], well_formed(&part[3..]))
 }
 
 // 0Eh

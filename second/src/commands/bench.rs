@@ -1,9 +1,10 @@
-//! `bench`: the median time of the reader on five sorts of tables.
+//! `bench`: the median time of the reader on five sorts of tables, of which each comes in one piece, in reports of 64 bytes and
+//! in single bytes.
 
 use super::End;
 use second::generator::{self, raw::TABLE_A};
 use second::random::Random;
-use second::Settings;
+use second::{Receiver, Refusal, Settings};
 use std::hint::black_box;
 use std::time::Instant;
 
@@ -27,22 +28,33 @@ pub fn bench(settings: Settings, arguments: &[String]) -> End {
     End::Good
 }
 
-/// Name, nanoseconds for one table, mean length of the tables.
+/// Name, nanoseconds for one table read whole, received in one piece, in reports and in single bytes; mean length of the tables.
 fn report(name: &str, tables: &[Vec<u8>], settings: Settings) {
     let length: usize = tables.iter().map(Vec::len).sum();
+    let whole = median(tables, |table| second::check(table, settings).into_result());
+    let [piece, reports, bytes] =
+        [usize::MAX, 64, 1].map(|size| median(tables, |table| received(table, size, settings)));
     println!(
-        "{name}\t{:.1} ns\t{} bytes on average",
-        median(tables, settings),
+        "{name}\t{whole:.1} ns\treceived in one piece {piece:.1} ns, in reports of 64 {reports:.1} ns, \
+        in single bytes {bytes:.1} ns\t{} bytes on average",
         length / tables.len()
     );
 }
 
-fn median(tables: &[Vec<u8>], settings: Settings) -> f64 {
+fn received(table: &[u8], size: usize, settings: Settings) -> Result<usize, Refusal> {
+    let mut receiver = Receiver::start(settings);
+    for piece in table.chunks(size) {
+        receiver.piece(piece)?;
+    }
+    receiver.end()
+}
+
+fn median(tables: &[Vec<u8>], side: impl Fn(&[u8]) -> Result<usize, Refusal>) -> f64 {
     let mut times: Vec<f64> = (0..ROUNDS)
         .map(|_| {
             let begin = Instant::now();
             for table in tables {
-                black_box(second::check(black_box(table), black_box(settings)));
+                let _ = black_box(side(black_box(table)));
             }
             begin.elapsed().as_nanos() as f64 / tables.len() as f64
         })

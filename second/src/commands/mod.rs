@@ -19,6 +19,8 @@ use: second COMMAND [--chip 320|321] [--archive] ...
   pins                                       the pin sheet of the table on standard input
   hex                                        the table on standard input as Intel HEX
   unhex                                      the table of the Intel HEX on standard input
+  receive [BYTES]                            check the table on standard input in reports of so many bytes, 64 if
+                                             it is not said
   check FILE...                              number, place or count, and file, one line each
   rows --seed S --count N --max BYTES        tables in hex with their answers
   make KIND --seed S --count N DIR           tables as files; KIND is valid, mixed, controllers,
@@ -71,6 +73,7 @@ fn dispatch(command: &str, settings: Settings, rest: &[String]) -> End {
         "pins" => stream::pins(settings.chip, rest),
         "hex" => stream::hex(settings.chip, rest),
         "unhex" => stream::unhex(settings.chip, rest),
+        "receive" => stream::receive(settings, rest),
         "check" => files::check(settings, rest),
         "rows" => rows::rows(settings, rest),
         "make" => files::make(settings, rest),

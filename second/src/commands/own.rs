@@ -6,7 +6,7 @@ use second::answer::number;
 use second::generator;
 use second::histogram::Histogram;
 use second::random::Random;
-use second::{plain, Chip, Rules, Settings, Verdict};
+use second::{plain, Chip, Receiver, Rules, Settings, Verdict};
 
 pub fn own(settings: Settings, arguments: &[String]) -> End {
     let (seed, count) = match read(arguments) {
@@ -40,12 +40,13 @@ fn read(arguments: &[String]) -> Result<(u64, u64), String> {
     Ok((options.number("seed")?, options.number("count")?))
 }
 
-/// Fast against plain, of readers, listings, fans and texts in HEX; the two rules against each other; what is
-/// rewritten and what is taken out; the listing's shape.
+/// Fast against plain, of readers, listings, fans and texts in HEX; pieces against the whole; the two rules against
+/// each other; what is rewritten and what is taken out; the listing's shape.
 fn compare(table: &[u8], settings: Settings, fast: Verdict) -> Result<(), &'static str> {
     if plain::check(table, settings) != fast {
         return Err("the fast and the plain reader differ");
     }
+    received(table, settings, fast)?;
     let ordinary = Settings::from(settings.chip);
     let strict = second::check(table, ordinary);
     let old = second::check(table, ordinary.other_rules());
@@ -75,6 +76,20 @@ fn compare(table: &[u8], settings: Settings, fast: Verdict) -> Result<(), &'stat
 /// Byte 7 of each element, as far as the bytes can be cut: its zone, or content.
 fn zones_in(table: &[u8]) -> impl Iterator<Item = u8> + '_ {
     generator::raw::cut(table).filter_map(|element| element.get(7).copied())
+}
+
+/// In reports of 64 bytes, in single bytes, and in pieces of two other sizes.
+fn received(table: &[u8], settings: Settings, whole: Verdict) -> Result<(), &'static str> {
+    for size in [64, 1, 3 + table.len() % 61, 1 + table.len() / 2] {
+        let mut receiver = Receiver::start(settings);
+        let taken = table
+            .chunks(size)
+            .all(|piece| receiver.piece(piece).is_ok());
+        if !taken || receiver.end() != whole.into_result() {
+            return Err("pieces and the whole differ");
+        }
+    }
+    Ok(())
 }
 
 /// Rewritten as the ordinary reader says, against written from its records, and once more.

@@ -1,16 +1,16 @@
-//! `list`, `rewrite`, `fan`, `remove`, `pins`, `hex` and `unhex`: a table, or its text, from standard input.
+//! `list`, `rewrite`, `fan`, `remove`, `pins`, `hex`, `unhex` and `receive`: a table, or its text, from standard input.
 
 use super::End;
 use second::sheet::FREE;
-use second::{Chip, Refusal, Settings};
+use second::{Chip, Receiver, Refusal, Settings};
 use std::io::{Read, Write};
 
 /// Of standard input as much as is needed: a table over 4,096 bytes answers 2 or 3 by its first byte alone, and
 /// 4,097 of its bytes still are such a table.
 const OF_A_TABLE: u64 = 4_097;
-/// The longest text without a bad line has 65,536 data records of one byte, 14 characters each, and the end record of
-/// 12. In a longer one the first bad line, or what follows the end, is met within one byte more.
-const OF_A_TEXT: u64 = 65_536 * 14 + 12 + 1;
+/// The longest text without a bad line has 65,535 data records of one byte, 14 characters each, one of 255 bytes at the last
+/// address, and the end record of 12. In a longer one the first bad line, or what follows the end, is met within one byte more.
+const OF_A_TEXT: u64 = 65_535 * 14 + (12 + 2 * 255) + 12 + 1;
 
 fn read(most: u64) -> std::io::Result<Vec<u8>> {
     let mut bytes = Vec::new();
@@ -26,9 +26,14 @@ fn transform_most(most: u64, arguments: &[String], make: impl Fn(&[u8]) -> Vec<u
     if let Some(other) = arguments.first() {
         return End::Misused(format!("'{other}' is one argument too many"));
     }
-    let done = read(most).and_then(|table| {
+    printed(read(most).map(|table| make(&table)))
+}
+
+/// Prints what was made of the input.
+fn printed(made: std::io::Result<Vec<u8>>) -> End {
+    let done = made.and_then(|text| {
         let mut out = std::io::stdout().lock();
-        out.write_all(&make(&table))?;
+        out.write_all(&text)?;
         out.flush()
     });
     match done {
@@ -123,4 +128,41 @@ fn written(answer: Result<usize, Refusal>, mut out: Vec<u8>) -> Vec<u8> {
         }
         Err(refusal) => refusal_line(refusal),
     }
+}
+
+/// The longest report that is taken: a table is then one piece.
+const LONGEST_REPORT: usize = 4096;
+/// As the controller sends them.
+const REPORT: usize = 64;
+
+/// `ok` and the number of elements, or the `R` line. The input is read to its end, however long it is.
+pub fn receive(settings: Settings, arguments: &[String]) -> End {
+    let size = match arguments {
+        [] => Some(REPORT),
+        [word] => word.parse().ok(),
+        _ => None,
+    };
+    match size {
+        Some(size @ 1..=LONGEST_REPORT) => printed(received(settings, size)),
+        _ => End::Misused(format!(
+            "name the bytes of a report, 1 to {LONGEST_REPORT}, or nothing"
+        )),
+    }
+}
+
+fn received(settings: Settings, size: usize) -> std::io::Result<Vec<u8>> {
+    let mut report = vec![0; size];
+    let mut receiver = Receiver::start(settings);
+    loop {
+        let count = std::io::stdin().lock().read(&mut report)?;
+        if count == 0 {
+            break;
+        }
+        let _ = receiver.piece(&report[..count]);
+    }
+    let line = match receiver.end() {
+        Ok(elements) => format!("ok\t{elements}\n"),
+        Err(Refusal { number, place }) => format!("R\t{number}\t{place}\n"),
+    };
+    Ok(line.into_bytes())
 }

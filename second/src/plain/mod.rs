@@ -9,6 +9,7 @@ mod fan;
 mod hex;
 mod label;
 mod listing;
+mod receiver;
 mod remove;
 
 use crate::answer::{
@@ -26,6 +27,7 @@ pub use fan::fan;
 pub use hex::{hex, unhex};
 pub use label::label;
 pub use listing::listing;
+pub use receiver::Receiver;
 pub use remove::remove;
 
 /// One element as found: where it starts, its record and its variable part.

@@ -43,7 +43,7 @@ pub fn take(
 ///
 /// Both kinds of bus are worked out and one is chosen, as the choice is hard to foretell.
 #[inline(always)]
-fn attachment(bus: u8, address: u8, chosen: Chosen, claims: &mut Claims) -> u8 {
+pub fn attachment(bus: u8, address: u8, chosen: Chosen, claims: &mut Claims) -> u8 {
     let bus = bus & 0x0F;
     if bus > 3 {
         return number::CODE;
@@ -203,10 +203,16 @@ pub fn external_rgb(element: &[u8], chosen: Chosen, claims: &mut Claims) -> u8 {
     if !register_blocks::<3>(blocks) {
         return number::LAYOUT;
     }
-    if !(1..=3).contains(&e[11]) {
+    light_chip(e[11], e[8], e[9], chosen, claims)
+}
+
+/// The chip identifier of an external RGB LED (9), and then what holds of every serial device.
+#[inline(always)]
+pub fn light_chip(identifier: u8, bus: u8, address: u8, chosen: Chosen, claims: &mut Claims) -> u8 {
+    if !(1..=3).contains(&identifier) {
         return number::CODE;
     }
-    attachment(e[8], e[9], chosen, claims)
+    attachment(bus, address, chosen, claims)
 }
 
 #[inline(always)]
@@ -246,9 +252,15 @@ pub fn text(element: &[u8], numbers: &mut Numbers) -> u8 {
     let Some((e, text)) = element.split_first_chunk::<6>() else {
         return number::LAYOUT;
     };
-    if (e[3] == 0) | !well_formed(text) {
+    numbered(e[3], well_formed(text), numbers)
+}
+
+/// 9 and 12 of a string of this number, whose text is well-formed or not.
+#[inline(always)]
+pub fn numbered(number: u8, well_formed: bool, numbers: &mut Numbers) -> u8 {
+    if (number == 0) | !well_formed {
         number::CODE
-    } else if numbers.strings.add_again(e[3]) {
+    } else if numbers.strings.add_again(number) {
         number::TWICE
     } else {
         0

@@ -5,16 +5,16 @@
 //! a refusal needs a second walk for its place (`places`).
 
 mod blocks;
-mod kinds;
+pub(crate) mod kinds;
 mod places;
-mod seen;
-mod sets;
+pub(crate) mod seen;
+pub(crate) mod sets;
 mod text;
 
 use crate::answer::{number, Verdict, LARGEST_TABLE, MOST_ELEMENTS};
 use crate::settings::Settings;
 use seen::{Claims, Numbers};
-use sets::Chosen;
+use sets::{Chosen, Pins};
 
 /// What the pass came to: the number of elements, or a refusal with its place.
 type Passed = Result<usize, (u8, usize)>;
@@ -27,15 +27,13 @@ pub fn check(table: &[u8], settings: Settings) -> Verdict {
     let Some(head) = table.first_chunk::<16>() else {
         return refused(number::SHORT, 0);
     };
-    let hardware = [head[9], head[10], head[11]];
-    let strapped = hardware != [0xFF; 3];
+    let strapped = [head[9], head[10], head[11]] != [0xFF; 3];
     let refusal = check_description(head, table.len());
     if refusal != 0 {
         return refused(refusal, 0);
     }
     let chosen = Chosen::of(settings);
-    let bad = |&pin: &u8| pin != 0xFF && chosen.pins.bit(pin) == 0;
-    if strapped && hardware.iter().any(bad) {
+    if strapped && bad_hardware(head, chosen.pins) {
         return refused(number::PIN, 0);
     }
     if !strapped && table.len() == 16 {
@@ -52,18 +50,49 @@ fn refused(number: u8, place: usize) -> Verdict {
 /// 2 to 5; 0 when all are good.
 #[inline(always)]
 fn check_description(head: &[u8; 16], lent: usize) -> u8 {
-    let said = usize::from(u16::from_le_bytes([head[1], head[2]]));
+    let said = said(head);
     if head[0] != 0x01 {
         number::REVISION
     } else if said != lent || said > LARGEST_TABLE {
         number::LENGTH
-    } else if head[3].wrapping_sub(1) > 2 {
+    } else {
+        type_and_power(head)
+    }
+}
+
+/// The length that the description says.
+#[inline(always)]
+pub(crate) fn said(head: &[u8; 16]) -> usize {
+    usize::from(u16::from_le_bytes([head[1], head[2]]))
+}
+
+/// 4 and 5; 0 when both are good.
+#[inline(always)]
+pub(crate) fn type_and_power(head: &[u8; 16]) -> u8 {
+    if head[3].wrapping_sub(1) > 2 {
         number::DEVICE_TYPE
     } else if matches!(head[8], 126..=127) {
         number::POWER
     } else {
         0
     }
+}
+
+/// 10 of the description: a hardware revision pin is used that the chip lacks.
+#[inline(always)]
+pub(crate) fn bad_hardware(head: &[u8; 16], pins: Pins) -> bool {
+    let bad = |&pin: &u8| pin != 0xFF && pins.bit(pin) == 0;
+    head[9..12].iter().any(bad)
+}
+
+/// The claims before the first element: the fault LED's and the hardware revision pins'.
+#[inline(always)]
+pub(crate) fn first_claims(head: &[u8; 16], pins: Pins) -> Claims {
+    let mut claims = Claims::new();
+    for pin in [head[9], head[10], head[11]] {
+        claims.alone(pins.bit(pin));
+    }
+    claims
 }
 
 /// A table without elements and without hardware revision pins: only 14 is left.
@@ -79,10 +108,7 @@ fn bare(string: u8) -> Verdict {
 /// The rest, for a table whose description is good.
 #[inline(never)]
 fn with_elements(table: &[u8], head: &[u8; 16], chosen: Chosen) -> Verdict {
-    let mut claims = Claims::new();
-    for pin in [head[9], head[10], head[11]] {
-        claims.alone(chosen.pins.bit(pin));
-    }
+    let claims = first_claims(head, chosen.pins);
     let mut numbers = Numbers::new();
     numbers.strings_named.add(head[4]);
     match pass(table, chosen, &mut numbers, claims) {

@@ -6,6 +6,7 @@
 use super::sets::{NumberSet, PinSet, FAULT_LED};
 
 /// Zones and strings, declared and named.
+#[derive(Clone, Debug, PartialEq, Eq)]
 pub struct Numbers {
     pub zones: NumberSet,
     pub zones_named: NumberSet,
@@ -15,7 +16,7 @@ pub struct Numbers {
 }
 
 /// Bit i stands for identifier i: the twelve kinds with a string index in byte 3, a zone in byte 7.
-const DEVICES: u64 = 0x67FE;
+pub const DEVICES: u64 = 0x67FE;
 
 impl Numbers {
     #[inline(always)]
@@ -42,7 +43,7 @@ impl Numbers {
 }
 
 /// Pins claimed, by the way they are claimed.
-#[derive(Clone, Copy)]
+#[derive(Clone, Copy, Debug, PartialEq, Eq)]
 pub struct Claims {
     pub shared: PinSet,
     pub select: PinSet,

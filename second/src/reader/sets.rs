@@ -3,7 +3,7 @@
 use crate::settings::{Chip, Rules, Settings, BLOCK_MODE};
 
 /// A set of numbers 0 to 255.
-#[derive(Clone, Copy)]
+#[derive(Clone, Copy, Debug, PartialEq, Eq)]
 pub struct NumberSet([u64; 4]);
 
 impl NumberSet {

@@ -3,6 +3,7 @@
 use native.Mathlib.Omega.{arith}
 use mathlib.Core.Path.{refl}
 use borrow.Author.Tests.{not-true, not-false}
+use Rattle.pass.proofs.Stepped.{low-kept}
 use Rattle.pass.proofs.Taking.{placed-fault, placed-late, placed-good}
 use borrow.Author.Needs.{needs}
 use Rattle.pass.proofs.placed_step.Statement.{statement}
@@ -11,7 +12,7 @@ use Rattle.pass.proofs.placed_step.Tie as tie
 returns : tie.Need-returns
 returns c =
     placed-fault _ _ (λ i. omega (arith, c .before .before .before .shared-slice-known .given i)) _ _ _ _ _
-    (c .before .if1 .taken) (c .stopped .ensures .0) (c .stopped .ensures .1)
+    (low-kept _ _ (omega arith) (omega arith) (c .stopped .ensures .1)) (c .before .if1 .taken) (c .stopped .ensures .0) (c .stopped .ensures .1)
 
 returns-2 : tie.Need-returns-2
 returns-2 c =
@@ -19,17 +20,17 @@ returns-2 c =
     let h = g .before in
     let u = h .before .before in
     placed-late _ _ (λ i. omega (arith, u .before .before .shared-slice-known .given i)) _ _ _ _ _
-    (u .if1 .left) (h .follows .ensures) (not-true _ (g .if2 .taken)) (c .stopped2 .ensures .0) (c .stopped2 .ensures .1)
+    (low-kept _ _ (omega (arith, u .before .before .before .pre .0)) (u .before .before .before .pre .1) (c .stopped2 .ensures .1)) (u .if1 .left) (h .follows .ensures) (not-true _ (g .if2 .taken)) (c .stopped2 .ensures .0) (c .stopped2 .ensures .1)
 
 shared-slice-read-wide : tie.Need-shared-slice-read-wide
 shared-slice-read-wide c =
     let u = c .before .before .before .before in
-    omega (arith, u .before .before .before .pre .2 (u .if1 .left))
+    omega (arith, u .before .before .before .pre .3 (u .if1 .left))
 
 shared-slice-read-wide-2 : tie.Need-shared-slice-read-wide-2
 shared-slice-read-wide-2 c =
     let u = c .before .before .before .before .before .before in
-    omega (arith, u .before .before .before .pre .2 (u .if1 .left))
+    omega (arith, u .before .before .before .pre .3 (u .if1 .left))
 
 returns-3 : tie.Need-returns-3
 returns-3 c =
@@ -40,7 +41,7 @@ returns-3 c =
     let h = g .before in
     let u = h .before .before in
     placed-good _ _ (λ i. omega (arith, u .before .before .shared-slice-known .given i)) _ _ _ _ _
-    (u .if1 .left) (h .follows .ensures) (not-false _ (g .if2 .left)) (u .before .before .before .pre .1)
+    (record { most = omega (arith, u .before .before .before .pre .0); few = u .before .before .before .pre .1 }) (u .if1 .left) (h .follows .ensures) (not-false _ (g .if2 .left)) (u .before .before .before .pre .2)
     (w .wide .ensures .0) (v .wide2 .ensures .0) refl refl refl refl (k .claim .ensures) (c .last-of .ensures) refl refl
 
 pub placed-step-spec : {M : Type 1} → statement M

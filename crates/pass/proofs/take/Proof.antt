@@ -1,6 +1,8 @@
 -- `take` meets its contract: the arm that was taken is the identifier's.
 -- Assumes nothing.
 use mathlib.Core.Path.{refl}
+use native.Mathlib.Omega.{arith}
+use Rattle.pass.proofs.Stepped.{low-kept}
 use Rattle.pass.proofs.Taking.{take-zone, take-text, take-placed, not-known, take-unknown}
 use borrow.Author.Needs.{needs}
 use Rattle.pass.proofs.take.Statement.{statement}
@@ -69,12 +71,12 @@ returns-10 c =
 returns-11 : tie.Need-returns-11
 returns-11 c =
     let m = c .before .before .before in
-    take-zone _ _ _ _ _ _ _ _ (m .match .keys11) (c .zone-step .ensures _ _ _ _)
+    take-zone _ _ _ _ _ _ _ _ (c .zone-step .ensures .1) (m .match .keys11) (c .zone-step .ensures .0 _ _ _ _)
 
 returns-12 : tie.Need-returns-12
 returns-12 c =
     let m = c .before .before in
-    take-text _ _ _ _ _ _ _ _ (m .match .keys12) (c .text-step .ensures _ _ _ _ _)
+    take-text _ _ _ _ _ _ _ _ (c .text-step .ensures .1) (m .match .keys12) (c .text-step .ensures .0 _ _ _ _ _)
 
 returns-13 : tie.Need-returns-13
 returns-13 c =
@@ -91,7 +93,7 @@ returns-14 c =
 returns-15 : tie.Need-returns-15
 returns-15 c =
     let m = c .before .match .rest in
-    take-unknown _ _ _ _ _ _ _ _
+    take-unknown _ _ _ _ _ _ _ _ (low-kept _ _ (omega arith) (omega arith) (c .stopped .ensures .1))
     (not-known _
     (m .0 .0 .0 .0 .0 .0 .0 .0 .0 .0 .0 .0 .0 .1)
     (m .0 .0 .0 .0 .0 .0 .0 .0 .0 .0 .0 .0 .1)

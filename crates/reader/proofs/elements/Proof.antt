@@ -1,49 +1,39 @@
 -- `elements` meets its contract: where the pass stopped, or the rules over what it gathered.
 -- Assumes nothing.
 use mathlib.Core.Path.{refl}
-use Rattle.reader.proofs.Reading.{at-start, stopped-there, came-through}
+use denote.Ref.{now}
+use Rattle.reader.proofs.Reading.{at-start, walked, stopped-there, came-through}
 use borrow.Author.Needs.{needs}
 use Rattle.reader.proofs.elements.Statement.{statement}
 use Rattle.reader.proofs.elements.Tie as tie
 
-shared-slice-read-wide : tie.Need-shared-slice-read-wide
-shared-slice-read-wide c = search needs
-
-wide-requires : tie.Need-wide-requires
-wide-requires c κs = search needs
-
-array-write-su : tie.Need-array-write-su
-array-write-su c = search needs
-
-walk-requires : tie.Need-walk-requires
-walk-requires c κs =
-    let p = c .before .before .before .before .before .before .before .pre in
-    let w = c .before .before .before .before .wide in
-    (p .0, p .1, p .2, at-start _ _ (w .result) (w .ensures .1) (w .ensures .0) refl refl (p .3) refl)
-
 returns : tie.Need-returns
-returns c = stopped-there _ _ _ _ _ _ _ (c .before .before .walk .ensures) (c .if1 .taken)
-
-array-write-ss : tie.Need-array-write-ss
-array-write-ss c = search needs
+returns c =
+    let g = c .before .before .before .before .before .before .before .before in
+    let s = g .before .before .before in
+    let k = at-start _ _ (g .wide .result) (g .wide .ensures .1) (g .wide .ensures .0) refl refl (s .pre .3) refl in
+    stopped-there _ _ (now (s .args .t)) _ _ (walked _ (now (s .args .t)) _ _ _ _ (s .pre .2) k (c .before .before .walk .ensures)) (c .if1 .taken)
 
 concluded-requires : tie.Need-concluded-requires
 concluded-requires c κs =
-    let p = c .before .before .before .before .before .before .before .before .before .before .before .before .before .before .before .pre in
-    came-through _ _ _ _ _ _ _ _ refl (c .before .before .before .before .before .before .before .walk .ensures) (c .before .before .before .before .before .if1 .left) (p .2) (p .0) (p .1)
-
-returns-2 : tie.Need-returns-2
-returns-2 c = search needs
+    let d = c .before .before .before .before .before in
+    let g = d .before .before .before .before .before .before .before .before in
+    let s = g .before .before .before in
+    let k = at-start _ _ (g .wide .result) (g .wide .ensures .1) (g .wide .ensures .0) refl refl (s .pre .3) refl in
+    came-through _ (now (s .args .t)) _ _ _ _ _ (walked _ (now (s .args .t)) _ _ _ _ (s .pre .2) k (d .before .before .walk .ensures)) (d .if1 .left) (s .pre .2) (s .pre .0) (s .pre .1)
 
 pub elements-spec : {M : Type 1} → statement M
 elements-spec =
     tie.close
     (tie.spec
-    shared-slice-read-wide
-    wide-requires
-    array-write-su
-    walk-requires
+    (λ c. search needs)
+    (λ c κs. search needs)
+    (λ c. search needs)
+    (λ c. search needs)
+    (λ c. search needs)
+    (λ c. search needs)
+    (λ c κs. search needs)
     returns
-    array-write-ss
+    (λ c. search needs)
     concluded-requires
-    returns-2)
+    (λ c. search needs))

@@ -2,8 +2,7 @@
 -- Assumes nothing.
 use mathlib.Core.Path.{refl}
 use denote.Ref.{now}
-use Rattle.format.specs.Records.{string}
-use Rattle.rules.proofs.Contents.{text-short, text-long, text-rest}
+use Rattle.rules.proofs.Contents.{text-short, text-rest}
 use borrow.Author.Needs.{needs}
 use Rattle.rules.proofs.text_breaks.Statement.{statement}
 use Rattle.rules.proofs.text_breaks.Tie as tie
@@ -13,9 +12,8 @@ returns c = text-short (now (c .before .before .args .part)) (c .if1 .taken)
 
 returns-2 : tie.Need-returns-2
 returns-2 c =
-    let s = c .before .before .before .before .before .before in
-    let p = now (s .args .part) in
-    λ σ. c .own-breaks .ensures σ (string p) (text-long p (c .before .before .before .before .if1 .left)) (rw (c .before .well-formed .ensures, text-rest p) refl) refl refl
+    let p = now (c .before .before .before .before .before .before .args .part) in
+    λ σ. c .text-rules .ensures σ p (c .before .before .before .before .if1 .left) refl (rw (c .before .well-formed .ensures, text-rest p) refl)
 
 pub text-breaks-spec : {M : Type 1} → statement M
 text-breaks-spec =

@@ -1,0 +1,4 @@
+pub mod Keeping
+pub mod Unit
+pub mod Block
+pub mod Growing
