@@ -12,7 +12,7 @@ void *memset(void *to, int value, number count);
 int memcmp(const void *one, const void *other, number count);
 void _exit(int status);
 
-/* Settings are one number: bit 0 set is the 321, bit 1 the archive's rules; start, append, rewrite, remove and the
+/* Settings are one number: bit 0 set is the 321, bit 1 the archive's rules; start, append, rewrite, remove, diff and the
    calls on sheets ignore bit 1. */
 number esa_check(const byte *table, number length, number settings);
 /* Weak, so that an archive without them links too: their modes then answer NO_SUCH_CALL. */
@@ -57,6 +57,7 @@ __attribute__((weak)) number esa_receiving_piece(number *numbers, byte *describe
 __attribute__((weak)) number esa_receiving_end(number *numbers, const byte *described, const _Bool *zones, const _Bool *strings,
                                                const _Bool *named_zones, const _Bool *named_strings,
                                                const unsigned short *zone_places, const unsigned short *string_places);
+__attribute__((weak)) number esa_diff(const byte *one, number one_length, const byte *two, number two_length, number settings, byte *out);
 
 static number esa_receive_start(byte *state, number settings)
 {
@@ -89,18 +90,19 @@ enum { SHEET = 50, SHEET_TEXT = 275, SHEET_CALL = 1 + SHEET, MOST_SHEETS = 256 }
 /* A lent name is no well-formed text: it comes back as it is. A piece is gone when its call returns. */
 enum { FRONT = 256, FRONT_BYTE = 0xC3, NAME_BYTE = 0xD8, GONE_BYTE = 0x5A, ROOM = 1 << 20, GUARD = 1 << 16 };
 enum { STEP = 9, MOST_STEPS = 1 << 16, REPORT = 64 };
+enum { PAIR = 15, DIFF = 65536 };
 #define NO_SUCH_CALL (~0UL)
 #define STATE_CHANGED (~1UL) /* by a call that was to keep it */
 
 static byte input[1 << 21];
 static byte output[1 << 16];
 static number waiting; /* bytes of output */
-static byte *table_end, *numbers_end, *part_end, *text_end, *name_end, *state_end; /* of six guarded places */
+static byte *table_end, *numbers_end, *part_end, *text_end, *name_end, *state_end, *lines_end; /* of seven guarded places */
 static byte front[FRONT];
-/* What a listing's buffer, and the numbers of a reading, hold before the call: no byte of a text, and no zero. */
+/* What the buffer of a listing or of a pair's lines, and the numbers of a reading, hold before the call: no byte of a text, no zero. */
 static union {
-    byte bytes[LISTING];
-    number words[LISTING / 8];
+    byte bytes[DIFF];
+    number words[DIFF / 8];
 } pattern;
 
 static void flush(void)
@@ -185,13 +187,13 @@ static void answer_reader(byte mode, const byte *body, number length, number k, 
     put(&value, 8);
 }
 
-/* The number of bytes of the listing's buffer up to the last that is not as it was, or the answered length if that is more.
+/* The number of bytes of a text's buffer up to the last that is not as it was, or the answered length if that is more.
    By words, as an emulator takes its time over memcmp. */
-static number altered(const byte *buffer, number answered)
+static number altered(const byte *buffer, number room, number answered)
 {
     const number *words = (const number *)buffer;
-    number from = answered < LISTING ? answered : LISTING;
-    number end = LISTING;
+    number from = answered < room ? answered : room;
+    number end = room;
     while (end >= from + 8 && words[end / 8 - 1] == pattern.words[end / 8 - 1]) end -= 8;
     while (end > from && buffer[end - 1] == pattern.bytes[end - 1]) end--;
     return end;
@@ -207,7 +209,7 @@ static void answer_list(const byte *body, number length, number settings)
     number answered = esa_list ? esa_list(table, length, settings, buffer) : 0;
     if (memcmp(buffer - FRONT, front, FRONT) || memcmp(table, body, length)) _exit(TOUCHED);
     number value = esa_list ? 256 * answered : NO_SUCH_CALL;
-    number count = altered(buffer, answered);
+    number count = altered(buffer, LISTING, answered);
     put(&value, 8);
     put(&count, 8);
     put(buffer, count);
@@ -454,6 +456,22 @@ static void answer_receive(const byte *body, number length, number count, number
     if (memcmp(state_end - STATE - FRONT, front, FRONT)) _exit(TOUCHED);
 }
 
+/* Two tables side by side, the second in the part's place. The answer goes out, then the number of bytes that altered tells of, and
+   these bytes; with a refusal all that are not as they were. The buffer is the pattern again for the next call. */
+static void answer_pair(const byte *body, number length, number two_length, number settings)
+{
+    byte *one = table_end - length, *two = part_end - two_length, *out = lines_end - DIFF;
+    memcpy(one, body, length);
+    memcpy(two, body + length, two_length);
+    number value = esa_diff ? esa_diff(one, length, two, two_length, settings, out) : NO_SUCH_CALL;
+    if (memcmp(out - FRONT, front, FRONT) || memcmp(one, body, length) || memcmp(two, body + length, two_length)) _exit(TOUCHED);
+    number count = altered(out, DIFF, value & 0xFF ? 0 : value >> 8);
+    put(&value, 8);
+    put(&count, 8);
+    put(out, count);
+    memcpy(out, pattern.bytes, count);
+}
+
 /* Answers the whole requests among the bytes held, and gives the number of bytes that they took. */
 static number answer_all(number held)
 {
@@ -470,11 +488,11 @@ static number answer_all(number held)
         memcpy(&settings, request + 13, 8);
         number part_length = writes ? k >> 8 : 0;
         number readings = mode == READINGS ? k : 0, zones = mode == FANS ? k : 0, removals = mode == REMOVALS ? k : 0;
-        number sheets = mode == SHEETS ? k : 0, steps = mode == RECEIVE ? k : 0;
+        number sheets = mode == SHEETS ? k : 0, steps = mode == RECEIVE ? k : 0, two_length = mode == PAIR ? k : 0;
         if (length > (moves ? LONGEST_TEXT : LONGEST) || (moves && k > LONGEST_TEXT)) _exit(BROKEN_REQUEST);
-        if (part_length > LONGEST || readings > MOST_READINGS || zones > MOST_ZONES) _exit(BROKEN_REQUEST);
+        if (part_length > LONGEST || two_length > LONGEST || readings > MOST_READINGS || zones > MOST_ZONES) _exit(BROKEN_REQUEST);
         if (removals > MOST_REMOVALS || sheets > MOST_SHEETS || steps > MOST_STEPS) _exit(BROKEN_REQUEST);
-        number asked = readings * READING + zones + 8 * removals + sheets * SHEET_CALL + steps * STEP;
+        number asked = readings * READING + zones + 8 * removals + sheets * SHEET_CALL + steps * STEP + two_length;
         number size = HEADER + (number)length + (writes ? NUMBERS + part_length : asked);
         if (held - used < size) break;
         if (writes) answer_writer(mode, (byte)k, settings, request + HEADER, length, part_length);
@@ -485,6 +503,7 @@ static number answer_all(number held)
         else if (mode == SHEETS) answer_sheets(request + HEADER, length, sheets, settings);
         else if (moves) answer_moved(mode, request + HEADER, length, k, settings);
         else if (mode == RECEIVE) answer_receive(request + HEADER, length, steps, settings);
+        else if (mode == PAIR) answer_pair(request + HEADER, length, two_length, settings);
         else answer_reader(mode, request + HEADER, length, k, settings);
         used += size;
     }
@@ -501,9 +520,12 @@ int main(void)
     name_end = guarded_end();
     state_end = guarded_end();
     memset(name_end - LONGEST, NAME_BYTE, LONGEST);
-    for (int i = 0; i < LISTING; i++) pattern.bytes[i] = (byte)(0x80 + i % 127);
+    for (int i = 0; i < DIFF; i++) pattern.bytes[i] = (byte)(0x80 + i % 127);
     memcpy(text_end - LISTING - FRONT, front, FRONT);
     memcpy(text_end - LISTING, pattern.bytes, LISTING);
+    lines_end = guarded_end();
+    memcpy(lines_end - DIFF - FRONT, front, FRONT);
+    memcpy(lines_end - DIFF, pattern.bytes, DIFF);
     number held = 0;
     for (;;) {
         long got = read(0, input + held, sizeof input - held);

@@ -5,7 +5,8 @@
    WHAT A CALLER OWES. Nothing proves the C around the library, so these three are yours to keep:
    - Each pointer and the length behind it are memory that may be read, and of 'buffer', 'out', 'numbers', 'table' and 'sheet' that is
      not const also written, until the call returns; so is '*state'. 'numbers' is 32 bytes, 'sheet' 25 numbers of two bytes, the 'out' of
-     esa_list 4,096 bytes and that of esa_sheet_text 275. A bool is 0 or 1. With a length of 0 the pointer is not followed: NULL will do.
+     esa_list 4,096 bytes, that of esa_sheet_text 275 and that of esa_diff 65,536. A bool is 0 or 1. With a length of 0 the pointer is not
+     followed: NULL will do.
    - The places lent to one call do not overlap.
    - Nobody else writes to them before the call returns.
    No other condition is asked: any bytes, any lengths and any numbers have an answer. As the code stands (this is no theorem)
@@ -329,6 +330,26 @@ static inline uint64_t esa_receive_end(struct esa_receiving *state)
 {
     return esa_receiving_end(state->numbers, state->description, state->zones, state->strings, state->named_zones,
                              state->named_strings, state->zone_places, state->string_places);
+}
+
+/* Two tables side by side: in which fields do their records differ? Both are read for the chip of the settings and always by the
+   archive's rules (bit 1 is ignored). 0, and beside it the length of the text that is put at the front of 'out'; the bytes behind it
+   are as they were. The length is 0 exactly when the records are equal: reserved places, offsets and the table's length are no part
+   of them. A line for each field that differs, first of the description, then of the elements paired by their numbers, each in the
+   layout's order: D, the offset in the first table, that in the second, the field's name, its first content, its second, parted by
+   tabs and ended by a line feed. The description's offset is 0. Contents are decimal, pins as in the listing or -, variable parts
+   whole in hex. Two elements of different kinds, or one without a partner, have one line: the field kind, identifiers as contents,
+   and - for the offset and the content that are missing. With the tables exchanged each line has its two sides exchanged.
+   Or the refusal of the first table, or else of the second, as esa_check gives it by the archive's rules: its place is esa_place, and
+   esa_diff_table says of which table, 1 or 2; then no byte of 'out' alters. Every text fits into 'out', and none is ended by a zero. */
+enum { ESA_DIFF = 65536 };
+uint64_t esa_diff(const uint8_t *one, size_t one_length, const uint8_t *two, size_t two_length, uint64_t settings,
+                  uint8_t out[ESA_DIFF]);
+
+/* 1 or 2 with a refusal; 0 without. */
+static inline unsigned esa_diff_table(uint64_t answer)
+{
+    return esa_number(answer) == ESA_GOOD ? 0 : (unsigned)(answer >> 24 & 3);
 }
 
 /* WRITING. A table is started in a buffer and each element appended to it; bytes 1-2 of the buffer hold the length so far.

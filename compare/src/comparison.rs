@@ -9,6 +9,7 @@ use crate::hex::Hex;
 use crate::known::Row;
 use crate::options::Options;
 use crate::outcome::Outcome;
+use crate::pairs::Pairs;
 use crate::question::{Origin, Question};
 use crate::receiving::Receiving;
 use crate::removals::Removals;
@@ -38,6 +39,8 @@ pub struct Comparison {
     hex: Option<Hex>,
     /// Have every table received in pieces too.
     receiving: Option<Receiving>,
+    /// Hold tables side by side too.
+    pairs: Option<Pairs>,
 }
 
 /// Numbers that no table has, and that are small ones in their low bits.
@@ -87,6 +90,10 @@ impl Comparison {
                 true => Some(Receiving::start(options)?),
                 false => None,
             },
+            pairs: match options.pairs {
+                true => Some(Pairs::start(options)?),
+                false => None,
+            },
             elements: options.elements,
             listing: options.listing,
         })
@@ -124,7 +131,8 @@ impl Comparison {
             self.receive(origin, number, &table)?;
         }
         self.removals(origin, turn, &table)?;
-        self.hex(origin, &all, turn, &table)
+        self.hex(origin, &all, turn, &table)?;
+        self.pairs(origin, turn, made_for, &table)
     }
 
     fn calls(&mut self, origin: Origin, settings: u64, table: &Rc<[u8]>) -> Result<(), String> {
@@ -168,7 +176,8 @@ impl Comparison {
         self.removals(origin, turn, &table)?;
         self.sheets(origin, settings, &table)?;
         self.hex(origin, &[row.settings], turn, &table)?;
-        self.receive(origin, settings, &table)
+        self.receive(origin, settings, &table)?;
+        self.pairs(origin, turn, row.settings, &table)
     }
 
     /// Holds both sides to the papers' answers of fans, if they are asked for.
@@ -189,6 +198,11 @@ impl Comparison {
     /// Holds both sides to the papers' answers of texts in HEX, and compares those at the edges.
     pub fn hex_texts(&mut self) -> Result<(), String> {
         self.hex.as_mut().map_or(Ok(()), Hex::texts)
+    }
+
+    /// The same of tables side by side.
+    pub fn known_pairs(&mut self) -> Result<(), String> {
+        self.pairs.as_mut().map_or(Ok(()), Pairs::known)
     }
 
     /// Compares the calls on parts at their edges.
@@ -262,6 +276,19 @@ impl Comparison {
         Ok(())
     }
 
+    fn pairs(
+        &mut self,
+        origin: Origin,
+        turn: u64,
+        made_for: Settings,
+        table: &Rc<[u8]>,
+    ) -> Result<(), String> {
+        let Some(pairs) = &mut self.pairs else {
+            return Ok(());
+        };
+        pairs.table(origin, turn, made_for, table)
+    }
+
     fn listing(&mut self, origin: Origin, settings: u64, table: &Rc<[u8]>) -> Result<(), String> {
         if !self.listing {
             return Ok(());
@@ -296,7 +323,8 @@ impl Comparison {
         let sheets = self.sheets.as_ref().map_or(0, Sheets::differences);
         let hex = self.hex.as_ref().map_or(0, Hex::differences);
         let receiving = self.receiving.as_ref().map_or(0, Receiving::differences);
-        let asked_of_tables = fields + fans + removals + sheets + hex + receiving;
+        let pairs = self.pairs.as_ref().map_or(0, Pairs::differences);
+        let asked_of_tables = fields + fans + removals + sheets + hex + receiving + pairs;
         self.exchange.tally.all_differences() + asked_of_tables
     }
 
@@ -308,6 +336,7 @@ impl Comparison {
         tally.sheets = self.sheets.map(Sheets::finish).transpose()?;
         tally.hex = self.hex.map(Hex::finish).transpose()?;
         tally.receiving = self.receiving.map(Receiving::finish).transpose()?;
+        tally.pairs = self.pairs.map(Pairs::finish).transpose()?;
         Ok(tally)
     }
 }

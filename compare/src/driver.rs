@@ -9,7 +9,7 @@ use std::thread::JoinHandle;
 /// As many sends may be unanswered at one time; one more might wait for ever.
 pub const MOST_UNANSWERED: usize = 2;
 /// The buffer that is lent for a listing.
-const LISTING_ROOM: usize = 4_096;
+pub const LISTING_ROOM: usize = 4_096;
 
 pub struct Driver {
     child: Child,
@@ -70,12 +70,12 @@ impl Driver {
         Ok(bytes)
     }
 
-    /// The front of a listing's buffer, as far as a byte of it is altered: its length goes before it.
-    pub fn receive_altered(&mut self) -> Result<Vec<u8>, String> {
+    /// The front of a text's buffer, so large, as far as a byte of it is altered: its length goes before it.
+    pub fn receive_altered(&mut self, room: usize) -> Result<Vec<u8>, String> {
         let count = self.receive_number()?;
         match usize::try_from(count) {
-            Ok(count) if count <= LISTING_ROOM => self.receive_bytes(count),
-            _ => Err(format!("the driver tells of {count} bytes of a listing")),
+            Ok(count) if count <= room => self.receive_bytes(count),
+            _ => Err(format!("the driver tells of {count} bytes of a text")),
         }
     }
 

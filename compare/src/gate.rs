@@ -6,6 +6,7 @@ use crate::fields;
 use crate::hex;
 use crate::known;
 use crate::options::Options;
+use crate::pairs;
 use crate::question::Origin;
 use crate::receiving;
 use crate::removals;
@@ -28,6 +29,7 @@ pub fn gate(options: &Options) -> Result<bool, String> {
     comparison.known_removals()?;
     comparison.known_sheets()?;
     comparison.hex_texts()?;
+    comparison.known_pairs()?;
     // Two and two, as many cases come in pairs.
     for (at, (name, table)) in generator::targeted().iter().enumerate() {
         let made_for = Settings::ALL[at / 2 % 4];
@@ -81,6 +83,7 @@ fn judged(tally: &Tally, elements: bool) -> bool {
     good &= tally.hex.as_ref().is_none_or(hex::Tally::all_came);
     let receiving = tally.receiving.as_ref();
     good &= receiving.is_none_or(receiving::Tally::all_came);
+    good &= tally.pairs.as_ref().is_none_or(pairs::Tally::all_came);
     tally.print_sum();
     good && tally.all_differences() == 0
 }

@@ -15,6 +15,7 @@ mod known;
 mod long;
 mod options;
 mod outcome;
+mod pairs;
 mod progress;
 mod question;
 mod receiving;
@@ -30,8 +31,8 @@ use options::{Command, Options};
 use std::process::ExitCode;
 
 const USAGE: &str = "\
-use: compare gate [--elements] [--listing] [--fields] [--fans] [--removals] [--sheets] [--hex] [--receive] [--writer] [--first] --driver COMMAND...
-     compare long --seed S --count N [--elements] [--listing] [--fields] [--fans] [--removals] [--sheets] [--hex] [--receive] --driver COMMAND...
+use: compare gate [--elements] [--listing] [--fields] [--fans] [--removals] [--sheets] [--hex] [--receive] [--pairs] [--writer] [--first] --driver COMMAND...
+     compare long --seed S --count N [--elements] [--listing] [--fields] [--fans] [--removals] [--sheets] [--hex] [--receive] [--pairs] --driver COMMAND...
      compare writer --seed S --count N --driver COMMAND...
      compare stand-in
 ";

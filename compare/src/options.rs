@@ -26,6 +26,7 @@ pub struct Options {
     pub sheets: bool,
     pub hex: bool,
     pub receive: bool,
+    pub pairs: bool,
     /// The gate: the writer's calls too.
     pub writer: bool,
     /// The gate: it ends at the first difference.
@@ -47,6 +48,7 @@ struct Given {
     sheets: bool,
     hex: bool,
     receive: bool,
+    pairs: bool,
     writer: bool,
     first: bool,
     driver: Vec<String>,
@@ -75,6 +77,7 @@ impl Given {
                 "--sheets" => given.sheets = true,
                 "--hex" => given.hex = true,
                 "--receive" => given.receive = true,
+                "--pairs" => given.pairs = true,
                 "--writer" => given.writer = true,
                 "--first" => given.first = true,
                 "--driver" => given.driver = words.by_ref().cloned().collect(),
@@ -102,7 +105,8 @@ impl Options {
             return Err("'--writer' and '--first' are for the gate alone".into());
         }
         let of_tables = given.elements || given.listing || given.fields || given.fans;
-        let of_tables = of_tables || given.removals || given.sheets || given.hex || given.receive;
+        let of_tables = of_tables || given.removals || given.sheets || given.hex;
+        let of_tables = of_tables || given.receive || given.pairs;
         if of_tables && matches!(command, Command::Writer { .. }) {
             return Err("the writer's calls take '--seed' and '--count' alone".into());
         }
@@ -119,6 +123,7 @@ impl Options {
             sheets: given.sheets,
             hex: given.hex,
             receive: given.receive,
+            pairs: given.pairs,
             writer: given.writer,
             first: given.first,
             driver: given.driver,

@@ -1,7 +1,7 @@
 //! One call on one table.
 
 use crate::call::Call;
-use crate::driver::Driver;
+use crate::driver::{Driver, LISTING_ROOM};
 use crate::exchange::Asked;
 use crate::outcome::{hex, Outcome};
 use std::fmt;
@@ -46,7 +46,7 @@ impl Asked for Question {
     fn reply(&self, driver: &mut Driver) -> Result<Outcome, String> {
         let answer = driver.receive()?;
         let buffer = match self.call {
-            Call::List => driver.receive_altered()?,
+            Call::List => driver.receive_altered(LISTING_ROOM)?,
             _ => Vec::new(),
         };
         Ok(Outcome { answer, buffer })

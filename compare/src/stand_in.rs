@@ -6,6 +6,7 @@ use crate::fans::{self, Zones};
 use crate::fields::Reading;
 use crate::hex::Way;
 use crate::outcome::Outcome;
+use crate::pairs::{self, Pair};
 use crate::question::Origin;
 use crate::receiving::{Conversation, Step};
 use crate::removals::{self, Removal};
@@ -53,6 +54,7 @@ fn answer(from: &mut impl Read) -> io::Result<Vec<u8>> {
         None if mode == Removal::MODE => of_removals(k, settings, &lent, from),
         None if mode == Asking::MODE => of_sheets(k, settings, &lent, from),
         None if mode == Conversation::MODE => of_steps(k, settings, &lent, from),
+        None if mode == Pair::MODE => of_pair(k, settings, &lent, from),
         None => of_readings(k, settings, &lent, from),
     }
 }
@@ -164,6 +166,14 @@ fn of_steps(count: u64, settings: u64, lent: &[u8], from: &mut impl Read) -> io:
     };
     let answers = conversation.second();
     Ok(answers.iter().flat_map(|one| one.0.to_le_bytes()).collect())
+}
+
+/// The second table follows the first.
+fn of_pair(length: u64, settings: u64, one: &[u8], from: &mut impl Read) -> io::Result<Vec<u8>> {
+    let two = bytes(from, length as usize)?;
+    let Outcome { answer, buffer } = pairs::second(one, &two, settings);
+    let length = (buffer.len() as u64).to_le_bytes();
+    Ok([&answer.0.to_le_bytes(), &length, &buffer[..]].concat())
 }
 
 fn bytes(from: &mut impl Read, count: usize) -> io::Result<Vec<u8>> {

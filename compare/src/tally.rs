@@ -7,6 +7,7 @@ use crate::fans;
 use crate::fields;
 use crate::hex::Tally as HexTally;
 use crate::outcome::{hex, text, Differences, Outcome};
+use crate::pairs;
 use crate::question::Question;
 use crate::receiving;
 use crate::removals;
@@ -34,6 +35,8 @@ pub struct Tally {
     pub hex: Option<HexTally>,
     /// And of tables in pieces.
     pub receiving: Option<receiving::Tally>,
+    /// And of tables side by side.
+    pub pairs: Option<pairs::Tally>,
     /// By mode: how often each number came, both sides agreeing.
     answers: [Answers; 3],
 }
@@ -82,6 +85,9 @@ impl Tally {
         if let Some(receiving) = &self.receiving {
             receiving.print_answers();
         }
+        if let Some(pairs) = &self.pairs {
+            pairs.print_answers();
+        }
     }
 
     /// Prints the answers of this mode that should have come and did not, those to a whole table and these
@@ -105,11 +111,12 @@ impl Tally {
         let sheets = self.sheets.as_ref().map_or(0, |them| them.differences.0);
         let hex = self.hex.as_ref().map_or(0, |hex| hex.differences.0);
         let receiving = self.receiving.as_ref().map_or(0, |them| them.differences.0);
-        let asked_of_tables = fields + fans + removals + sheets + hex + receiving;
+        let pairs = self.pairs.as_ref().map_or(0, |them| them.differences.0);
+        let asked_of_tables = fields + fans + removals + sheets + hex + receiving + pairs;
         self.differences.0 + self.listing_differences.0 + asked_of_tables
     }
 
-    /// The last line, or the last eight.
+    /// The last line, or the last nine.
     pub fn print_sum(&self) {
         println!("{} tables, {} differences", self.tables, self.differences.0);
         if self.listings > 0 {
@@ -133,6 +140,9 @@ impl Tally {
         }
         if let Some(receiving) = &self.receiving {
             receiving.print_sum();
+        }
+        if let Some(pairs) = &self.pairs {
+            pairs.print_sum();
         }
     }
 }

@@ -1,7 +1,7 @@
 /* A tour of the library from C: is a file a table, what stands in it, is there a fan in a zone, how a new one is written,
    which pins are taken, how it is written again and moved to Intel HEX and back; a lamp that one of the two chips has no pin for; an
-   old sensor that the archive's rules alone take; a lamp of three colours on a chip of its own; what an element is called; and how a
-   part is taken out.
+   old sensor that the archive's rules alone take; a lamp of three colours on a chip of its own; what an element is called; how a
+   part is taken out; and what was altered in a table.
    tour [FILE]      without FILE it looks at a table of its own. On x86-64:
    rt staticlib esa && cc -std=c99 -I include examples/c/tour.c target/staticlib/libesa.a -o tour */
 #include <stdio.h>
@@ -253,6 +253,20 @@ static int read_file(const char *name, uint8_t *bytes, size_t most, size_t *leng
     return good;
 }
 
+/* Last month's table and this month's: the fan was moved to zone 2, and its zone with it; and a table that breaks a rule. */
+static void side_by_side(uint8_t *other, size_t length)
+{
+    static uint8_t text[ESA_DIFF];
+    other[23] = other[35] = 2;
+    uint64_t answer = esa_diff(own_table, sizeof own_table, other, length, CHIP, text);
+    told("what was altered", answer, "bytes of text");
+    if (esa_number(answer) == ESA_GOOD)
+        printf("%.*s", (int)esa_beside(answer), (const char *)text);
+    other[23] = 3;
+    answer = esa_diff(own_table, sizeof own_table, other, length, CHIP, text);
+    printf("with no zone 3: table %u is refused, %u at %zu\n", esa_diff_table(answer), esa_number(answer), esa_place(answer));
+}
+
 int main(int count, char **arguments)
 {
     uint8_t table[ESA_LONGEST + 1];
@@ -303,5 +317,9 @@ int main(int count, char **arguments)
     printf("\na table with parts taken out\n");
     memcpy(buffer, own_table, sizeof own_table);
     take_out(buffer, sizeof own_table);
+
+    printf("\ntwo tables side by side\n");
+    memcpy(buffer, own_table, sizeof own_table);
+    side_by_side(buffer, sizeof own_table);
     return good ? 0 : 1;
 }

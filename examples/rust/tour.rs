@@ -1,7 +1,7 @@
 //! A tour of the library from Rust: is a file a table, what stands in it, is there a fan in a zone, how a new one is written,
 //! which pins are taken, how it is written again and moved to Intel HEX and back; a lamp that one of the two chips has no pin for; an
-//! old sensor that the archive's rules alone take; a lamp of three colours on a chip of its own; what an element is called; and how a
-//! part is taken out.
+//! old sensor that the archive's rules alone take; a lamp of three colours on a chip of its own; what an element is called; how a
+//! part is taken out; and what was altered in a table.
 //! tour [FILE]      without FILE it looks at a table of its own. On x86-64:
 //! rt staticlib esa && rustc --edition 2021 -L target/staticlib -l static=esa examples/rust/tour.rs
 
@@ -115,6 +115,14 @@ mod esa {
                 settings: u64,
                 out: *mut u8,
                 room: usize,
+            ) -> u64;
+            pub fn esa_diff(
+                one: *const u8,
+                one_length: usize,
+                two: *const u8,
+                two_length: usize,
+                settings: u64,
+                out: &mut [u8; 65536],
             ) -> u64;
             pub fn esa_remove(table: *mut u8, length: usize, k: usize, settings: u64) -> u64;
             pub fn esa_hex(
@@ -285,6 +293,20 @@ mod esa {
     pub fn unhex(text: &[u8], chip: Chip, out: &mut [u8]) -> Answer {
         let (at, room) = (out.as_mut_ptr(), out.len());
         unpacked(unsafe { c::esa_unhex(text.as_ptr(), text.len(), chip as u64, at, room) })
+    }
+
+    /// A line for each field in which two tables differ; or the refusal of one of them, 1 or 2.
+    pub fn diff(one: &[u8], two: &[u8], chip: Chip) -> Result<String, (u8, Refusal)> {
+        let mut text = [0; 65536];
+        let (from, length) = (one.as_ptr(), one.len());
+        let answer = unsafe {
+            c::esa_diff(from, length, two.as_ptr(), two.len(), chip as u64, &mut text)
+        };
+        let (number, place) = (answer as u8, (answer >> 8 & 0xFFFF) as usize);
+        match number {
+            0 => Ok(text[..place].iter().map(|&byte| char::from(byte)).collect()),
+            _ => Err(((answer >> 24 & 3) as u8, Refusal { number, place })),
+        }
     }
 
     /// The listing: a line for the table and one for each element, or the refusal.
@@ -549,6 +571,21 @@ fn take_out(table: &mut [u8]) -> Result<(), esa::Refusal> {
     Ok(())
 }
 
+/// Last month's table and this month's: the fan was moved to zone 2, and its zone with it; and a table that breaks a rule.
+fn side_by_side(other: &mut [u8]) {
+    other[23] = 2;
+    other[35] = 2;
+    if let Ok(text) = esa::diff(&own_table(), other, CHIP) {
+        println!("what was altered: good, {} bytes of text", text.len());
+        print!("{text}");
+    }
+    other[23] = 3;
+    if let Err((table, refusal)) = esa::diff(&own_table(), other, CHIP) {
+        let (number, place) = (refusal.number, refusal.place);
+        println!("with no zone 3: table {table} is refused, {number} at {place}");
+    }
+}
+
 /// Writes a table again: the same table, but for its reserved places, which become zero.
 fn again(table: &[u8]) -> Result<(), esa::Refusal> {
     let mut out = [0; esa::LONGEST];
@@ -634,6 +671,9 @@ fn tour(table: &[u8]) -> Result<bool, esa::Refusal> {
 
     println!("\na table with parts taken out");
     take_out(&mut own_table())?;
+
+    println!("\ntwo tables side by side");
+    side_by_side(&mut own_table());
     Ok(answer.is_ok())
 }
 

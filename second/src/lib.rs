@@ -9,6 +9,7 @@
 pub mod access;
 pub mod answer;
 pub mod blocks;
+pub mod diff;
 pub mod element;
 pub mod fan;
 pub mod fields;
@@ -36,6 +37,7 @@ pub mod writer;
 
 pub use access::{description, element, part};
 pub use answer::{Refusal, Verdict};
+pub use diff::{diff, diff_text, Refused, DIFF};
 pub use fan::{fan, Accepted, Walked};
 pub use fields::{describe, fields, part_place, text_place};
 pub use hex::{hex, unhex};

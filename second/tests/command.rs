@@ -127,6 +127,44 @@ fn long_texts_are_not_cut_short() {
 }
 
 #[test]
+fn holds_two_files_side_by_side() {
+    let folder = std::env::temp_dir().join(format!("second-diff-{}", std::process::id()));
+    std::fs::create_dir_all(&folder).unwrap();
+    let file = |name: &str, table: &[u8]| {
+        let path = folder.join(name);
+        std::fs::write(&path, table).unwrap();
+        path.to_str().unwrap().to_string()
+    };
+    let one = file(
+        "one",
+        &raw::table(&[raw::zone(1, 0), raw::analogue(1, 0x27)]),
+    );
+    let two = file(
+        "two",
+        &raw::table(&[raw::zone(2, 0), raw::analogue(2, 0x24)]),
+    );
+    let bad = file("bad", &raw::table(&[raw::analogue(2, 0x24)]));
+    let long = file("long", &[&raw::TABLE_A[..], &[0; 5000]].concat());
+    let said = |words: &[&str]| {
+        let output = run(&[&["diff"], words].concat(), &[]);
+        assert!(output.status.success());
+        String::from_utf8(output.stdout).unwrap()
+    };
+    assert_eq!(said(&[&one, &one]), "");
+    let lines = said(&["--chip", "320", &one, &two]);
+    assert!(lines.ends_with("D\t46\t46\tzone identifier\t1\t2\nD\t46\t46\tpin\tP2.7\tP2.4\n"));
+    assert_eq!(said(&["--chip", "321", &one, &two]), "R\t1\t10\t46\n");
+    assert_eq!(said(&[&bad, &bad]), "R\t1\t13\t16\n");
+    assert_eq!(said(&[&one, &bad]), "R\t2\t13\t16\n");
+    assert_eq!(said(&[&one, &long]), "R\t2\t3\t0\n");
+    let missing = folder.join("missing").to_str().unwrap().to_string();
+    assert_eq!(said(&[&missing, &missing]), "X\t1\n");
+    assert_eq!(said(&[&bad, &missing]), "X\t2\n");
+    assert_eq!(said(&[folder.to_str().unwrap(), &one]), "X\t1\n");
+    std::fs::remove_dir_all(&folder).unwrap();
+}
+
+#[test]
 fn long_input_is_not_cut_to_a_table() {
     let mut table = raw::table(&[raw::text(1, &vec![0; 4096 - 22])]);
     assert_eq!(run(&["list"], &table).stdout.first(), Some(&b'T'));
@@ -220,7 +258,7 @@ fn holds_itself_against_itself() {
 
 #[test]
 fn misuse_is_told_and_gives_status_2() {
-    let misuses: [&[&str]; 52] = [
+    let misuses: [&[&str]; 55] = [
         &[],
         &["dance"],
         &["list", "extra"],
@@ -272,6 +310,9 @@ fn misuse_is_told_and_gives_status_2() {
         &["unhex", "extra"],
         &["unhex", "--archive"],
         &["unhex", "--chip", "322"],
+        &["diff", "one"],
+        &["diff", "one", "two", "three"],
+        &["diff", "--archive", "one", "two"],
         &[
             "rows", "--seed", "1", "--count", "1", "--max", "1", "--chip", "321",
         ],

@@ -1,5 +1,5 @@
 # Part of tests/files: how an input is held to the second program.
-# shellcheck shell=sh disable=SC2154
+# shellcheck shell=sh disable=SC2034,SC2154
 
 # The programs that are missing or old are built, and the commands that run them are known.
 ready() {
@@ -11,12 +11,14 @@ ready() {
     timeout 900 "$root/esa" remove "$root/tables/quiet-box.esa" 0 "$work/first" || die "the program remove does not run"
     timeout 900 "$root/esa" pins "$root/tables/quiet-box.esa" >/dev/null || die "the program pins does not run"
     timeout 900 "$root/esa" receive "$root/tables/quiet-box.esa" >/dev/null || die "the program receive does not run"
+    timeout 900 "$root/esa" diff "$root/tables/quiet-box.esa" "$root/tables/quiet-box.esa" || die "the program differences does not run"
     list=$("$root/tools/as-rt" "$root/target/bin/list") || exit 2
     receive=$("$root/tools/as-rt" "$root/target/bin/receive") || exit 2
     rewrite=$("$root/tools/as-rt" "$root/target/bin/rewrite") || exit 2
     seek=$("$root/tools/as-rt" "$root/target/bin/fan") || exit 2
     take=$("$root/tools/as-rt" "$root/target/bin/remove") || exit 2
     sheet=$("$root/tools/as-rt" "$root/target/bin/pins") || exit 2
+    sides=$("$root/tools/as-rt" "$root/target/bin/differences") || exit 2
 }
 
 # The words of every program that is run: its options, or none; of fan the zone, and of remove the element. Whether pins is run, too.

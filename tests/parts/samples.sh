@@ -53,8 +53,8 @@ sample_with() { # NAME STATUS OPTION STATUS
     try "./esa list $3 of $1 is as its text says" as_the_text_says "list $3" "$1" "$4"
 }
 
-twelve_samples() {
-    [ "$(find "$tables" -type f | wc -l)" -eq 25 ]
+fourteen_samples() {
+    [ "$(find "$tables" -type f | wc -l)" -eq 29 ]
 }
 
 samples() {
@@ -65,6 +65,8 @@ samples() {
     sample reports 0
     try "./esa receive of reports is as its text says" as_the_text_says receive reports 0
     try "./esa receive --report 1 of reports is as its text says" as_the_text_says "receive --report 1" reports 0
+    sample last-month 0
+    sample this-month 0
     sample spring 1
     sample mute 1
     sample blank 1
@@ -72,5 +74,5 @@ samples() {
     sample twice 1
     sample_with larger-chip 0 '--chip 321' 1
     sample_with old-box 1 --archive 0
-    try "twelve sample tables with a text each, one of them as Intel HEX too, and nothing else" twelve_samples
+    try "fourteen sample tables with a text each, one of them as Intel HEX too, and nothing else" fourteen_samples
 }

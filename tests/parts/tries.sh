@@ -68,4 +68,5 @@ first_use() {
     "$esa" pins "$tables/quiet-box.esa" >/dev/null
     "$esa" hex "$tables/quiet-box.esa" "$work/first" && "$esa" unhex "$work/first" "$work/first" && rm -f "$work/first"
     "$esa" receive "$tables/quiet-box.esa" >/dev/null
+    "$esa" diff "$tables/quiet-box.esa" "$tables/quiet-box.esa"
 }

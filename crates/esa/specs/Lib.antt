@@ -8,3 +8,4 @@ pub mod Blocks
 pub mod Writing
 pub mod Sheets
 pub mod Hex
+pub mod Differences

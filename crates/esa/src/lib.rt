@@ -20,6 +20,7 @@ ghost use Rattle.esa.specs.Fields.{DescribedFor, FieldsFor};
 ghost use Rattle.esa.specs.Places.{PlacedFor, TextPlaced, TextFor};
 ghost use Rattle.esa.specs.Labels.{LabelFor};
 ghost use Rattle.esa.specs.Fans.{FanFor};
+ghost use Rattle.esa.specs.Differences.{DiffFor};
 ghost use Rattle.esa.specs.Blocks.{packedBlock, packedPair, packedEntries};
 ghost use Rattle.esa.specs.Writing.{StartedFor, AppendedFor, RewrittenFor, RemovedFor};
 ghost use Rattle.esa.specs.Sheets.{SheetFor};
@@ -328,6 +329,15 @@ pub extern "C" fn esa_sheet_text(sheet: &[u16; 25], settings: u64, out: &mut [u8
     ensures { λ r. ⌜ Put (now (out .entry)) 0 (textOf (chipOf settings) (now (sheet .entry))) r (now (out .exit)) ⌝ }
 {
     pinlines::text(sheet, out, chip_of(settings))
+}
+
+// What differs between two tables, by the archive's rules, at the front of the buffer. Beside 0 stands the length of the text; beside a
+// refusal its place, and in bits 31-24 which table is refused, 1 or 2.
+#[no_mangle]
+pub extern "C" fn esa_diff(one: &[u8], two: &[u8], settings: u64, out: &mut [u8; 65536]) -> u64
+    ensures { λ r. ⌜ DiffFor (chipOf settings) (now (one .entry)) (now (two .entry)) (now (out .entry)) r (now (out .exit)) ⌝ }
+{
+    packing::outcome(comparing::compare(one, two, out, chip_of(settings)))
 }
 
 // Where the text of element k stands if it is a string: at byte 3 of its part.

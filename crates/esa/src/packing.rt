@@ -6,8 +6,10 @@ ghost use Rattle.esa.specs.Face.{packs, packed, packedAsked};
 ghost use Rattle.esa.specs.Places.{span as spanOf};
 ghost use Rattle.esa.specs.Labels.{within as withinOf, shown as shownOf, packedLabel, Fitting};
 ghost use Rattle.esa.specs.Fans.{oneIf, packedZoned, Bounded};
+ghost use Rattle.esa.specs.Differences.{packedOutcome, Fitted};
 ghost use Rattle.esa.specs.Blocks.{packedBlock, packedPair, packedEntries};
 ghost use Rattle.esa.specs.Writing.{packedWritten};
+use comparing::Outcome;
 use fans::Zoned;
 use format::answers::Answer;
 use format::answers::Asked;
@@ -108,6 +110,17 @@ fn one_if(found: bool) -> usize
     ensures { λ r. ⌜ (r ≡ oneIf found) × (r ≤ 1) ⌝ }
 {
     if found { 1 } else { 0 }
+}
+
+// Of two tables: beside 0 the length of the text, beside a refusal its place and which table is refused.
+pub fn outcome(o: Outcome) -> u64
+    requires { ⌜ Fitted o ⌝ }
+    ensures { λ r. ⌜ r ≡ packedOutcome o ⌝ }
+{
+    match o {
+        Outcome::Text(n) => pack(0, n),
+        Outcome::Refused(w, k, p) => pack(k, p + 65536 * words::wide(w)),
+    }
 }
 
 // SPEED and ENTRIES.

@@ -1,10 +1,11 @@
-//! `check` and `make`: tables in files.
+//! `check`, `make` and `diff`: tables in files.
 
 use super::options::Options;
 use super::End;
 use second::generator;
 use second::random::Random;
-use second::Settings;
+use second::{Chip, Refused, Settings};
+use std::io::{Read, Write};
 use std::path::Path;
 
 /// One line for each file: number, place or count, file.
@@ -78,4 +79,34 @@ fn write_all(
         std::fs::write(directory.join(format!("{kind}-{at:06}.bin")), next())?;
     }
     Ok(())
+}
+
+/// The lines of two files, or the `R` line of the first that is refused, or the `X` line of the first that cannot be read.
+pub fn diff(chip: Chip, files: &[String]) -> End {
+    let [one, two] = files else {
+        return End::Misused("name two files".into());
+    };
+    let (one, two) = (read_table(one), read_table(two));
+    let text = match (one, two) {
+        (Err(_), _) => b"X\t1\n".to_vec(),
+        (_, Err(_)) => b"X\t2\n".to_vec(),
+        (Ok(one), Ok(two)) => second::diff_text(&one, &two, chip).unwrap_or_else(refusal_line),
+    };
+    match std::io::stdout().lock().write_all(&text) {
+        Ok(()) => End::Good,
+        Err(_) => End::Failed,
+    }
+}
+
+/// 4,097 bytes are enough: a longer table answers 2 or 3 by its first byte alone, and so do these.
+fn read_table(file: &str) -> std::io::Result<Vec<u8>> {
+    let mut table = Vec::new();
+    std::fs::File::open(file)?
+        .take(4097)
+        .read_to_end(&mut table)?;
+    Ok(table)
+}
+
+fn refusal_line(Refused { table, refusal }: Refused) -> Vec<u8> {
+    format!("R\t{table}\t{}\t{}\n", refusal.number, refusal.place).into_bytes()
 }

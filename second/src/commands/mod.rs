@@ -21,6 +21,7 @@ use: second COMMAND [--chip 320|321] [--archive] ...
   unhex                                      the table of the Intel HEX on standard input
   receive [BYTES]                            check the table on standard input in reports of so many bytes, 64 if
                                              it is not said
+  diff ONE TWO                               the fields in which two tables differ, one line each
   check FILE...                              number, place or count, and file, one line each
   rows --seed S --count N --max BYTES        tables in hex with their answers
   make KIND --seed S --count N DIR           tables as files; KIND is valid, mixed, controllers,
@@ -28,8 +29,8 @@ use: second COMMAND [--chip 320|321] [--archive] ...
   self --seed S --count N                    hold the program's own parts against each other
   bench                                      time the reader
 The chip is the 320 if none is named, and the rules are the ordinary ones without --archive. Tables are
-made, read and written for them; rewrite, fan, remove and pins have the ordinary rules alone, hex and
-unhex the archive's.
+made, read and written for them; rewrite, fan, remove and pins have the ordinary rules alone, hex, unhex
+and diff the archive's.
 ";
 
 /// A command's end: good, a failure already told, or a misuse to be told with the usage.
@@ -64,9 +65,10 @@ fn dispatch(command: &str, settings: Settings, rest: &[String]) -> End {
         "rewrite" | "fan" | "remove" | "pins" if settings.rules == Rules::Archive => {
             End::Misused(format!("'{command}' has the ordinary rules alone"))
         }
-        "hex" | "unhex" if settings.rules == Rules::Archive => {
+        "hex" | "unhex" | "diff" if settings.rules == Rules::Archive => {
             End::Misused(format!("'{command}' has the archive's rules always"))
         }
+        "diff" => files::diff(settings.chip, rest),
         "rewrite" => stream::rewrite(settings.chip, rest),
         "fan" => stream::fan(settings.chip, rest),
         "remove" => stream::remove(settings.chip, rest),

@@ -18,9 +18,11 @@ pub fn own(settings: Settings, arguments: &[String]) -> End {
     let mut differences = 0;
     for _ in 0..count {
         let table = generator::any(&mut random, settings);
+        let other = generator::beside(&mut random, &table, settings);
         let verdict = second::check(&table, settings);
         histogram.add(verdict.number());
-        if let Err(what) = compare(&table, settings, verdict) {
+        let compared = compare(&table, settings, verdict);
+        if let Err(what) = compared.and_then(|()| side_by_side(&table, &other, settings.chip)) {
             differences += 1;
             eprintln!("second: {what}: {table:02X?}");
         }
@@ -41,7 +43,7 @@ fn read(arguments: &[String]) -> Result<(u64, u64), String> {
 }
 
 /// Fast against plain, of readers, listings, fans and texts in HEX; pieces against the whole; the two rules against
-/// each other; what is rewritten and what is taken out; the listing's shape.
+/// each other; what is rewritten and what is taken out; the listing's shape. Tables side by side are held apart.
 fn compare(table: &[u8], settings: Settings, fast: Verdict) -> Result<(), &'static str> {
     if plain::check(table, settings) != fast {
         return Err("the fast and the plain reader differ");
@@ -109,6 +111,19 @@ fn rewritten(table: &[u8], chip: Chip, strict: Verdict) -> Result<(), &'static s
     let mut again = vec![0x5A; out.len()];
     if second::rewrite(&out, chip, &mut again).is_err() || again != out {
         return Err("rewriting twice changes something");
+    }
+    Ok(())
+}
+
+/// Two tables side by side, by bytes and by records; and no lines exactly when all but reserved places is the same.
+fn side_by_side(one: &[u8], two: &[u8], chip: Chip) -> Result<(), &'static str> {
+    let lines = second::diff_text(one, two, chip);
+    if lines != plain::diff(one, two, chip) {
+        return Err("the lines by bytes and by records differ");
+    }
+    let same = || second::cleared(one) == second::cleared(two);
+    if lines.is_ok_and(|lines| lines.is_empty() != same()) {
+        return Err("the lines and the tables without reserved places disagree");
     }
     Ok(())
 }

@@ -5,6 +5,7 @@
 //! and the fast listing.
 
 pub mod claims;
+mod diff;
 mod fan;
 mod hex;
 mod label;
@@ -23,6 +24,7 @@ use crate::settings::{Chip, Settings};
 use claims::{check_claims, claims};
 
 pub use claims::own_pins;
+pub use diff::diff;
 pub use fan::fan;
 pub use hex::{hex, unhex};
 pub use label::label;

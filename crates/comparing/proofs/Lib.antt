@@ -1,0 +1,11 @@
+pub mod Midst
+pub mod Naming
+pub mod Spelled
+pub mod Standing
+pub mod Lined
+pub mod Codes
+pub mod Meant
+pub mod Pairing
+pub mod Beside
+pub mod Going
+pub mod Only

@@ -1,0 +1,23 @@
+-- `first` meets its contract: the constant is the list of the definition.
+-- Assumes nothing.
+use mathlib.Core.Path.{refl}
+use Rattle.comparing.specs.Rows.{firsts}
+use borrow.Author.Needs.{needs}
+use Rattle.comparing.proofs.rows.first.Statement.{statement}
+use Rattle.comparing.proofs.rows.first.Tie as tie
+use Rattle.comparing.proofs.rows.first.Reads as reads
+use Rattle.comparing.proofs.rows.first.Lts as lts
+use Rattle.words.proofs.wide.Reads as wide-reads
+
+array-read-wide : tie.Need-array-read-wide
+array-read-wide c = search needs
+
+wide-requires : tie.Need-wide-requires
+wide-requires c κs = search needs
+
+returns : tie.Need-returns
+unfolding firsts
+returns c = (c .wide .ensures .0, c .wide .ensures .1)
+
+pub first-spec : {M : Type 1} → statement M
+first-spec = tie.close (tie.spec array-read-wide wide-requires returns)
