@@ -6,11 +6,11 @@ use native.Mathlib.Nat.{pow-succ'}
 use mathlib.Core.Path.{_≡_, refl, sym, _∙_, ap}
 use mathlib.Core.Bool.{cond}
 use mathlib.Core.List.{List, [], _∷_, _++_, append-assoc}
-use lib.ListN.{length, set, drop, length-set}
-use lib.Seq.{drop-cons, drop-length, drop-set-lt, getD-set-same}
+use lib.ListN.{length, set, take, drop, length-set, length-drop}
+use lib.Seq.{take-all, drop-cons, drop-length, drop-set-lt, getD-set-same}
 use lib.Dec.{eqb}
 use borrow.Author.Tests.{ne-eqb}
-use Rattle.spelling.specs.Spelling.{digit}
+use Rattle.spelling.specs.Spelling.{Put, digit}
 use Rattle.decimals.specs.Decimals.{leading, decimals, Spelt}
 
 -- THE INVARIANT: the digits of m are still to come, at most `from` of them
@@ -68,3 +68,14 @@ module _ {n from m : ℕ} {bytes : List ℕ} (s : Spelling n bytes from m) where
       none : (k : ℕ) → leading k m ++ drop k bytes ≡ drop k bytes
       none zero = refl
       none (suc k) = rw h
+
+-- the last bytes, put into a buffer
+pub put-last :
+    {n from at r : ℕ} {bytes c after : List ℕ}
+    → Spelt n bytes from
+    → Put c at (take (20 - from) (drop from bytes)) r after
+    → Put c at (decimals n) r after × (r ≤ at + 20)
+put-last {from = from} {bytes = bytes} s p =
+    let size : length (drop from bytes) ≡ 20 - from = length-drop from bytes ∙ ap (λ (k : ℕ). k - from) (s .twenty) in
+    let all : take (20 - from) (drop from bytes) ≡ drop from bytes = take-all (20 - from) (drop from bytes) (omega (arith, size)) in
+    (rw (← s .text, ← all) p, omega (arith, p .ends, ap length all, size))

@@ -2,6 +2,7 @@
 -- Assumes nothing.
 use native.Mathlib.Omega.{arith}
 use mathlib.Core.Path.{refl}
+use lib.ListN.{replicate}
 use borrow.Author.Needs.{needs}
 use Rattle.decimals.proofs.Spelling.{Spelling, first-digit, more-room, next-digit, all-digits}
 use Rattle.decimals.proofs.spell.Statement.{statement}
@@ -14,13 +15,13 @@ abbrev μ-loop : tie.MeasureT-loop
 μ-loop n bytes₀ from₀ m₀ bytes from m = m
 
 loop-holds : tie.Need-loop-holds Inv-loop μ-loop
-loop-holds c = first-digit _ _ _ refl (search needs) (c .digit .ensures)
+loop-holds c = first-digit _ _ (replicate 20 0) refl (omega (arith, c .before .fits)) (c .digit .ensures)
 
 sub-from : tie.Need-sub-from Inv-loop μ-loop
 sub-from c = more-room (c .before .loop .inv) (c .loop-test .taken)
 
 array-write-bytes-2 : tie.Need-array-write-bytes-2 Inv-loop μ-loop
-array-write-bytes-2 c = ?
+array-write-bytes-2 c = let s = c .before .before .loop .inv in omega (arith, s .within, s .twenty, more-room s (c .before .loop-test .taken))
 
 loop-less : tie.Need-loop-less Inv-loop μ-loop
 loop-less c = omega arith
