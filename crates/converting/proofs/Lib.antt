@@ -1,0 +1,4 @@
+pub mod Rounding
+pub mod Walking
+pub mod Interval
+pub mod Only

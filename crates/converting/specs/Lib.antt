@@ -1,0 +1,4 @@
+pub mod Outcomes
+pub mod Rounding
+pub mod Conversions
+pub mod Formula
