@@ -14,6 +14,8 @@ ghost use Rattle.states.specs.Numbers.{settingsOf as settledOf};
 ghost use Rattle.ending.specs.Stands.{lent};
 ghost use Rattle.receiving.specs.Receiving.{PieceIs};
 ghost use Rattle.reports.specs.Face.{StartedFor as BegunFor, EndedFor};
+ghost use Rattle.tracing.specs.Calls.{PieceIs as TracePiece, EndIs as TraceEnd};
+ghost use Rattle.esa.specs.Traces.{TraceStartFor};
 ghost use Rattle.esa.specs.Settled.{chipOf, rulesOf, settingsOf};
 ghost use Rattle.esa.specs.Face.{Checked, AskedFor, PartFor};
 ghost use Rattle.esa.specs.Fields.{DescribedFor, FieldsFor};
@@ -186,6 +188,48 @@ pub extern "C" fn esa_receiving_end(
     ensures { λ r. ⌜ EndedFor (now (n .entry)) (now (first .entry)) (flags (now (zs .entry)) (now (ss .entry)) (now (zu .entry)) (now (su .entry))) (now (zp .entry)) (now (sp .entry)) r (now (n .exit)) ⌝ }
 {
     reports::end(n, first, zs, ss, zu, su, zp, sp)
+}
+
+// A trace, over a state that is lent part by part: begins, for a table by the ordinary rules. Beside 0 stands the number of elements, beside a
+// refusal its place.
+#[no_mangle]
+pub extern "C" fn esa_tracing_start(
+    n: &mut [u64; 7],
+    sensors: &mut [u16; 576],
+    tallies: &mut [u32; 480],
+    table: &[u8],
+    settings: u64,
+) -> u64
+    ensures { λ r. ⌜ TraceStartFor (chipOf settings) (now (table .entry)) (now (n .entry)) (now (sensors .entry)) (now (tallies .entry)) r (now (n .exit)) (now (sensors .exit)) (now (tallies .exit)) ⌝ }
+{
+    packing::answer(readying::start(n, sensors, tallies, table, chip_of(settings)))
+}
+
+// The next bytes, at most 2,048 of them: the length of the text.
+#[no_mangle]
+pub extern "C" fn esa_tracing_piece(
+    n: &mut [u64; 7],
+    sensors: &[u16; 576],
+    tallies: &mut [u32; 480],
+    piece: &[u8],
+    out: &mut [u8; 65536],
+) -> usize
+    ensures { λ r. ⌜ TracePiece (now (n .entry)) (now (sensors .entry)) (now (tallies .entry)) (now (piece .entry)) (now (out .entry)) r (now (n .exit)) (now (tallies .exit)) (now (out .exit)) ⌝ }
+{
+    tracing::piece(n, sensors, tallies, piece, out)
+}
+
+// No more comes: the length of the text.
+#[no_mangle]
+pub extern "C" fn esa_tracing_end(
+    n: &[u64; 7],
+    sensors: &[u16; 576],
+    tallies: &[u32; 480],
+    out: &mut [u8; 65536],
+) -> usize
+    ensures { λ r. ⌜ TraceEnd (now (n .entry)) (now (sensors .entry)) (now (tallies .entry)) (now (out .entry)) r (now (out .exit)) ⌝ }
+{
+    tracing::end(n, sensors, tallies, out)
 }
 
 // 09h: SPEED and ENTRIES of speed block j of a part.
