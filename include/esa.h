@@ -64,8 +64,8 @@ enum esa_numbers {
     ESA_NO_ROOM = 16,          /* writer: the new length passes the buffer or 4,096; 0. Of hex and unhex: what is to be written
                                   passes the buffer; 0 */
     ESA_PAST_THE_LAST = 17,    /* there is no element k; in a part, no such block or pair; 0 */
-    ESA_NO_READING = 18,       /* traces: the element has no reading for the count; the line's number, from 1 */
-    ESA_TRACE_LINE = 19,       /* traces: a malformed line, one past 1,000,000, or too many pulses; the line's number, from 1 */
+    ESA_NO_READING = 18,       /* the element has no reading for the count; 0, of a trace the line's number, from 1 */
+    ESA_TRACE_LINE = 19,       /* pulses over 65,535; 0. Of a trace also a malformed line or one past 1,000,000; the line's number, from 1 */
     ESA_AFTER_THE_END = 20,    /* receiving: a piece or an end after the end; 0 */
     ESA_HEX = 21,              /* a line that is not Intel HEX as it is taken here; the line's number, from 1 */
     ESA_STILL_NAMED = 22,      /* remove: something still names the zone or string that was to go; element */
@@ -222,6 +222,27 @@ static inline int esa_fan_found(uint64_t answer)
 static inline size_t esa_fan_visited(uint64_t answer)
 {
     return esa_number(answer) == ESA_GOOD ? (size_t)(answer >> 9) : 0;
+}
+
+/* What does a count mean at element k? Of a fan (03h) or a pump (06h) it is the pulses in one second, of an analogue thermal sensor (02h), a
+   voltage (07h) or a current (08h) the converter's count. 0, and beside it the reading (esa_reading_value) in RPM, tenths of a degree,
+   decivolts or deciamps, or 'under 0' or 'over 100' degrees (esa_reading_kind). Or the table's own refusal as esa_check gives it; 17 at 0
+   where there is no element k; 19 at 0 for pulses over 65,535; 18 at 0 for an element of another kind, PPR 0, a calibration that does not
+   rise or fall strictly, and a count over 1023. */
+uint64_t esa_reading(const uint8_t *table, size_t length, size_t k, uint64_t count, uint64_t settings);
+
+enum { ESA_READING = 0, ESA_UNDER_0 = 1, ESA_OVER_100 = 2 };
+
+/* Of an answer that is no refusal: ESA_READING, ESA_UNDER_0 or ESA_OVER_100. */
+static inline unsigned esa_reading_kind(uint64_t answer)
+{
+    return (unsigned)(answer >> 8 & 3);
+}
+
+/* 0 unless there is a reading. */
+static inline uint64_t esa_reading_value(uint64_t answer)
+{
+    return esa_number(answer) == ESA_GOOD ? answer >> 10 : 0;
 }
 
 /* Inside a part, which may be any bytes: 17 at 0 where no such block or pair stands whole in it. Of the part of 09h: the speed of

@@ -2,3 +2,4 @@ pub mod Rounding
 pub mod Walking
 pub mod Interval
 pub mod Only
+pub mod Rising

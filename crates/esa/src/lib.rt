@@ -14,6 +14,7 @@ ghost use Rattle.states.specs.Numbers.{settingsOf as settledOf};
 ghost use Rattle.ending.specs.Stands.{lent};
 ghost use Rattle.receiving.specs.Receiving.{PieceIs};
 ghost use Rattle.reports.specs.Face.{StartedFor as BegunFor, EndedFor};
+ghost use Rattle.metering.specs.Face.{ReadingFor};
 ghost use Rattle.tracing.specs.Calls.{PieceIs as TracePiece, EndIs as TraceEnd};
 ghost use Rattle.esa.specs.Traces.{TraceStartFor};
 ghost use Rattle.esa.specs.Settled.{chipOf, rulesOf, settingsOf};
@@ -139,6 +140,15 @@ pub extern "C" fn esa_fan(table: &[u8], zone: u8, settings: u64) -> u64
     ensures { λ r. ⌜ FanFor (settingsOf settings) (now (table .entry)) zone r ⌝ }
 {
     packing::zoned(fans::in_zone(table, zone, settings_of(settings)))
+}
+
+// What a count, or of a fan or a pump the pulses in one second, means at element k. Beside 0 stands four times the reading, or 1 for under 0,
+// 2 for over 100; beside a refusal its place.
+#[no_mangle]
+pub extern "C" fn esa_reading(table: &[u8], k: usize, count: u64, settings: u64) -> u64
+    ensures { λ r. ⌜ ReadingFor (settingsOf settings) (now (table .entry)) k count r ⌝ }
+{
+    metering::packed_reading(table, k, count, settings_of(settings))
 }
 
 // A table that comes in pieces, over a state that is lent part by part: begins with no byte. 0.

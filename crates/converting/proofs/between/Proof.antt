@@ -6,7 +6,7 @@ use lib.Dec.{lit<}
 use borrow.Author.Needs.{needs}
 use Rattle.converting.specs.Rounding.{Nearest}
 use Rattle.converting.specs.Conversions.{weighed}
-use Rattle.converting.proofs.Rounding.{divided, down-up, up-nearest, weighed-most, within}
+use Rattle.converting.proofs.Rounding.{divided, down-up, weighed-most, within}
 use Rattle.converting.proofs.between.Statement.{statement}
 use Rattle.converting.proofs.between.Tie as tie
 use Rattle.converting.proofs.between.Reads as reads
@@ -16,7 +16,7 @@ fits : (low high count : ℕ) → low < 65536 → high < 65536 → count ≤ 102
 fits low high count l h n = omega (arith, weighed-most low high count 65535 (omega arith) (omega arith) n)
 
 near : (low high count : ℕ) → Nearest (weighed low high count) 1023 ((2 * weighed low high count + 1023) / 2046)
-near low high count = up-nearest (down-up (divided (2 * weighed low high count + 1023) (lit< tt)))
+near low high count = down-up (divided (2 * weighed low high count + 1023) (lit< tt)) .nearest
 
 module _ (c : lts.Start reads.Pre reads.Post) where
   abbrev low : ℕ
