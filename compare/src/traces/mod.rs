@@ -7,6 +7,7 @@ mod known;
 mod step;
 mod tally;
 
+use crate::comparison::HUGE;
 use crate::exchange::Exchange;
 use crate::options::Options;
 use crate::question::Origin;
@@ -110,7 +111,7 @@ impl Traces {
             },
         };
         let wanted = row.wanted();
-        if asking.second() != wanted {
+        if row.second(settings) != wanted {
             let note = || format!("{asking}: the second program has another text");
             self.exchange.tally.differences.note(note);
         }
@@ -144,7 +145,7 @@ impl Traces {
     }
 }
 
-/// Counts around the edges of every element, all or two of each in turn; one past the last element, and one far past it.
+/// Counts around the edges of every element, all or two of each in turn; one past the last element, one far past it, and a count of more bits than 32, mostly.
 fn some_counts(table: &[u8], turn: u64) -> What {
     let mut counts = Vec::new();
     let mut elements = 0;
@@ -160,6 +161,7 @@ fn some_counts(table: &[u8], turn: u64) -> What {
     }
     counts.push((elements, turn % 70_000));
     counts.push((1 << 32, 0));
-    counts.push((turn % (elements + 1), u64::MAX - turn % 2));
+    let huge = HUGE[turn as usize / 4 % HUGE.len()];
+    counts.push((turn % (elements + 1), huge));
     What::Counts(counts)
 }
