@@ -159,6 +159,12 @@ fn runs_a_trace_through_a_table() {
         assert!(ran.status.success());
         assert_eq!(ran.stdout, output, "{words:?}");
     }
+    let lines = ["lines", "--seed", "3", "--count", "40", &table];
+    let made = run(&lines, &[]).stdout;
+    assert!(made.iter().filter(|&&byte| byte == b'\n').count() >= 39);
+    assert_eq!(run(&lines, &[]).stdout, made);
+    let on_321 = [&lines[..1], &["--chip", "321"], &lines[1..]].concat();
+    assert_eq!(run(&on_321, &[]).status.code(), Some(1));
     std::fs::remove_dir_all(&folder).unwrap();
 }
 
@@ -294,7 +300,7 @@ fn holds_itself_against_itself() {
 
 #[test]
 fn misuse_is_told_and_gives_status_2() {
-    let misuses: [&[&str]; 58] = [
+    let misuses: [&[&str]; 60] = [
         &[],
         &["dance"],
         &["list", "extra"],
@@ -352,6 +358,8 @@ fn misuse_is_told_and_gives_status_2() {
         &["trace"],
         &["trace", "one", "two", "three"],
         &["trace", "--archive", "one"],
+        &["lines", "--seed", "1", "one"],
+        &["lines", "--seed", "1", "--count", "2"],
         &[
             "rows", "--seed", "1", "--count", "1", "--max", "1", "--chip", "321",
         ],

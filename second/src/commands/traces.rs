@@ -1,10 +1,42 @@
-//! `trace`: the counts of a trace run through a table, both in files, or the trace from standard input.
+//! `trace`: the counts of a trace run through a table, both in files, or the trace from standard input; `lines`: a trace for a table.
 
 use super::files::read_table;
+use super::options::Options;
 use super::End;
+use second::generator;
+use second::random::Random;
 use second::trace::{Trace, PIECE, TEXT};
-use second::Chip;
+use second::{Chip, Settings};
 use std::io::{BufWriter, Read, Write};
+
+/// A trace of so many lines, good ones and others, for a table that is good on this chip.
+pub fn lines(chip: Chip, arguments: &[String]) -> End {
+    let (seed, count, file) = match read(arguments) {
+        Ok(read) => read,
+        Err(why) => return End::Misused(why),
+    };
+    let table = match read_table(&file) {
+        Ok(table) if second::check(&table, Settings::from(chip)).number() == 0 => table,
+        _ => {
+            eprintln!("second: {file} is no table, or cannot be read");
+            return End::Failed;
+        }
+    };
+    let trace = generator::trace(&mut Random::new(seed), &table, count as usize);
+    match std::io::stdout().lock().write_all(&trace) {
+        Ok(()) => End::Good,
+        Err(_) => End::Failed,
+    }
+}
+
+fn read(arguments: &[String]) -> Result<(u64, u64, String), String> {
+    let options = Options::read(arguments, &["seed", "count"])?;
+    let [file] = options.others.as_slice() else {
+        return Err("name a table's file".into());
+    };
+    let (seed, count) = (options.number("seed")?, options.number("count")?);
+    Ok((seed, count, file.clone()))
+}
 
 /// The output lines, or the table's `R` line alone, or the `X` line of the first file that cannot be read.
 pub fn trace(chip: Chip, files: &[String]) -> End {
