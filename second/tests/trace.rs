@@ -125,8 +125,10 @@ fn voltage(minimum: u8, maximum: u8) -> Vec<u8> {
 /// A line of each kind of element, and the tallies that come of it.
 #[test]
 fn one_line_each() {
-    let trace = b"0\t1\t512\n1\t2\t511\n2\t3\t600\n3\t3\t851\n4\t3\t199\n5\t4\t65535\n6\t5\t0\n7\t6\t0\n8\t7\t0\n9\t8\t0\n10\t0\t0\n11\t9\t0\n";
-    let lines = "150\n70\n375\nunder 0\nover 100\n1966050\nR\t18\t7\nR\t18\t8\nR\t18\t9\nR\t18\t10\nR\t18\t11\nR\t17\t12\n";
+    let trace = b"0\t1\t512\n1\t2\t511\n2\t3\t600\n3\t3\t851\n4\t3\t199\n5\t4\t65535\n\
+        6\t5\t0\n7\t6\t0\n8\t7\t0\n9\t8\t0\n10\t0\t0\n11\t9\t0\n";
+    let lines = "150\n70\n375\nunder 0\nover 100\n1966050\n\
+        R\t18\t7\nR\t18\t8\nR\t18\t9\nR\t18\t10\nR\t18\t11\nR\t17\t12\n";
     let tallies = "0\t0\t0\t0\t0\t0\n1\t150\t150\t1\t0\t0\n2\t70\t70\t1\t0\t0\n3\t375\t375\t1\t1\t1\n4\t1966050\t1966050\t1\t0\t0\n\
         5\t0\t0\t0\t0\t0\n6\t0\t0\t0\t0\t0\n7\t0\t0\t0\t0\t0\n8\t0\t0\t0\t0\t0\n";
     prints(&bench(), trace, &format!("{lines}{tallies}"));

@@ -145,7 +145,8 @@ impl Traces {
     }
 }
 
-/// Counts around the edges of every element, all or two of each in turn; one past the last element, one far past it, and a count of more bits than 32, mostly.
+/// Counts around the edges of every element, all or two of each in turn; one past the last element, one far past it, and a count of more
+/// bits than 32, mostly.
 fn some_counts(table: &[u8], turn: u64) -> What {
     let mut counts = Vec::new();
     let mut elements = 0;
