@@ -14,7 +14,7 @@ ghost use Rattle.states.specs.Numbers.{settingsOf as settledOf};
 ghost use Rattle.ending.specs.Stands.{lent};
 ghost use Rattle.receiving.specs.Receiving.{PieceIs};
 ghost use Rattle.reports.specs.Face.{StartedFor as BegunFor, EndedFor};
-ghost use Rattle.metering.specs.Face.{ReadingFor};
+ghost use Rattle.metering.specs.Face.{ReadingFor, OwnFor};
 ghost use Rattle.esa.specs.Settled.{chipOf, rulesOf, settingsOf};
 ghost use Rattle.esa.specs.Face.{Checked, AskedFor, PartFor};
 ghost use Rattle.esa.specs.Fields.{DescribedFor, FieldsFor};
@@ -147,6 +147,14 @@ pub extern "C" fn esa_reading(table: &[u8], k: usize, count: u64, settings: u64)
     ensures { λ r. ⌜ ReadingFor (settingsOf settings) (now (table .entry)) k count r ⌝ }
 {
     metering::packed_reading(table, k, count, settings_of(settings))
+}
+
+// The same of our own thermistor, from the ready table alone: for the meter, which has no table and cannot divide.
+#[no_mangle]
+pub extern "C" fn esa_thermistor(count: u64) -> u64
+    ensures { λ r. ⌜ OwnFor count r ⌝ }
+{
+    metering::packed_own(count)
 }
 
 // A table that comes in pieces, over a state that is lent part by part: begins with no byte. 0.
