@@ -3,6 +3,7 @@
 // and the pin sheet ignore bit 1 too.
 ghost use mathlib.Core.Path.{_≡_};
 ghost use Rattle.parts.specs.Inside.{blockIn, pairIn, listIn, listPairIn, colourIn, colourPairIn};
+ghost use Rattle.metering.specs.Face.{OwnFor};
 ghost use Rattle.listing.specs.Lines.{Listed};
 ghost use Rattle.format.specs.Writing.{writing};
 ghost use Rattle.spelling.specs.Spelling.{Put};
@@ -14,7 +15,7 @@ ghost use Rattle.states.specs.Numbers.{settingsOf as settledOf};
 ghost use Rattle.ending.specs.Stands.{lent};
 ghost use Rattle.receiving.specs.Receiving.{PieceIs};
 ghost use Rattle.reports.specs.Face.{StartedFor as BegunFor, EndedFor};
-ghost use Rattle.metering.specs.Face.{ReadingFor, OwnFor};
+ghost use Rattle.metering.specs.Face.{ReadingFor};
 ghost use Rattle.esa.specs.Settled.{chipOf, rulesOf, settingsOf};
 ghost use Rattle.esa.specs.Face.{Checked, AskedFor, PartFor};
 ghost use Rattle.esa.specs.Fields.{DescribedFor, FieldsFor};
