@@ -12,6 +12,7 @@ use crate::exchange::Exchange;
 use crate::options::Options;
 use crate::question::Origin;
 use crate::settings::writing;
+use asking::Asking;
 use second::access::walk;
 use second::generator::{edge_counts, touches_the_four, trace};
 use second::random::Random;
@@ -21,7 +22,6 @@ use std::rc::Rc;
 pub use asking::{of_count, of_steps, Asking as Traced, What};
 pub use step::Step;
 pub use tally::Tally;
-use Traced as Asking;
 
 /// For traces and cuts of chance.
 const SEED: u64 = 314;
