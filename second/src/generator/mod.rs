@@ -15,6 +15,7 @@ mod sides;
 mod targeted;
 mod texts;
 mod valid;
+mod wrecked;
 
 use crate::random::Random;
 use crate::settings::Settings;
@@ -30,6 +31,7 @@ pub use sides::{altered, beside, Altered};
 pub use targeted::{targeted, Case};
 pub use texts::{spoil, text, texts};
 pub use valid::{controllers, mixed, mixed_of, valid, valid_parts};
+pub use wrecked::wrecked;
 
 /// A table of any sort; those that are good, or were good once, are so with these settings.
 pub fn any(random: &mut Random, settings: Settings) -> Vec<u8> {
