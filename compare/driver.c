@@ -12,8 +12,8 @@ void *memset(void *to, int value, number count);
 int memcmp(const void *one, const void *other, number count);
 void _exit(int status);
 
-/* Settings are one number: bit 0 set is the 321, bit 1 the archive's rules; start, append, rewrite, remove, diff and the
-   calls on sheets ignore bit 1. */
+/* Settings are one number: bit 0 set is the 321, bit 1 the archive's rules; start, append, rewrite, remove, diff, salvage and
+   the calls on sheets ignore bit 1. */
 number esa_check(const byte *table, number length, number settings);
 /* Weak, so that an archive without them links too: their modes then answer NO_SUCH_CALL. */
 __attribute__((weak)) number esa_element(const byte *table, number length, number k, number settings);
@@ -58,6 +58,7 @@ __attribute__((weak)) number esa_receiving_end(number *numbers, const byte *desc
                                                const _Bool *named_zones, const _Bool *named_strings,
                                                const unsigned short *zone_places, const unsigned short *string_places);
 __attribute__((weak)) number esa_diff(const byte *one, number one_length, const byte *two, number two_length, number settings, byte *out);
+__attribute__((weak)) number esa_salvage(const byte *file, number length, number settings, byte *out, number room, byte *lines);
 
 static number esa_receive_start(byte *state, number settings)
 {
@@ -91,15 +92,17 @@ enum { SHEET = 50, SHEET_TEXT = 275, SHEET_CALL = 1 + SHEET, MOST_SHEETS = 256 }
 enum { FRONT = 256, FRONT_BYTE = 0xC3, NAME_BYTE = 0xD8, GONE_BYTE = 0x5A, ROOM = 1 << 20, GUARD = 1 << 16 };
 enum { STEP = 9, MOST_STEPS = 1 << 16, REPORT = 64 };
 enum { PAIR = 15, DIFF = 65536 };
+enum { SALVAGE = 14, LINES = 32768 };
 #define NO_SUCH_CALL (~0UL)
 #define STATE_CHANGED (~1UL) /* by a call that was to keep it */
+#define NOT_THE_SAME (~2UL) /* what was saved, when it is saved once more */
 
 static byte input[1 << 21];
 static byte output[1 << 16];
 static number waiting; /* bytes of output */
-static byte *table_end, *numbers_end, *part_end, *text_end, *name_end, *state_end, *lines_end; /* of seven guarded places */
+static byte *table_end, *numbers_end, *part_end, *text_end, *name_end, *state_end, *lines_end, *told_end; /* of eight guarded places */
 static byte front[FRONT];
-/* What the buffer of a listing or of a pair's lines, and the numbers of a reading, hold before the call: no byte of a text, no zero. */
+/* What the buffer of a listing or of lines, and the numbers of a reading, hold before the call: no byte of a text, no zero. */
 static union {
     byte bytes[DIFF];
     number words[DIFF / 8];
@@ -472,6 +475,45 @@ static void answer_pair(const byte *body, number length, number two_length, numb
     memcpy(out, pattern.bytes, count);
 }
 
+/* Saves a file once more that was saved already: its answer, if it comes out as it is and without a line. */
+static number saved_again(const byte *file, number length, number settings)
+{
+    byte *out = table_end - length, *lines = told_end - LINES;
+    memset(out, UNWRITTEN, length);
+    number value = esa_salvage(file, length, settings, out, length, lines);
+    number count = altered(lines, LINES, 0);
+    memcpy(lines, pattern.bytes, count);
+    return count || memcmp(out, file, length) ? NOT_THE_SAME : value;
+}
+
+/* What can be saved of a file, into a buffer of 'room' bytes. The answer goes out, and then the buffer, whole; then the number of
+   bytes that altered tells of the lines, and these bytes; then, with 0, what esa_check says of the new table by the ordinary
+   rules, and what comes when it is saved once more. The lines are the pattern again for the next call. */
+static void answer_salvage(const byte *body, number length, number room, number settings)
+{
+    byte *file = part_end - length, *out = table_end - room, *lines = told_end - LINES;
+    memcpy(out - FRONT, front, FRONT);
+    memset(out, UNWRITTEN, room);
+    memcpy(file, body, length);
+    number value = esa_salvage ? esa_salvage(file, length, settings, out, room, lines) : NO_SUCH_CALL;
+    if (memcmp(out - FRONT, front, FRONT) || memcmp(lines - FRONT, front, FRONT) || memcmp(file, body, length)) _exit(TOUCHED);
+    number good = (value & 0xFF) == 0, saved = value >> 8 & 0xFFFF, checked = 0, again = 0;
+    number count = altered(lines, LINES, good ? value >> 24 : 0);
+    put(&value, 8);
+    put(out, room);
+    put(&count, 8);
+    put(lines, count);
+    memcpy(lines, pattern.bytes, count);
+    if (good && saved <= room) {
+        file = part_end - saved;
+        memcpy(file, out, saved);
+        checked = esa_check(file, saved, settings & ~2UL);
+        again = saved_again(file, saved, settings);
+    }
+    put(&checked, 8);
+    put(&again, 8);
+}
+
 /* Answers the whole requests among the bytes held, and gives the number of bytes that they took. */
 static number answer_all(number held)
 {
@@ -490,6 +532,7 @@ static number answer_all(number held)
         number readings = mode == READINGS ? k : 0, zones = mode == FANS ? k : 0, removals = mode == REMOVALS ? k : 0;
         number sheets = mode == SHEETS ? k : 0, steps = mode == RECEIVE ? k : 0, two_length = mode == PAIR ? k : 0;
         if (length > (moves ? LONGEST_TEXT : LONGEST) || (moves && k > LONGEST_TEXT)) _exit(BROKEN_REQUEST);
+        if (mode == SALVAGE && k > LONGEST) _exit(BROKEN_REQUEST);
         if (part_length > LONGEST || two_length > LONGEST || readings > MOST_READINGS || zones > MOST_ZONES) _exit(BROKEN_REQUEST);
         if (removals > MOST_REMOVALS || sheets > MOST_SHEETS || steps > MOST_STEPS) _exit(BROKEN_REQUEST);
         number asked = readings * READING + zones + 8 * removals + sheets * SHEET_CALL + steps * STEP + two_length;
@@ -504,6 +547,7 @@ static number answer_all(number held)
         else if (moves) answer_moved(mode, request + HEADER, length, k, settings);
         else if (mode == RECEIVE) answer_receive(request + HEADER, length, steps, settings);
         else if (mode == PAIR) answer_pair(request + HEADER, length, two_length, settings);
+        else if (mode == SALVAGE) answer_salvage(request + HEADER, length, k, settings);
         else answer_reader(mode, request + HEADER, length, k, settings);
         used += size;
     }
@@ -526,6 +570,9 @@ int main(void)
     lines_end = guarded_end();
     memcpy(lines_end - DIFF - FRONT, front, FRONT);
     memcpy(lines_end - DIFF, pattern.bytes, DIFF);
+    told_end = guarded_end();
+    memcpy(told_end - LINES - FRONT, front, FRONT);
+    memcpy(told_end - LINES, pattern.bytes, LINES);
     number held = 0;
     for (;;) {
         long got = read(0, input + held, sizeof input - held);

@@ -13,6 +13,7 @@ use crate::pairs::Pairs;
 use crate::question::{Origin, Question};
 use crate::receiving::Receiving;
 use crate::removals::Removals;
+use crate::salvage::Salvage;
 use crate::settings;
 use crate::sheets::Sheets;
 use crate::tally::Tally;
@@ -41,6 +42,8 @@ pub struct Comparison {
     receiving: Option<Receiving>,
     /// Hold tables side by side too.
     pairs: Option<Pairs>,
+    /// Save what can be saved too, also of files that are no tables.
+    salvage: Option<Salvage>,
 }
 
 /// Numbers that no table has, and that are small ones in their low bits.
@@ -94,6 +97,10 @@ impl Comparison {
                 true => Some(Pairs::start(options)?),
                 false => None,
             },
+            salvage: match options.salvage {
+                true => Some(Salvage::start(options)?),
+                false => None,
+            },
             elements: options.elements,
             listing: options.listing,
         })
@@ -103,6 +110,9 @@ impl Comparison {
     pub fn seeded(&mut self, random: &mut Random, seed: u64, at: u64) -> Result<(), String> {
         let made_for = Settings::ALL[at as usize % 4];
         self.table(Origin::Seeded { seed, at }, made_for, any(random, made_for))?;
+        if let Some(salvage) = &mut self.salvage {
+            salvage.wrecked(seed, at)?;
+        }
         match &mut self.sheets {
             Some(sheets) if at.is_multiple_of(BUILT) => {
                 sheets.build(Origin::Built { seed, at }, at / BUILT)
@@ -132,7 +142,8 @@ impl Comparison {
         }
         self.removals(origin, turn, &table)?;
         self.hex(origin, &all, turn, &table)?;
-        self.pairs(origin, turn, made_for, &table)
+        self.pairs(origin, turn, made_for, &table)?;
+        self.salvage(origin, turn, made_for.chip, &table)
     }
 
     fn calls(&mut self, origin: Origin, settings: u64, table: &Rc<[u8]>) -> Result<(), String> {
@@ -177,7 +188,8 @@ impl Comparison {
         self.sheets(origin, settings, &table)?;
         self.hex(origin, &[row.settings], turn, &table)?;
         self.receive(origin, settings, &table)?;
-        self.pairs(origin, turn, row.settings, &table)
+        self.pairs(origin, turn, row.settings, &table)?;
+        self.salvage(origin, turn, row.settings.chip, &table)
     }
 
     /// Holds both sides to the papers' answers of fans, if they are asked for.
@@ -203,6 +215,11 @@ impl Comparison {
     /// The same of tables side by side.
     pub fn known_pairs(&mut self) -> Result<(), String> {
         self.pairs.as_mut().map_or(Ok(()), Pairs::known)
+    }
+
+    /// The same of what can be saved.
+    pub fn known_salvages(&mut self) -> Result<(), String> {
+        self.salvage.as_mut().map_or(Ok(()), Salvage::known)
     }
 
     /// Compares the calls on parts at their edges.
@@ -289,6 +306,19 @@ impl Comparison {
         pairs.table(origin, turn, made_for, table)
     }
 
+    fn salvage(
+        &mut self,
+        origin: Origin,
+        turn: u64,
+        chip: Chip,
+        table: &Rc<[u8]>,
+    ) -> Result<(), String> {
+        let Some(salvage) = &mut self.salvage else {
+            return Ok(());
+        };
+        salvage.table(origin, turn, chip, table)
+    }
+
     fn listing(&mut self, origin: Origin, settings: u64, table: &Rc<[u8]>) -> Result<(), String> {
         if !self.listing {
             return Ok(());
@@ -324,7 +354,8 @@ impl Comparison {
         let hex = self.hex.as_ref().map_or(0, Hex::differences);
         let receiving = self.receiving.as_ref().map_or(0, Receiving::differences);
         let pairs = self.pairs.as_ref().map_or(0, Pairs::differences);
-        let asked_of_tables = fields + fans + removals + sheets + hex + receiving + pairs;
+        let salvage = self.salvage.as_ref().map_or(0, Salvage::differences);
+        let asked_of_tables = fields + fans + removals + sheets + hex + receiving + pairs + salvage;
         self.exchange.tally.all_differences() + asked_of_tables
     }
 
@@ -337,6 +368,7 @@ impl Comparison {
         tally.hex = self.hex.map(Hex::finish).transpose()?;
         tally.receiving = self.receiving.map(Receiving::finish).transpose()?;
         tally.pairs = self.pairs.map(Pairs::finish).transpose()?;
+        tally.salvage = self.salvage.map(Salvage::finish).transpose()?;
         Ok(tally)
     }
 }

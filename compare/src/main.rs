@@ -20,6 +20,7 @@ mod progress;
 mod question;
 mod receiving;
 mod removals;
+mod salvage;
 mod settings;
 mod sheets;
 mod stand_in;
@@ -31,8 +32,8 @@ use options::{Command, Options};
 use std::process::ExitCode;
 
 const USAGE: &str = "\
-use: compare gate [--elements] [--listing] [--fields] [--fans] [--removals] [--sheets] [--hex] [--receive] [--pairs] [--writer] [--first] --driver COMMAND...
-     compare long --seed S --count N [--elements] [--listing] [--fields] [--fans] [--removals] [--sheets] [--hex] [--receive] [--pairs] --driver COMMAND...
+use: compare gate [--elements] [--listing] [--fields] [--fans] [--removals] [--sheets] [--hex] [--receive] [--pairs] [--salvage] [--writer] [--first] --driver COMMAND...
+     compare long --seed S --count N [--elements] [--listing] [--fields] [--fans] [--removals] [--sheets] [--hex] [--receive] [--pairs] [--salvage] --driver COMMAND...
      compare writer --seed S --count N --driver COMMAND...
      compare stand-in
 ";

@@ -10,6 +10,7 @@ use crate::pairs::{self, Pair};
 use crate::question::Origin;
 use crate::receiving::{Conversation, Step};
 use crate::removals::{self, Removal};
+use crate::salvage::{self, Salvaging};
 use crate::sheets::{Asking, SheetCall};
 use crate::writer::{Does, WriterCall};
 use std::io::{self, BufRead, BufReader, BufWriter, Read, Write};
@@ -55,6 +56,7 @@ fn answer(from: &mut impl Read) -> io::Result<Vec<u8>> {
         None if mode == Asking::MODE => of_sheets(k, settings, &lent, from),
         None if mode == Conversation::MODE => of_steps(k, settings, &lent, from),
         None if mode == Pair::MODE => of_pair(k, settings, &lent, from),
+        None if mode == Salvaging::MODE => Ok(salvage::second(&lent, settings, k as usize).bytes()),
         None => of_readings(k, settings, &lent, from),
     }
 }
@@ -264,7 +266,7 @@ mod tests {
     /// A sheet made afresh, brought forward and as text, in one request.
     fn sheets(table: &[u8], requests: &mut Vec<u8>, wanted: &mut Vec<u8>) {
         let call = |which| {
-            let numbers = (0..50).map(|at| 7 * at);
+            let numbers = (0..50).map(|at: u8| at.wrapping_mul(7));
             SheetCall::of(&[which].into_iter().chain(numbers).collect::<Vec<u8>>())
         };
         let asking = Asking {
@@ -276,6 +278,20 @@ mod tests {
         asking.request(requests);
         for Outcome { answer, buffer } in asking.second() {
             wanted.extend([&answer.0.to_le_bytes()[..], &buffer].concat());
+        }
+    }
+
+    /// What can be saved of a table, with some room.
+    fn salvages(table: &Rc<[u8]>, requests: &mut Vec<u8>, wanted: &mut Vec<u8>) {
+        for room in [0, 40, table.len()] {
+            let salvaging = Salvaging {
+                origin: Origin::Known("any"),
+                settings: 2,
+                file: table.clone(),
+                room,
+            };
+            salvaging.request(requests);
+            wanted.extend(salvaging.second().bytes());
         }
     }
 
@@ -294,6 +310,7 @@ mod tests {
             let lent: Rc<[u8]> = table.clone().into();
             zones_and_removals(&lent, &mut requests, &mut wanted);
             steps(&lent, &mut requests, &mut wanted);
+            salvages(&lent, &mut requests, &mut wanted);
             sheets(&table, &mut requests, &mut wanted);
             write.request(&mut requests);
             let Outcome { answer, buffer } = write.second();
