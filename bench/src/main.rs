@@ -7,13 +7,14 @@ mod growth;
 mod putting;
 mod receiving;
 mod rounds;
+mod saving;
 mod sides;
 mod writing;
 
 use std::process::ExitCode;
 
 /// What can be measured, by its name: prints and gives the number of differences.
-const PARTS: [(&str, fn() -> usize); 7] = [
+const PARTS: [(&str, fn() -> usize); 8] = [
     ("check", checking::report),
     ("growth", growth::report),
     ("receiving", receiving::report),
@@ -21,6 +22,7 @@ const PARTS: [(&str, fn() -> usize); 7] = [
     ("listing", putting::listing),
     ("rewriting", putting::rewriting),
     ("fan", fans::report),
+    ("saving", saving::report),
 ];
 
 fn main() -> ExitCode {
