@@ -165,8 +165,9 @@ fn row_of_small_ones(random: &mut Random) -> Vec<u8> {
 /// Headers alone, most of them of no kind: a line for each.
 fn headers(random: &mut Random) -> Vec<u8> {
     let mut file = raw::TABLE_A.to_vec();
-    let count = *random.pick(&[1, 20, 300, 1360, 1361]);
-    for _ in 0..random.between(1, count) {
+    let most = *random.pick(&[1, 20, 300, 1360, 1361]);
+    let some = random.between(1, most);
+    for _ in 0..*random.pick(&[most, some]) {
         let identifier = *random.pick(&[0x00, 0x0F, 0xFF, 0x0C, 0x80]);
         file.extend([identifier, 3, 0]);
     }
