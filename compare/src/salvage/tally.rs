@@ -188,7 +188,7 @@ mod tests {
     fn every_alteration_is_reported(asking: &Asking) {
         let second = asking.second();
         assert_eq!(counted(asking, &second), (1, 0));
-        let mut reported = |alter: &dyn Fn(&mut Reply)| {
+        let reported = |alter: &dyn Fn(&mut Reply)| {
             let mut altered = second.clone();
             alter(&mut altered);
             assert_eq!(counted(asking, &altered), (1, 1));
