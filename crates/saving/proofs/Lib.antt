@@ -1,0 +1,9 @@
+pub mod Sifting
+pub mod Clearing
+pub mod Alike
+pub mod Standing
+pub mod Reading
+pub mod Choosing
+pub mod Mending
+pub mod Bounds
+pub mod Texts
