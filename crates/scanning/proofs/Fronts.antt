@@ -26,7 +26,9 @@ module _ (bs : List ℕ) (low : 3 ≤ stated bs) (fits : stated bs ≤ length bs
   front-length = length-take-le (stated bs) bs fits
 
   front-parts : (m : ℕ) → stated bs ≡ suc (suc (suc m)) → (byte front 0 ≡ byte bs 0) × (stated front ≡ stated bs) × (drop 3 front ≡ take m (drop 3 bs))
-  front-parts m e = rw e (go bs (omega (arith, low, fits)))
+  front-parts m e =
+      subst (λ (n : ℕ). (byte (take n bs) 0 ≡ byte bs 0) × (stated (take n bs) ≡ stated bs) × (drop 3 (take n bs) ≡ take m (drop 3 bs))) (sym e)
+      (go bs (omega (arith, low, fits)))
     where
       go :
           (l : List ℕ)

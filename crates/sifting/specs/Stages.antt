@@ -2,11 +2,12 @@
 -- Assumes nothing.
 use Prim.Native.Nat.{ℕ, _+_, _/_, _<_, _≤_}
 use mathlib.Core.Path.{_≡_}
-use mathlib.Core.Bool.{Bool}
+use mathlib.Core.Bool.{Bool, true}
 use mathlib.Core.List.{List, [], _∷_, _++_}
 use mathlib.Core.Option.{none}
 use lib.ListN.{length, take}
 use Rattle.format.specs.Records.{Record}
+use Rattle.format.specs.Pins.{among}
 use Rattle.format.specs.Claims.{Made, claims, contested}
 use Rattle.format.specs.declared.pins.Chip.{Chip}
 use Rattle.format.specs.declared.records.Description.{Description}
@@ -35,11 +36,11 @@ pub record Claimed (d : Description) (kept : List Record) (h : Held) : Type 0 wh
   pub same : whats made ≡ whats (claims d kept)
   pub clear : contested d kept ≡ none
 
--- what is carried from element to element: in the last pass alone the pins
-abbrev pub Carries : Stage → Description → List Record → Held → Type 0
-Carries Zones d kept h = Unit {0}
-Carries Strings d kept h = Unit {0}
-Carries Pins d kept h = Claimed d kept h
+-- what is carried from element to element: for the strings that 0 is an index, for the pins who holds them
+abbrev pub Carries : Stage → List ℕ → Description → List Record → Held → Type 0
+Carries Zones ns d kept h = Unit {0}
+Carries Strings ns d kept h = among 0 ns ≡ true
+Carries Pins ns d kept h = Claimed d kept h
 
 -- the records that are kept then
 abbrev pub afterwards : List Record → saving.Fate → List Record
@@ -53,9 +54,9 @@ pub record JudgeIs (c : Chip) (stage : Stage) (t : List ℕ) (n : ℕ) (l : List
       (d : Description) (ns : List ℕ) (kept : List Record) (k : At Record)
       → Keeps c t n k
       → Marks l ns
-      → Carries stage d kept h
+      → Carries stage ns d kept h
       → Tells c t n (k .place) (r .fate) (byStage stage ns d kept (k .what))
-      × Carries stage d (afterwards kept (byStage stage ns d kept (k .what))) (r .held)
+      × Carries stage ns d (afterwards kept (byStage stage ns d kept (k .what))) (r .held)
 
 abbrev pub JudgeZone : Chip → List ℕ → ℕ → List Bool → Fate → Type 0
 JudgeZone c t n l f =
@@ -63,7 +64,11 @@ JudgeZone c t n l f =
 
 abbrev pub JudgeString : Chip → List ℕ → ℕ → List Bool → Fate → Type 0
 JudgeString c t n l f =
-    (ns : List ℕ) (kept : List Record) (k : At Record) → Keeps c t n k → Marks l ns → Tells c t n (k .place) f (byString ns kept (k .what))
+    (ns : List ℕ) (kept : List Record) (k : At Record)
+    → Keeps c t n k
+    → Marks l ns
+    → among 0 ns ≡ true
+    → Tells c t n (k .place) f (byString ns kept (k .what))
 
 abbrev pub JudgeClaim : Chip → List ℕ → ℕ → Held → Judged → Type 0
 JudgeClaim c t n h r =
@@ -82,7 +87,7 @@ pub record Given (c : Chip) (stage : Stage) (t from : List ℕ) (n : ℕ) (l : L
   pub codes : Each Codes (take m log) (s .lines)
   pub none-yet : s .kept ≡ []
   pub marks : Marks l ns
-  pub carries : Carries stage d [] h
+  pub carries : Carries stage ns d [] h
 
 pub record Ready (c : Chip) (stage : Stage) (t from : List ℕ) (n : ℕ) (l : List Bool) (h : Held) (log : List ℕ) (m : ℕ) : Type 0 where
   pub d : Description

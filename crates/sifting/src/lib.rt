@@ -97,11 +97,14 @@ fn by_zone(t: &[u8], kept: usize, declared: &[bool; 256], chip: Chip) -> Fate
     }
 }
 
-// 14
+// 14. An index that is cleared already is not missing.
 fn by_string(t: &[u8], kept: usize, declared: &[bool; 256], chip: Chip) -> Fate
     requires { ⌜ ((k : At Record) × Keeps chip (now t) kept k) ⌝ }
     ensures { λ r. ⌜ JudgeString chip (now (t .entry)) kept (now (declared .entry)) r ⌝ }
 {
+    if kept % 2 == 1 {
+        return Fate::Stays;
+    }
     if marked(t, kept / 2, declared, false) {
         Fate::Stays
     } else {
