@@ -7,3 +7,4 @@ pub mod Choosing
 pub mod Mending
 pub mod Bounds
 pub mod Texts
+pub mod Keeping
