@@ -8,3 +8,4 @@ pub mod Mending
 pub mod Bounds
 pub mod Texts
 pub mod Keeping
+pub mod Whole
