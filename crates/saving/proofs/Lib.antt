@@ -7,3 +7,5 @@ pub mod Choosing
 pub mod Mending
 pub mod Bounds
 pub mod Texts
+pub mod Keeping
+pub mod Whole
