@@ -29,7 +29,7 @@ use Rattle.format.proofs.Decoding.{starts-stated}
 use Rattle.format.proofs.Stepping.{Meets, step-meets}
 use Rattle.format.proofs.Growing.{place-snoc}
 use Rattle.flags.specs.Marks.{Marks}
-use Rattle.pass.specs.Tracks.{Flags, flags, Tracks, Walked, WalkIs}
+use Rattle.pass.specs.Tracks.{Flags, flags, Low, Tracks, Walked, WalkIs}
 use Rattle.pass.proofs.Walking.{took-stated}
 use Rattle.pass.specs.declared.State.{State}
 use Rattle.pass.specs.declared.Over.{Over}
@@ -148,6 +148,9 @@ module _
           length-take-le (n .kept) kept (omega (arith, w .notes .few, w .notes .kept-long)),
         )
 
+    pub low : Low s
+    low = record { most = omega (arith, w .tracks .count, kept-many, w .notes .few); few = w .tracks .few }
+
     scanned :
         (zs ss zu su : List Bool)
         → f ≡ flags zs ss zu su
@@ -265,7 +268,8 @@ module _
 
     pub turned : Scanning c t kept′ log′ g m (r .state) (end + grow) (at + len)
     turned =
-        let cut : take (at + len - at) here ≡ front here a b = ap (λ (k : ℕ). take k here) (omega (arith, states)) in
+        let size : at + len - at ≡ stated here = omega (arith, states) in
+        let cut : take (at + len - at) here ≡ front here a b = ap (λ (k : ℕ). take k here) size in
         let walked =
         subst (λ (l : List ℕ). WalkIs (writing c) l end s f r g) cut walk .walks (readDescription c (byte t)) so
         (bytes-take (stated here) here (bytes-drop at t small)) (w .place) (w .tracks) in

@@ -73,13 +73,13 @@ fn judge(
     ensures { λ r. ⌜ JudgeIs chip stage (now (t .entry)) kept (now (declared .entry)) held r ⌝ }
 {
     match stage {
-        Stage::Zones => judged(by_zone(t, kept, declared, chip), held),
-        Stage::Strings => judged(by_string(t, kept, declared, chip), held),
+        Stage::Zones => fated(by_zone(t, kept, declared, chip), held),
+        Stage::Strings => fated(by_string(t, kept, declared, chip), held),
         Stage::Pins => by_claim(t, kept, held, chip),
     }
 }
 
-fn judged(fate: Fate, held: Held) -> Judged
+fn fated(fate: Fate, held: Held) -> Judged
     ensures { λ r. ⌜ (r .fate ≡ fate) × (r .held ≡ held) ⌝ }
 {
     Judged { fate, held }
@@ -121,8 +121,8 @@ fn by_claim(t: &[u8], kept: usize, held: Held, chip: Chip) -> Judged
     let e = element_at(t, at, chip);
     let next = claim(held, claims_of(e), at);
     if next.clash == 65536 {
-        judged(Fate::Stays, next)
+        fated(Fate::Stays, next)
     } else {
-        judged(Fate::Leaves(15), held)
+        fated(Fate::Leaves(15), held)
     }
 }

@@ -5,11 +5,12 @@ use native.Mathlib.Omega.{arith}
 use mathlib.Core.Path.{_≡_, refl}
 use denote.Ref.{now}
 use lib.ListN.{length, drop}
+use lib.Seq.{length-slice}
 use borrow.Author.Needs.{needs}
 use Rattle.format.specs.Verdict.{stated}
 use Rattle.pass.specs.Tracks.{flags}
 use Rattle.pass.proofs.Moving.{unframed-short, unframed-small, unframed-long}
-use Rattle.scanning.proofs.Scanning.{Scanning, begun, ended, filled, turned}
+use Rattle.scanning.proofs.Scanning.{Scanning, begun, low, ended, filled, turned}
 use Rattle.scanning.proofs.scan.Statement.{statement}
 use Rattle.scanning.proofs.scan.Tie as tie
 
@@ -23,8 +24,8 @@ abbrev μ-loop : tie.MeasureT-loop
 loop-holds : tie.Need-loop-holds Inv-loop μ-loop
 loop-holds c =
     let s = c .before .before in
-    let k : length (now (s .args .kept)) ≡ 96 = omega arith in
-    let l : length (now (s .args .log)) ≡ 1649 = omega arith in
+    let k : length (now (s .args .kept)) ≡ 96 = omega (arith, s .good .1 .1 .0) in
+    let l : length (now (s .args .log)) ≡ 1649 = omega (arith, s .good .1 .1 .1 .0) in
     (s .pre .0, begun _ _ _ _ _ _ _ k l (c .counted .ensures .0) (c .counted .ensures .1) (s .pre .3))
 
 add-loop : tie.Need-add-loop Inv-loop μ-loop
@@ -76,7 +77,11 @@ add-next : tie.Need-add-next Inv-loop μ-loop
 add-next c = omega (arith, known c)
 
 walk-requires : tie.Need-walk-requires Inv-loop μ-loop
-walk-requires c κs = ?
+walk-requires c κs =
+    let e = c .before .before .before .before .before in
+    let l = e .before .before .before .before .before .before in
+    let n = length-slice (l .loop .at) (l .loop .at + e .before .before .before .before .length-at .result) (now (l .before .before .before .args .t)) (known e .inside) in
+    (omega (arith, known e, n), low _ _ _ _ _ _ _ _ _ (l .loop .inv .1))
 
 settle-requires : tie.Need-settle-requires Inv-loop μ-loop
 settle-requires c κs =
@@ -111,7 +116,7 @@ returns-4 c =
     let l = c .before in
     let i = l .loop .inv in
     ended _ _ _ _ _ _ _ _ _ (i .1) _ _ _ _ refl (i .0) (l .before .before .before .pre .1)
-    (unframed-short _ _ (omega (arith, c .loop-test .left)))
+    (unframed-short (now (l .before .before .before .args .t)) (l .loop .at) (omega (arith, c .loop-test .left)))
 
 pub scan-spec : {M : Type 1} → statement M
 scan-spec =

@@ -1,0 +1,121 @@
+-- The description and one element in the buffer.
+-- Assumes nothing.
+use Prim.Native.Nat.{ℕ, _+_, _*_, _/_, _%_, _≤_, _<_}
+use native.Mathlib.Omega.{arith}
+use mathlib.Core.Path.{_≡_, refl, sym, _∙_, ap, subst}
+use mathlib.Core.Bool.{Bool, true, false, cond}
+use mathlib.Core.List.{List, [], _∷_, _++_}
+use lib.ListN.{length, take, drop, set}
+use lib.Dec.{eqb}
+use Rattle.format.specs.Slots.{byte, Bytes, written, word, allRoomy}
+use Rattle.format.specs.Records.{Record, elementOf}
+use Rattle.format.specs.Layout.{opening, layout, part, fixed}
+use Rattle.format.specs.Rules.{descriptionRoomy, elementRoomy, shaped}
+use Rattle.format.specs.ZonesAndStrings.{role}
+use Rattle.format.specs.Verdict.{stated}
+use Rattle.format.specs.Decode.{readDescription}
+use Rattle.format.specs.Writing.{overwritten, elementSlots, writing}
+use Rattle.format.specs.declared.pins.Chip.{Chip}
+use Rattle.format.specs.declared.records.Description.{Description}
+use Rattle.format.specs.declared.records.Element.{Element}
+use Rattle.format.proofs.Slots.{over-starts, starts-roomy, bytes-drop, roomy-split, starts-length}
+use Rattle.format.proofs.EachKind.{description-fits}
+use Rattle.format.proofs.Written.{length-written}
+use Rattle.format.proofs.Kept.{own-kept}
+use Rattle.demands.proofs.Assembled.{slots-written, slots-length, body-roomy}
+use Rattle.demands.proofs.Demand2.{opening-roomy}
+use Rattle.places.specs.Walks.{RoleBytes}
+use Rattle.places.proofs.Roles.{role-bytes}
+use Rattle.walking.specs.Walk.{Here}
+use Rattle.spelling.specs.Spelling.{Put}
+use Rattle.spelling.proofs.Putting.{put-one}
+use Rattle.saving.specs.Saving.{At, unindexed, unindexedDescription}
+use Rattle.saving.proofs.Clearing.{unindexed-alike}
+use Rattle.fates.specs.Noted.{Keeps, asKept}
+use Rattle.mending.specs.Laid.{clearedAt, describedAs, PutsKept, PutsOpening}
+use Rattle.mending.proofs.Clearing.{cleared-over, long-enough}
+
+-- the description that stands in the bytes has room for its numbers
+pub read-roomy : (c : Chip) (t : List ℕ) → Bytes t → 16 ≤ length t → byte t 0 ≡ 1 → descriptionRoomy (readDescription c (byte t)) ≡ true
+read-roomy c t small long one =
+    let d = readDescription c (byte t) in
+    let st = over-starts t (opening d (stated t)) (omega (arith, long)) (description-fits c (byte t) (stated t) small one refl) in
+    opening-roomy d (stated t) (starts-roomy t (opening d (stated t)) (drop 16 t) small st)
+
+-- it is laid out for a table of 16 bytes; then the length is mended, and the index cleared
+mended-length : (d : Description) (n : ℕ) (b : List ℕ) → overwritten 1 (written (word n)) (overwritten 0 (written (opening d 16)) b) ≡ overwritten 0 (written (opening d n)) b
+mended-length d n b = refl
+
+cleared-index : (d : Description) (n : ℕ) (b : List ℕ) → set (overwritten 0 (written (opening d n)) b) 4 0 ≡ overwritten 0 (written (opening (unindexedDescription d) n)) b
+cleared-index d n b = refl
+
+module _ (d : Description) (n : ℕ) (b b₁ b₂ : List ℕ) (laid : b₁ ≡ overwritten 0 (written (opening d 16)) b) (mend : b₂ ≡ overwritten 1 (written (word n)) b₁) (room : 16 ≤ length b) where
+  both : b₂ ≡ overwritten 0 (written (opening d n)) b
+  both = mend ∙ ap (λ (l : List ℕ). overwritten 1 (written (word n)) l) laid ∙ mended-length d n b
+
+  pub opened-as-it-is : Put b 0 (written (opening d n)) 16 b₂
+  opened-as-it-is = rw both (put-one b 0 (written (opening d n)) (omega arith))
+
+  pub opened-cleared : Put b 0 (written (opening (unindexedDescription d) n)) 16 (set b₂ 4 0)
+  opened-cleared =
+      rw (ap (λ (l : List ℕ). set l 4 0) both ∙ cleared-index d n b) (put-one b 0 (written (opening (unindexedDescription d) n)) (omega arith))
+
+-- one element
+module _ (c : Chip) (t : List ℕ) (n : ℕ) (k : At Record) (h : Keeps c t n k) (small : Bytes t) where
+  pub stands-there : Here c t (n / 2) (h .r)
+  stands-there = rw (h .place) (h .here)
+
+  whole-shape : shaped (h .r) ≡ true
+  whole-shape = own-kept (writing c) (h .r) (h .unbroken) .shape-8
+
+  pub role-there : RoleBytes t (n / 2) (role (h .r))
+  role-there = rw (h .place) (role-bytes t (k .place) (h .r) (h .here .stands .rest) (h .here .stands .starts) whole-shape)
+
+  layout-roomy : allRoomy (layout (h .r)) ≡ true
+  layout-roomy = starts-roomy (drop (k .place) t) (layout (h .r)) (h .here .stands .rest) (bytes-drop (k .place) t small) (h .here .stands .starts)
+
+  pub fields-roomy : elementRoomy (elementOf (h .r)) ≡ true
+  fields-roomy = roomy-split (fixed (elementOf (h .r))) (part (h .r)) (body-roomy (h .r) layout-roomy) .0
+
+  pub same-size : length (layout (k .what)) ≡ length (layout (h .r))
+  same-size = rw (h .what) (go (eqb (n % 2) 1))
+    where
+      go : (b : Bool) → length (layout (cond b (unindexed (h .r)) (h .r))) ≡ length (layout (h .r))
+      go true = unindexed-alike (h .r) .long
+      go false = refl
+
+  pub room-for-index : 5 ≤ length (layout (h .r))
+  room-for-index = long-enough (h .r) whole-shape
+
+  pub slots-size : length (elementSlots (elementOf (h .r)) (written (part (h .r)))) ≡ length (layout (k .what))
+  slots-size = slots-length (h .r) ∙ sym same-size
+
+  module _
+      (out after : List ℕ) (at : ℕ) (e : Element) (p : List ℕ) (r len : ℕ)
+      (is : e ≡ elementOf (h .r)) (has : p ≡ written (part (h .r)))
+      (put : after ≡ overwritten at (written (elementSlots e p)) out)
+      (room : at + length (layout (k .what)) ≤ length out)
+      (size : len ≡ stated (drop (n / 2) t)) (ends : r ≡ at + len)
+    where
+      laid : after ≡ overwritten at (written (layout (h .r))) out
+      laid = put ∙ rw (is, has, slots-written (h .r)) refl
+
+      far : r ≡ at + length (layout (k .what))
+      far = omega (arith, ends, size, stands-there .size, same-size)
+
+      end-put : (x : Record) (b : List ℕ) → k .what ≡ x → b ≡ overwritten at (written (layout x)) out → Put out at (written (layout (k .what))) r b
+      end-put x b e q =
+          rw (e, q)
+          (subst (λ (m : ℕ). Put out at (written (layout x)) m (overwritten at (written (layout x)) out))
+          (omega (arith, length-written (layout x), far, ap (λ (y : Record). length (layout y)) e))
+          (put-one out at (written (layout x)) (omega (arith, length-written (layout x), room, ap (λ (y : Record). length (layout y)) e))))
+
+      pub put-as-it-is : (n % 2 ≡ 1 → ⊥) → Put out at (written (layout (k .what))) r after
+      put-as-it-is odd =
+          let even : n % 2 ≡ 0 = omega (arith, odd) in
+          end-put (h .r) after (h .what ∙ rw even refl) laid
+
+      pub put-cleared : (b : List ℕ) → n % 2 ≡ 1 → b ≡ clearedAt (byte t (n / 2)) at after → Put out at (written (layout (k .what))) r b
+      put-cleared b odd q =
+          end-put (unindexed (h .r)) b (h .what ∙ rw odd refl)
+          (q ∙ ap (λ (l : List ℕ). clearedAt (byte t (n / 2)) at l) laid ∙ cleared-over (h .r) t (n / 2) at out role-there whole-shape (omega (arith, room)))
