@@ -71,8 +71,10 @@ written-set (s ∷ ss) zero = refl
 written-set (s ∷ ss) (suc k) = ap (λ (l : List ℕ). byteOf s ∷ l) (written-set ss k)
 
 set-behind : (xs ys : List ℕ) (k v : ℕ) → set (xs ++ ys) (length xs + k) v ≡ xs ++ set ys k v
-set-behind [] ys k v = refl
-set-behind (x ∷ xs) ys k v = ap (λ (l : List ℕ). x ∷ l) (set-behind xs ys k v)
+set-behind [] ys k v = let e : 0 + k ≡ k = omega arith in rw e refl
+set-behind (x ∷ xs) ys k v =
+    let e : suc (length xs) + k ≡ suc (length xs + k) = omega arith in
+    rw e (ap (λ (l : List ℕ). x ∷ l) (set-behind xs ys k v))
 
 set-over : (at k : ℕ) (new b : List ℕ) → at ≤ length b → k < length new → set (overwritten at new b) (at + k) 0 ≡ overwritten at (set new k 0) b
 set-over at k new b h l =
@@ -100,12 +102,16 @@ cleared-over r t from at b h s l =
     long : 5 ≤ length (layout r)
     long = long-enough r s
 
+    laid : {ss : List Slot} → layout (unindexed r) ≡ ss → overwritten at (written ss) b ≡ overwritten at (written (layout (unindexed r))) b
+    laid e = ap (λ (l : List Slot). overwritten at (written l) b) (sym e)
+
     go :
         (x : Role)
         → RoleBytes t from x
         → layout (unindexed r) ≡ clearedSlots x (layout r)
         → clearedAt (byte t from) at (overwritten at (written (layout r)) b) ≡ overwritten at (written (layout (unindexed r))) b
     go (placed p) h e =
-        rw (ne-eqb (byte t from) 11 (h .0), ne-eqb (byte t from) 12 (h .1), e) (over-cleared at 3 (layout r) b l (omega (arith, long)))
-    go (zoning bytes) h e = rw (eq-eqb (byte t from) 11 (h .0), e) (over-cleared at 4 (layout r) b l (omega (arith, long)))
-    go (naming bytes) h e = rw (h .0, e) refl
+        rw (ne-eqb (byte t from) 11 (h .0), ne-eqb (byte t from) 12 (h .1)) (over-cleared at 3 (layout r) b l (omega (arith, long)))
+        ∙ laid e
+    go (zoning bytes) h e = rw (eq-eqb (byte t from) 11 (h .0)) (over-cleared at 4 (layout r) b l (omega (arith, long))) ∙ laid e
+    go (naming bytes) h e = rw (h .0) refl ∙ laid e

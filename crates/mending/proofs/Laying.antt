@@ -98,7 +98,7 @@ module _ (c : Chip) (t : List ℕ) (n : ℕ) (k : At Record) (h : Keeps c t n k)
       (size : len ≡ stated (drop (n / 2) t)) (ends : r ≡ at + len)
     where
       laid : after ≡ overwritten at (written (layout (h .r))) out
-      laid = put ∙ rw (is, has, slots-written (h .r)) refl
+      laid = put ∙ rw (is, has) (ap (λ (l : List ℕ). overwritten at l out) (slots-written (h .r)))
 
       far : r ≡ at + length (layout (k .what))
       far = omega (arith, ends, size, stands-there .size, same-size)

@@ -52,7 +52,7 @@ module _ (c : Chip) (t kept : List ℕ) (n : ℕ) (few : n ≤ 96) (long : lengt
   pub none-left : (i : ℕ) → n ≤ i → leftover ks i ≡ []
   none-left i b =
       ap (λ (l : List (At Record)). layouts (records l))
-      (drop-of-length-le ks (omega (arith, b, sized, each-length (Keeps c t) (take n kept) ks all)))
+      (drop-of-length-le ks {i = i} (omega (arith, b, sized, each-length (Keeps c t) (take n kept) ks all)))
 
 -- THE INVARIANT of the length: so far, and what is left, are the whole
 abbrev pub Summing : List ℕ → List ℕ → ℕ → ℕ → ℕ → Type 0

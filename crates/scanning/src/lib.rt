@@ -31,7 +31,7 @@ pub fn scan(
     su: &mut [bool; 256],
     chip: Chip,
 ) -> Counts
-    requires { ⌜ (16 ≤ length (now t)) × (length (now t) ≤ 4096) × Bytes (now t) × Tracks (readDescription chip (byte (now t))) start (flags (now zs) (now ss) (now zu) (now su)) [] ⌝ }
+    requires { ⌜ (16 ≤ length (now t)) × (length (now t) ≤ 4096) × Bytes (now t) × Tracks (readDescription chip (byte (now t))) start (flags (now zs) (now ss) (now zu) (now su)) [] × (length (now kept) ≡ 96) × (length (now log) ≡ 1649) ⌝ }
     ensures { λ r. ⌜ Scanned chip (now (t .entry)) (now (kept .exit)) (now (log .exit)) (now (zs .exit)) (now (ss .exit)) r ⌝ }
 {
     let settings = Settings {

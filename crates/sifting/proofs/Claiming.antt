@@ -64,7 +64,9 @@ module _ (c : Chip) (t : List ℕ) (n : ℕ) (k : At Record) (h : Keeps c t n k)
   claims-there e cs same f =
       let b = bare-same c (h .r) in
       let p = own-kept (writing c) (h .r) (h .unbroken) .pins-10 in
-      rw (h .what, kept-alike n (h .r) .claims, ← b .0) (rw same at f c (rw same (b .1 ∙ p)))
+      let g =
+      subst (λ (x : Element). (y : Chip) → pinned y (bare x) ≡ true → ClaimsAre cs (claimsOf (bare x))) same f in
+      rw (h .what, kept-alike n (h .r) .claims, ← b .0) (g c (b .1 ∙ p))
 
   module _ (next : Held) (p : ℕ) (is : HeldIs next (w .made ++ madeAt p (claimsOf (k .what)))) where
     abbrev more : List Made

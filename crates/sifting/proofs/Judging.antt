@@ -18,13 +18,18 @@ use Rattle.flags.specs.Marks.{Marks}
 use Rattle.places.specs.Walks.{RoleBytes, namesOf}
 use Rattle.places.proofs.Roles.{role-bytes}
 use Rattle.walking.specs.Walk.{Here}
-use Rattle.removal.proofs.Among.{within-all, Within, In}
+use Rattle.removal.proofs.Among.{In, in-one, within-all}
 use Rattle.saving.specs.Saving.{At, atPlace, unindexed, byZone, byString}
 use Rattle.saving.specs.Saving as saving
 use Rattle.saving.proofs.Clearing.{Alike, alike-same, unindexed-alike, unindexed-named}
 use Rattle.fates.specs.Noted.{Keeps, asKept, Tells}
+use Rattle.claims.specs.declared.Held.{Held}
 use Rattle.fates.specs.declared.Fate.{Fate}
 use Rattle.fates.specs.declared.Fate.the-variants.{Stays, Leaves, Mends}
+use Rattle.sifting.specs.Stages.{JudgeIs, JudgeZone, JudgeString, JudgeClaim}
+use Rattle.sifting.specs.declared.Stage.{Stage}
+use Rattle.sifting.specs.declared.Stage.the-variants.{Zones, Strings, Pins}
+use Rattle.sifting.specs.declared.Judged.{Judged}
 
 -- a record as it is kept differs at most in its index from the one that stands there
 pub kept-alike : (n : ℕ) (r : Record) → Alike (asKept n r) r
@@ -76,7 +81,7 @@ module _ (c : Chip) (t : List ℕ) (n : ℕ) (k : At Record) (h : Keeps c t n k)
       rw q keeps-same
     where
       only-zero : (x : ℕ) → In x (0 ∷ []) → In x ns
-      only-zero x i = rw (Rattle.removal.proofs.Among.in-one x 0 i) z
+      only-zero x i = rw (in-one x 0 i) z
 
   pub string-stays :
       (ns : List ℕ) (kept : List Record) (m : Bool)
@@ -107,3 +112,14 @@ module _ (c : Chip) (t : List ℕ) (n : ℕ) (k : At Record) (h : Keeps c t n k)
         },
         h .place,
       )
+
+-- by the pass
+module _ (c : Chip) (stage : Stage) (t : List ℕ) (n : ℕ) (l : List Bool) (h : Held) (r : Judged) where
+  pub zone-judges : (f : Fate) → stage ≡ Zones → JudgeZone c t n l f → (r .fate ≡ f) × (r .held ≡ h) → JudgeIs c stage t n l h r
+  zone-judges f is z e = rw is (record { judges = λ d ns kept k keeps marks carries. (rw (e .0) (z ns kept k keeps marks), tt) })
+
+  pub string-judges : (f : Fate) → stage ≡ Strings → JudgeString c t n l f → (r .fate ≡ f) × (r .held ≡ h) → JudgeIs c stage t n l h r
+  string-judges f is z e = rw is (record { judges = λ d ns kept k keeps marks zero. (rw (e .0) (z ns kept k keeps marks zero), zero) })
+
+  pub claim-judges : stage ≡ Pins → JudgeClaim c t n h r → JudgeIs c stage t n l h r
+  claim-judges is z = rw is (record { judges = λ d ns kept k keeps marks carries. z d kept k keeps carries })

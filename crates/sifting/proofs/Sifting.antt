@@ -74,7 +74,7 @@ module _ (c : Chip) (stage : Stage) (t from : List ℕ) (n : ℕ) (l : List Bool
     long : length (take n from) ≡ n
     long = length-take-le n from (omega (arith, g .few, g .from-long))
 
-    spot : Spot (Keeps c t) (take n from) ks i
+    pub spot : Spot (Keeps c t) (take n from) ks i
     spot = each-at (Keeps c t) (take n from) ks i (g .keeps) (omega (arith, long, b))
 
     pub keeps-at : Keeps c t (getD from i 0) (spot .x)
@@ -106,7 +106,7 @@ module _ (c : Chip) (stage : Stage) (t from : List ℕ) (n : ℕ) (l : List Bool
                   notes = settle .settles c t (o .so-far) (x .x .place) f (o .notes) (j .0);
                   carries = rw (after-records (o .so-far) (x .x .place) f) (j .1);
                   onward =
-                      ap (λ (k : ℕ). saving.sift (byStage stage ns d) (settled (o .so-far) (x .x .place) f) (drop k ks)) (sym (add-one i))
+                      ap (λ (k : ℕ). saving.sift (byStage stage ns d) (settled (o .so-far) (x .x .place) f) (drop k ks)) (add-one i)
                       ∙ sym (ap (saving.sift (byStage stage ns d) (o .so-far)) (x .same))
                       ∙ o .onward;
                 };

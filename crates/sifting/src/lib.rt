@@ -2,6 +2,7 @@
 // elements whose claims clash left out, in that order. One loop for the three.
 ghost use mathlib.Core.Path.{_≡_};
 ghost use Prim.Native.Nat.{ℕ, _+_, _<_, _≤_};
+ghost use lib.ListN.{length};
 ghost use Rattle.format.specs.Records.{Record};
 ghost use Rattle.saving.specs.Saving.{At};
 ghost use Rattle.fates.specs.Noted.{Keeps};
@@ -43,7 +44,7 @@ pub fn sift(
     lines: usize,
     chip: Chip,
 ) -> Counts
-    requires { ⌜ Ready chip stage (now t) (now from) n (now declared) first (now log) lines ⌝ }
+    requires { ⌜ Ready chip stage (now t) (now from) n (now declared) first (now log) lines × (length (now to) ≡ 96) ⌝ }
     ensures { λ r. ⌜ Sifted chip stage (now (t .entry)) (now (from .entry)) n (now (declared .entry)) first (now (log .entry)) lines r (now (to .exit)) (now (log .exit)) ⌝ }
 {
     let mut c = counted(0, lines);

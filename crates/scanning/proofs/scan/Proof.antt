@@ -24,9 +24,7 @@ abbrev μ-loop : tie.MeasureT-loop
 loop-holds : tie.Need-loop-holds Inv-loop μ-loop
 loop-holds c =
     let s = c .before .before in
-    let k : length (now (s .args .kept)) ≡ 96 = omega (arith, s .good .1 .1 .0) in
-    let l : length (now (s .args .log)) ≡ 1649 = omega (arith, s .good .1 .1 .1 .0) in
-    (s .pre .0, begun _ _ _ _ _ _ _ k l (c .counted .ensures .0) (c .counted .ensures .1) (s .pre .3))
+    (s .pre .0, begun _ _ _ _ _ _ _ (s .pre .4) (s .pre .5) (c .counted .ensures .0) (c .counted .ensures .1) (s .pre .3))
 
 add-loop : tie.Need-add-loop Inv-loop μ-loop
 add-loop c = omega (arith, c .loop .inv .0, c .before .before .before .pre .1)
@@ -39,14 +37,14 @@ returns c =
     let l = c .before .before .before in
     let i = l .loop .inv in
     ended _ _ _ _ _ _ _ _ _ (i .1) _ _ _ _ refl (i .0) (l .before .before .before .pre .1)
-    (unframed-small _ _ (c .before .length-at .ensures) (c .if1 .taken))
+    (unframed-small (now (l .before .before .before .args .t)) (l .loop .at) (c .before .length-at .ensures) (c .if1 .taken))
 
 returns-2 : tie.Need-returns-2 Inv-loop μ-loop
 returns-2 c =
     let l = c .before .before .before .before in
     let i = l .loop .inv in
     ended _ _ _ _ _ _ _ _ _ (i .1) _ _ _ _ refl (i .0) (l .before .before .before .pre .1)
-    (unframed-long _ _ (c .before .before .length-at .ensures) (c .if2 .taken))
+    (unframed-long (now (l .before .before .before .args .t)) (l .loop .at) (c .before .before .length-at .ensures) (c .if2 .taken))
 
 returns-3 : tie.Need-returns-3 Inv-loop μ-loop
 returns-3 c =
