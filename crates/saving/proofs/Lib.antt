@@ -9,3 +9,5 @@ pub mod Bounds
 pub mod Texts
 pub mod Keeping
 pub mod Whole
+pub mod Kept
+pub mod Theorems

@@ -61,9 +61,9 @@ module _ (σ : Settings) where
       ap (λ (u : Bool). sift (byPass σ) s (cond u (atPlace p bs ∷ rest) [])) (starts-framed bs r (m .0) st)
       ∙ ap (λ (u : Fate). sift (byPass σ) (settled s p u) rest) fate in (
         ap (λ (u : Saved). records (u .kept)) e
-        ∙ more .0
-        ∙ ap (λ (l : List Record). l ++ rs) (records-append (s .kept) (atPlace p r ∷ []))
-        ∙ append-snoc (records (s .kept)) r rs,
+            ∙ more .0
+            ∙ ap (λ (l : List Record). l ++ rs) (records-append (s .kept) (atPlace p r ∷ []))
+            ∙ append-snoc (records (s .kept)) r rs,
         ap (λ (u : Saved). u .lines) e ∙ more .1,
       )
 
