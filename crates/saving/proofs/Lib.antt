@@ -1,3 +1,4 @@
+pub mod Rows
 pub mod Sifting
 pub mod Clearing
 pub mod Alike
