@@ -1,3 +1,4 @@
+pub mod Rows
 pub mod Sifting
 pub mod Clearing
 pub mod Alike
@@ -9,3 +10,5 @@ pub mod Bounds
 pub mod Texts
 pub mod Keeping
 pub mod Whole
+pub mod Kept
+pub mod Theorems
