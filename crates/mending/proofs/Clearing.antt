@@ -5,7 +5,7 @@ use native.Mathlib.Omega.{arith}
 use mathlib.Core.Path.{_≡_, refl, sym, _∙_, ap}
 use mathlib.Core.Bool.{Bool, true, false, cond}
 use mathlib.Core.List.{List, [], _∷_, _++_, map}
-use lib.ListN.{length, take, drop, set, length-set, length-map}
+use lib.ListN.{length, take, drop, set, length-set, length-map, length-append}
 use lib.Seq.{length-take-le, set-append-left}
 use lib.Dec.{eqb}
 use borrow.Author.Tests.{eq-eqb, ne-eqb, eqb-true, leb-true}
@@ -80,9 +80,9 @@ set-over : (at k : ℕ) (new b : List ℕ) → at ≤ length b → k < length ne
 set-over at k new b h l =
     let e : length (take at b) ≡ at = length-take-le at b h in
     let n : at + length (set new k 0) ≡ at + length new = ap (λ (m : ℕ). at + m) (length-set new k 0) in
-    ap (λ (m : ℕ). set (overwritten at new b) (m + k) 0) (sym e)
-    ∙ set-behind (take at b) (new ++ drop (at + length new) b) k 0
-    ∙ ap (λ (x : List ℕ). take at b ++ x) (set-append-left new (drop (at + length new) b) k 0 l)
+    set-append-left (take at b ++ new) (drop (at + length new) b) (at + k) 0 (omega (arith, e, l, length-append (take at b) new))
+    ∙ ap (λ (x : List ℕ). x ++ drop (at + length new) b)
+    (ap (λ (m : ℕ). set (take at b ++ new) (m + k) 0) (sym e) ∙ set-behind (take at b) new k 0)
     ∙ ap (λ (m : ℕ). take at b ++ set new k 0 ++ drop m b) (sym n)
 
 over-cleared : (at k : ℕ) (ss : List Slot) (b : List ℕ) → at ≤ length b → k < length ss → set (overwritten at (written ss) b) (at + k) 0 ≡ overwritten at (written (set ss k (whole 0))) b

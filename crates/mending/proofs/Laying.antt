@@ -61,61 +61,66 @@ module _ (d : Description) (n : ℕ) (b b₁ b₂ : List ℕ) (laid : b₁ ≡ o
       rw (ap (λ (l : List ℕ). set l 4 0) both ∙ cleared-index d n b) (put-one b 0 (written (opening (unindexedDescription d) n)) (omega arith))
 
 -- one element
-module _ (c : Chip) (t : List ℕ) (n : ℕ) (k : At Record) (h : Keeps c t n k) (small : Bytes t) where
+module _ (c : Chip) (t : List ℕ) (n : ℕ) (k : At Record) (h : Keeps c t n k) where
   pub stands-there : Here c t (n / 2) (h .r)
   stands-there = rw (h .place) (h .here)
 
   whole-shape : shaped (h .r) ≡ true
   whole-shape = own-kept (writing c) (h .r) (h .unbroken) .shape-8
 
-  pub role-there : RoleBytes t (n / 2) (role (h .r))
+  role-there : RoleBytes t (n / 2) (role (h .r))
   role-there = rw (h .place) (role-bytes t (k .place) (h .r) (h .here .stands .rest) (h .here .stands .starts) whole-shape)
 
-  layout-roomy : allRoomy (layout (h .r)) ≡ true
-  layout-roomy = starts-roomy (drop (k .place) t) (layout (h .r)) (h .here .stands .rest) (bytes-drop (k .place) t small) (h .here .stands .starts)
-
-  pub fields-roomy : elementRoomy (elementOf (h .r)) ≡ true
-  fields-roomy = roomy-split (fixed (elementOf (h .r))) (part (h .r)) (body-roomy (h .r) layout-roomy) .0
-
-  pub same-size : length (layout (k .what)) ≡ length (layout (h .r))
+  same-size : length (layout (k .what)) ≡ length (layout (h .r))
   same-size = rw (h .what) (go (eqb (n % 2) 1))
     where
       go : (b : Bool) → length (layout (cond b (unindexed (h .r)) (h .r))) ≡ length (layout (h .r))
       go true = unindexed-alike (h .r) .long
       go false = refl
 
-  pub room-for-index : 5 ≤ length (layout (h .r))
-  room-for-index = long-enough (h .r) whole-shape
+  -- as many bytes as it states, within the table, and enough for an index
+  pub size-there : length (layout (k .what)) ≡ stated (drop (n / 2) t)
+  size-there = same-size ∙ sym (stands-there .size)
 
-  pub slots-size : length (elementSlots (elementOf (h .r)) (written (part (h .r)))) ≡ length (layout (k .what))
-  slots-size = slots-length (h .r) ∙ sym same-size
+  pub inside : (n / 2 + length (layout (k .what)) ≤ length t) × (5 ≤ length (layout (k .what)))
+  inside = (omega (arith, size-there, stands-there .within), omega (arith, same-size, long-enough (h .r) whole-shape))
 
-  module _
-      (out after : List ℕ) (at : ℕ) (e : Element) (p : List ℕ) (r len : ℕ)
-      (is : e ≡ elementOf (h .r)) (has : p ≡ written (part (h .r)))
-      (put : after ≡ overwritten at (written (elementSlots e p)) out)
-      (room : at + length (layout (k .what)) ≤ length out)
-      (size : len ≡ stated (drop (n / 2) t)) (ends : r ≡ at + len)
-    where
+  module _ (e : Element) (p : List ℕ) (is : e ≡ elementOf (h .r)) (has : p ≡ written (part (h .r))) (at : ℕ) (out : List ℕ) (room : at + length (layout (k .what)) ≤ length out) where
+    pub fits-there :
+        Bytes t
+        → length t ≤ 4096
+        → (elementRoomy e ≡ true) × (length (elementSlots e p) ≤ 4096) × (at + length (elementSlots e p) ≤ length out)
+    fits-there small top =
+        let roomy =
+        starts-roomy (drop (k .place) t) (layout (h .r)) (h .here .stands .rest) (bytes-drop (k .place) t small) (h .here .stands .starts) in
+        let size : length (elementSlots (elementOf (h .r)) (written (part (h .r)))) ≡ length (layout (k .what)) = slots-length (h .r) ∙ sym same-size in
+        rw (is, has) (
+          roomy-split (fixed (elementOf (h .r))) (part (h .r)) (body-roomy (h .r) roomy) .0,
+          omega (arith, size, inside, top),
+          omega (arith, size, room),
+        )
+
+    module _ (after : List ℕ) (put : after ≡ overwritten at (written (elementSlots e p)) out) (r len : ℕ) (size : len ≡ stated (drop (n / 2) t)) (ends : r ≡ at + len) where
       laid : after ≡ overwritten at (written (layout (h .r))) out
       laid = put ∙ rw (is, has) (ap (λ (l : List ℕ). overwritten at l out) (slots-written (h .r)))
 
       far : r ≡ at + length (layout (k .what))
-      far = omega (arith, ends, size, stands-there .size, same-size)
+      far = omega (arith, ends, size, size-there)
 
       end-put : (x : Record) (b : List ℕ) → k .what ≡ x → b ≡ overwritten at (written (layout x)) out → Put out at (written (layout (k .what))) r b
       end-put x b e q =
+          let same = ap (λ (y : Record). length (layout y)) e in
+          let n : at + length (written (layout x)) ≡ r = omega (arith, length-written (layout x), far, same) in
           rw (e, q)
-          (subst (λ (m : ℕ). Put out at (written (layout x)) m (overwritten at (written (layout x)) out))
-          (omega (arith, length-written (layout x), far, ap (λ (y : Record). length (layout y)) e))
-          (put-one out at (written (layout x)) (omega (arith, length-written (layout x), room, ap (λ (y : Record). length (layout y)) e))))
+          (subst (λ (m : ℕ). Put out at (written (layout x)) m (overwritten at (written (layout x)) out)) n
+          (put-one out at (written (layout x)) (omega (arith, length-written (layout x), room, same))))
 
-      pub put-as-it-is : (n % 2 ≡ 1 → ⊥) → Put out at (written (layout (k .what))) r after
-      put-as-it-is odd =
-          let even : n % 2 ≡ 0 = omega (arith, odd) in
-          end-put (h .r) after (h .what ∙ rw even refl) laid
-
-      pub put-cleared : (b : List ℕ) → n % 2 ≡ 1 → b ≡ clearedAt (byte t (n / 2)) at after → Put out at (written (layout (k .what))) r b
-      put-cleared b odd q =
-          end-put (unindexed (h .r)) b (h .what ∙ rw odd refl)
-          (q ∙ ap (λ (l : List ℕ). clearedAt (byte t (n / 2)) at l) laid ∙ cleared-over (h .r) t (n / 2) at out role-there whole-shape (omega (arith, room)))
+      -- its index cleared or not
+      pub put-there : (b : List ℕ) → b ≡ cond (eqb (n % 2) 1) (clearedAt (byte t (n / 2)) at after) after → Put out at (written (layout (k .what))) r b
+      put-there b q = go (eqb (n % 2) 1) refl q
+        where
+          go : (x : Bool) → eqb (n % 2) 1 ≡ x → b ≡ cond x (clearedAt (byte t (n / 2)) at after) after → Put out at (written (layout (k .what))) r b
+          go true f q =
+              end-put (unindexed (h .r)) b (h .what ∙ rw f refl)
+              (q ∙ ap (λ (l : List ℕ). clearedAt (byte t (n / 2)) at l) laid ∙ cleared-over (h .r) t (n / 2) at out role-there whole-shape (omega (arith, room)))
+          go false f q = end-put (h .r) b (h .what ∙ rw f refl) (q ∙ laid)

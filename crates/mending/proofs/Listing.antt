@@ -4,16 +4,15 @@ use Prim.Native.Nat.{ℕ, zero, suc, _+_, _*_, _/_, _≤_, _<_}
 use native.Mathlib.Omega.{arith}
 use native.Mathlib.Numerals.{add-one}
 use mathlib.Core.Path.{_≡_, refl, sym, _∙_, ap, subst}
-use mathlib.Core.Bool.{Bool}
 use mathlib.Core.List.{List, [], _∷_, _++_, append-nil, append-assoc}
 use lib.ListN.{length, take, drop, getD, length-append, drop-of-length-le}
 use lib.Seq.{length-take-le, getD-take}
-use Rattle.format.specs.Slots.{Slot, byte, written}
+use Rattle.format.specs.Slots.{Slot, written}
 use Rattle.format.specs.Records.{Record}
 use Rattle.format.specs.Layout.{opening, layout, layouts, table, placeAfter}
 use Rattle.format.specs.Verdict.{stated}
-use Rattle.format.specs.Decode.{readDescription}
 use Rattle.format.specs.declared.pins.Chip.{Chip}
+use Rattle.format.specs.declared.records.Description.{Description}
 use Rattle.format.proofs.Whole.{written-append}
 use Rattle.format.proofs.Written.{length-written}
 use Rattle.spelling.specs.Spelling.{Put}
@@ -21,7 +20,7 @@ use Rattle.spelling.proofs.Putting.{then, put-none}
 use Rattle.saving.specs.Saving.{At, records}
 use Rattle.fates.specs.Noted.{Each, Keeps}
 use Rattle.fates.proofs.Noting.{Spot, each-at, each-length}
-use Rattle.mending.specs.Laid.{describedAs, LengthIs, PutsTable}
+use Rattle.mending.specs.Laid.{LengthIs}
 
 -- what is left of the layout from a position on
 abbrev leftover : List (At Record) → ℕ → List Slot
@@ -80,36 +79,25 @@ sum-on t kept n i end len few long b e size w c ks all =
 pub sum-ends : (t kept : List ℕ) (n i end : ℕ) → n ≤ 96 → length kept ≡ 96 → n ≤ i → Summing t kept n i end → LengthIs t kept n end
 sum-ends t kept n i end few long b w c ks all = omega (arith, w c ks all, ap length (none-left c t kept n few long ks all i b))
 
--- THE INVARIANT of the layout: what stands in the buffer, and what is left, are the whole table
-pub record Laying (c : Chip) (t kept : List ℕ) (n : ℕ) (cleared : Bool) (len : ℕ) (out₀ : List ℕ) (i end : ℕ) (out : List ℕ) (ks : List (At Record)) : Type 0 where
+-- THE INVARIANT of the layout: what stands in the buffer behind the description, and what is left, are all
+pub record Laying (ks : List (At Record)) (len : ℕ) (out₀ : List ℕ) (i end : ℕ) (out : List ℕ) : Type 0 where
   pub so-far : List ℕ
-  pub put : Put out₀ 0 so-far end out
+  pub put : Put out₀ 16 so-far end out
   pub sum : end + length (leftover ks i) ≡ len
-  pub whole : so-far ++ written (leftover ks i) ≡ written (table (describedAs cleared (readDescription c (byte t))) (records ks))
+  pub whole : so-far ++ written (leftover ks i) ≡ written (layouts (records ks))
 
-module _ (c : Chip) (t kept : List ℕ) (n : ℕ) (cleared : Bool) (len : ℕ) (out₀ : List ℕ) (ks : List (At Record)) where
-  pub lay-begun :
-      (out : List ℕ)
-      → len ≡ placeAfter (records ks)
-      → Put out₀ 0 (written (opening (describedAs cleared (readDescription c (byte t))) len)) 16 out
-      → Laying c t kept n cleared len out₀ 0 16 out ks
-  lay-begun out e p =
-      let d = describedAs cleared (readDescription c (byte t)) in
-      record {
-        so-far = written (opening d len);
-        put = p;
-        sum = omega (arith, e);
-        whole =
-            ap (λ (m : ℕ). written (opening d m) ++ written (layouts (records ks))) e
-            ∙ sym (written-append (opening d (16 + length (layouts (records ks)))) (layouts (records ks)));
-      }
+pub lay-begun : (ks : List (At Record)) (len : ℕ) (out : List ℕ) → len ≡ placeAfter (records ks) → Laying ks len out 0 16 out
+lay-begun ks len out e = record { so-far = []; put = put-none out 16; sum = omega (arith, e); whole = refl }
+
+module _ (c : Chip) (t kept : List ℕ) (n : ℕ) (few : n ≤ 96) (long : length kept ≡ 96) (ks : List (At Record)) (all : Each (Keeps c t) (take n kept) ks) (len : ℕ) (out₀ : List ℕ) (i end : ℕ) (out : List ℕ) (w : Laying ks len out₀ i end out) where
+  pub lay-room : (b : i < n) → end + length (layout (spot c t kept n few long ks all i b .x .what)) ≤ len
+  lay-room b = omega (arith, w .sum, left-length c t kept n few long ks all i b)
 
   pub lay-on :
-      (i end end′ : ℕ) (out out′ : List ℕ) (few : n ≤ 96) (long : length kept ≡ 96) (all : Each (Keeps c t) (take n kept) ks) (b : i < n)
-      → Laying c t kept n cleared len out₀ i end out ks
+      (b : i < n) (end′ : ℕ) (out′ : List ℕ)
       → Put out end (written (layout (spot c t kept n few long ks all i b .x .what))) end′ out′
-      → Laying c t kept n cleared len out₀ (i + 1) end′ out′ ks
-  lay-on i end end′ out out′ few long all b w p =
+      → Laying ks len out₀ (i + 1) end′ out′
+  lay-on b end′ out′ p =
       let x = spot c t kept n few long ks all i b .x .what in
       record {
         so-far = w .so-far ++ written (layout x);
@@ -122,13 +110,18 @@ module _ (c : Chip) (t kept : List ℕ) (n : ℕ) (cleared : Bool) (len : ℕ) (
       }
 
   pub lay-ends :
-      (i end : ℕ) (out : List ℕ) (few : n ≤ 96) (long : length kept ≡ 96) (all : Each (Keeps c t) (take n kept) ks)
-      → n ≤ i
-      → Laying c t kept n cleared len out₀ i end out ks
-      → Put out₀ 0 (written (table (describedAs cleared (readDescription c (byte t))) (records ks))) len out
-  lay-ends i end out few long all b w =
-      let none = none-left c t kept n few long ks all i b in
+      n ≤ i
+      → (d : Description) (b : List ℕ)
+      → len ≡ placeAfter (records ks)
+      → Put b 0 (written (opening d len)) 16 out₀
+      → Put b 0 (written (table d (records ks))) len out
+  lay-ends h d b size p =
+      let none = none-left c t kept n few long ks all i h in
       let e : end ≡ len = omega (arith, w .sum, ap length none) in
-      let q : w .so-far ≡ written (table (describedAs cleared (readDescription c (byte t))) (records ks)) =
+      let q : w .so-far ≡ written (layouts (records ks)) =
       sym (append-nil (w .so-far)) ∙ ap (λ (l : List Slot). w .so-far ++ written l) (sym none) ∙ w .whole in
-      rw (← q, ← e) (w .put)
+      let text : written (opening d len) ++ w .so-far ≡ written (table d (records ks)) =
+      ap (λ (l : List ℕ). written (opening d len) ++ l) q
+      ∙ sym (written-append (opening d len) (layouts (records ks)))
+      ∙ ap (λ (m : ℕ). written (opening d m ++ layouts (records ks))) size in
+      subst (λ (l : List ℕ). Put b 0 l len out) text (subst (λ (m : ℕ). Put b 0 (written (opening d len) ++ w .so-far) m out) e (then p (w .put)))

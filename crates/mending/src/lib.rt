@@ -1,5 +1,6 @@
 // The new table of salvage in a lent buffer: the description and what is kept, reserved places at zero, cleared string indexes at 0.
 ghost use mathlib.Core.Path.{_≡_};
+ghost use mathlib.Core.Bool.{cond};
 ghost use Prim.Native.Nat.{_+_, _≤_};
 ghost use lib.ListN.{length};
 ghost use Rattle.format.specs.Slots.{byte, Bytes};
@@ -72,13 +73,21 @@ fn put_kept(t: &[u8], held: usize, out: &mut [u8], at: usize, chip: Chip) -> usi
 {
     let from = held / 2;
     put_element(out, at, element_at(t, from, chip), part_at(t, from));
-    if held % 2 == 1 {
-        clear_index(out, at, t[from]);
-    }
+    mend_index(out, at, t[from], held % 2 == 1);
     at + length_at(t, from)
 }
 
-// The string index of an element at a place, by its identifier: a zone descriptor has it at byte 4, a string has none.
+// The string index of the element at a place, which is cleared or not.
+fn mend_index(out: &mut [u8], at: usize, id: u8, cleared: bool)
+    requires { ⌜ at + 5 ≤ length (now out) ⌝ }
+    ensures { λ _. ⌜ now (out .exit) ≡ cond cleared (clearedAt id at (now (out .entry))) (now (out .entry)) ⌝ }
+{
+    if cleared {
+        clear_index(out, at, id);
+    }
+}
+
+// It is cleared, by the element's identifier: a zone descriptor has it at byte 4, a string has none.
 fn clear_index(out: &mut [u8], at: usize, id: u8)
     requires { ⌜ at + 5 ≤ length (now out) ⌝ }
     ensures { λ _. ⌜ now (out .exit) ≡ clearedAt id at (now (out .entry)) ⌝ }

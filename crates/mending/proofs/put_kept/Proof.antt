@@ -13,14 +13,11 @@ part-at-requires c κs = ?
 put-element-requires : tie.Need-put-element-requires
 put-element-requires c κs = ?
 
-clear-index-requires : tie.Need-clear-index-requires
-clear-index-requires c κs = ?
+mend-index-requires : tie.Need-mend-index-requires
+mend-index-requires c κs = ?
 
 add-result : tie.Need-add-result
 add-result c = ?
-
-same-length : tie.Need-same-length
-same-length c = ?
 
 returns : tie.Need-returns
 returns c = ?
@@ -33,8 +30,8 @@ put-kept-spec =
     part-at-requires
     put-element-requires
     (λ c. search needs)
-    clear-index-requires
+    mend-index-requires
     (λ c κs. search needs)
     add-result
-    same-length
+    (λ c. search needs)
     returns)
