@@ -53,12 +53,19 @@ module _ (d : Description) (n : ℕ) (b b₁ b₂ : List ℕ) (laid : b₁ ≡ o
   both : b₂ ≡ overwritten 0 (written (opening d n)) b
   both = mend ∙ ap (λ (l : List ℕ). overwritten 1 (written (word n)) l) laid ∙ mended-length d n b
 
-  pub opened-as-it-is : Put b 0 (written (opening d n)) 16 b₂
-  opened-as-it-is = rw both (put-one b 0 (written (opening d n)) (omega arith))
+  module _ (c : Chip) (t : List ℕ) (cleared : Bool) (same : d ≡ readDescription c (byte t)) where
+    opens : (x : Description) (after : List ℕ) → x ≡ describedAs cleared (readDescription c (byte t)) → after ≡ overwritten 0 (written (opening x n)) b → PutsOpening c t cleared n b after
+    opens x after e q =
+        subst (λ (y : Description). Put b 0 (written (opening y n)) 16 after) e (rw q (put-one b 0 (written (opening x n)) (omega arith)))
 
-  pub opened-cleared : Put b 0 (written (opening (unindexedDescription d) n)) 16 (set b₂ 4 0)
-  opened-cleared =
-      rw (ap (λ (l : List ℕ). set l 4 0) both ∙ cleared-index d n b) (put-one b 0 (written (opening (unindexedDescription d) n)) (omega arith))
+    pub opened-as-it-is : cleared ≡ false → PutsOpening c t cleared n b b₂
+    opened-as-it-is is = opens d b₂ (same ∙ sym (ap (λ (x : Bool). describedAs x (readDescription c (byte t))) is)) both
+
+    pub opened-cleared : cleared ≡ true → PutsOpening c t cleared n b (set b₂ 4 0)
+    opened-cleared is =
+        opens (unindexedDescription d) (set b₂ 4 0)
+        (ap unindexedDescription same ∙ sym (ap (λ (x : Bool). describedAs x (readDescription c (byte t))) is))
+        (ap (λ (l : List ℕ). set l 4 0) both ∙ cleared-index d n b)
 
 -- one element
 module _ (c : Chip) (t : List ℕ) (n : ℕ) (k : At Record) (h : Keeps c t n k) where

@@ -61,7 +61,7 @@ pub record Fitting (c : Chip) (t kept : List ℕ) (n len : ℕ) (out : List ℕ)
   pub revised : byte t 0 ≡ 1
   pub top : length t ≤ 4096
   pub bytes : Bytes t
-  pub size : len ≡ placeAfter (records ks)
+  pub size : LengthIs t kept n len
   pub most : len ≤ 4096
   pub room : len ≤ length out
 

@@ -169,5 +169,5 @@ decided c t p kept log e a b n s l =
             codes = rw b (n .codes);
           };
       clears = s;
-      size = l c (afterAll c t .kept) (n .keeps);
+      size = rw a l;
     }

@@ -110,7 +110,7 @@ module _ (c : Chip) (file out lines : List ℕ) where
           ap length new-table,
           length-written (table d rs),
           length-append (opening d (16 + length (layouts rs))) (layouts rs),
-          w .size,
+          w .size c (afterAll c (taken file) .kept) (w .notes .keeps),
         )
 
     pub most : p .len ≤ 4096

@@ -6,15 +6,15 @@ use mathlib.Core.Bool.{Bool, not, cond}
 use mathlib.Core.List.{List, [], _∷_, _++_}
 use lib.ListN.{length, take}
 use Rattle.format.specs.Slots.{byte}
-use Rattle.format.specs.Layout.{placeAfter}
 use Rattle.format.specs.Pins.{among}
 use Rattle.format.specs.Decode.{readDescription}
 use Rattle.format.specs.Writing.{writing}
 use Rattle.format.specs.declared.pins.Chip.{Chip}
 use Rattle.format.specs.declared.records.Description.{Description}
-use Rattle.saving.specs.Saving.{Line, line, cleared, Saved, records, stringIndexes, inZones, named, ending}
+use Rattle.saving.specs.Saving.{Line, line, cleared, Saved, stringIndexes, inZones, named, ending}
 use Rattle.fates.specs.Noted.{Each, Codes, Notes}
 use Rattle.fates.specs.declared.Counts.{Counts}
+use Rattle.mending.specs.Laid.{LengthIs}
 use Rattle.salvaging.specs.declared.Plan.{Plan}
 
 -- the description that stands in the bytes
@@ -37,7 +37,7 @@ countsOf p = record { kept = p .kept; lines = p .lines }
 pub record Decided (c : Chip) (t : List ℕ) (p : Plan) (kept log : List ℕ) : Type 0 where
   pub notes : Notes c t kept log (countsOf p) (afterAll c t)
   pub clears : p .cleared ≡ not (among (described c t .string) (stringIndexes (afterZones c t)))
-  pub size : p .len ≡ placeAfter (records (afterAll c t .kept))
+  pub size : LengthIs t kept (p .kept) (p .len)
 
 -- the description's line, where there is one
 pub record NotesFirst (log : List ℕ) (n : ℕ) (clear : Bool) (r : ℕ) (log′ : List ℕ) : Type 0 where
