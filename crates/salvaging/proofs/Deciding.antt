@@ -27,7 +27,7 @@ use Rattle.fates.proofs.Noting.{each-snoc, cleared-code}
 use Rattle.scanning.specs.Scanned.{afterPass, Scanned}
 use Rattle.sifting.specs.Stages.{Given, Ready, Sifted, Claimed}
 use Rattle.sifting.specs.declared.Stage.the-variants.{Zones, Strings, Pins}
-use Rattle.mending.specs.Laid.{LengthIs}
+use Rattle.mending.specs.Laid.{LengthIs, Listed}
 use Rattle.salvaging.specs.Decided.{described, afterZones, afterStrings, afterAll, countsOf, Decided, NotesFirst}
 use Rattle.salvaging.specs.declared.Plan.{Plan}
 
@@ -79,6 +79,9 @@ module _ (c : Chip) (t : List ℕ) (held : Held) (made : HeldIs held (madeAt 0 (
           carries = tt;
         }
 
+    pub ready-13 : length t ≤ 4096 → Ready c Zones t one (a .kept) zs held log (a .lines)
+    ready-13 top = record { d = _; ns = _; s = _; ks = _; given = given-13; small = top }
+
     pub noted-13 : {b : Counts} {two log′ : List ℕ} → Sifted c Zones t one (a .kept) zs held log (a .lines) b two log′ → Notes c t two log′ b (afterZones c t)
     unfolding afterPass afterZones
     noted-13 s = s .sifts _ _ _ _ given-13
@@ -123,6 +126,9 @@ module _ (c : Chip) (t : List ℕ) (held : Held) (made : HeldIs held (madeAt 0 (
             carries = refl;
           }
 
+      pub ready-14 : length t ≤ 4096 → Ready c Strings t two (b .kept) ss held log′ lines
+      ready-14 top = record { d = _; ns = _; s = _; ks = _; given = given-14; small = top }
+
       pub noted-14 : {r : Counts} {one log″ : List ℕ} → Sifted c Strings t two (b .kept) ss held log′ lines r one log″ → Notes c t one log″ r (afterStrings c t)
       unfolding afterZones afterStrings
       noted-14 s = s .sifts _ _ _ _ given-14
@@ -144,11 +150,18 @@ module _ (c : Chip) (t : List ℕ) (held : Held) (made : HeldIs held (madeAt 0 (
           carries = record { made = madeAt 0 (firstClaims (described c t)); held = made; same = ap whats (sym (append-nil (madeAt 0 (firstClaims (described c t))))); clear = clear };
         }
 
+    pub ready-15 : length t ≤ 4096 → Ready c Pins t one (r .kept) ss held log (r .lines)
+    ready-15 top = record { d = _; ns = _; s = _; ks = _; given = given-15; small = top }
+
     pub noted-15 : {e : Counts} {kept log′ : List ℕ} → Sifted c Pins t one (r .kept) ss held log (r .lines) e kept log′ → Notes c t kept log′ e (afterAll c t)
     unfolding afterZones afterStrings afterAll
     noted-15 s = s .sifts _ _ _ _ given-15
 
 -- all is decided
+pub listed : (c : Chip) (t kept log : List ℕ) (e : Counts) → Notes c t kept log e (afterAll c t) → length t ≤ 4096 → Listed t kept (e .kept)
+listed c t kept log e n top =
+    record { c = c; ks = afterAll c t .kept; keeps = n .keeps; few = n .few; long = n .kept-long; top = top }
+
 pub decided :
     (c : Chip) (t : List ℕ) (p : Plan) (kept log : List ℕ) (e : Counts)
     → p .kept ≡ e .kept

@@ -13,13 +13,14 @@ use borrow.Author.Tests.{le-leb, lt-leb, eq-eqb, ne-eqb}
 use Rattle.format.specs.Slots.{byte, Bytes, written}
 use Rattle.format.specs.Layout.{table, opening, layouts, placeAfter}
 use Rattle.format.specs.Pins.{among}
-use Rattle.format.specs.Rules.{numbered}
+use Rattle.format.specs.Rules.{numbered, descriptionRules, strapped}
 use Rattle.format.specs.Claims.{madeAt, firstClaims, firstClash, claims, contested}
 use Rattle.format.specs.Table.{descriptionBreaks}
 use Rattle.format.specs.Writing.{overwritten}
 use Rattle.format.specs.declared.pins.Chip.{Chip}
 use Rattle.format.specs.declared.records.Description.{Description}
 use Rattle.format.proofs.Slots.{bytes-take}
+use Rattle.format.proofs.Kept.{zero-none, description-numbered, description-kept}
 use Rattle.format.proofs.Written.{length-written}
 use Rattle.claims.specs.Taken.{HeldIs}
 use Rattle.claims.specs.Taken as claimed
@@ -50,9 +51,27 @@ same-none : (o : Option ℕ) → claimed.isNone o ≡ isNone o
 same-none none = refl
 same-none (some p) = refl
 
-none-number : (o : Option ℕ) → ((numbered o ≡ 0 → ⊥) → isNone o ≡ false)
+none-number : (o : Option ℕ) → (numbered o ≡ 0 → ⊥) → isNone o ≡ false
 none-number none h = absurd (h refl)
 none-number (some k) h = refl
+
+module _ (c : Chip) (t : List ℕ) (d : Description) (same : d ≡ described c t) (k : ℕ) (is : k ≡ numbered (descriptionBreaks c d)) where
+  pub bad-number : (k ≡ 0 → ⊥) → isNone (descriptionBreaks c (described c t)) ≡ false
+  bad-number h = rw (← same) (none-number (descriptionBreaks c d) (λ e. h (is ∙ e)))
+
+  pub good-number : k ≡ 0 → descriptionBreaks c (described c t) ≡ none
+  good-number h = rw (← same) (zero-none (descriptionRules c d) (description-numbered c d) (sym is ∙ h))
+
+-- what the description claims
+pub held-first :
+    (c : Chip) (t : List ℕ) (d : Description) (held : Held)
+    → d ≡ described c t
+    → descriptionBreaks c (described c t) ≡ none
+    → ((x : Chip) → strapped x d ≡ true → HeldIs held (madeAt 0 (firstClaims d)))
+    → HeldIs held (madeAt 0 (firstClaims (described c t)))
+held-first c t d held same good f =
+    subst (λ (x : Description). HeldIs held (madeAt 0 (firstClaims x))) same
+    (f c (subst (λ (x : Description). strapped c x ≡ true) (sym same) (description-kept c (described c t) good .pins-10)))
 
 module _ (c : Chip) (t : List ℕ) where
   pub too-short : length t < 16 → false ≡ salvageable c t
@@ -68,7 +87,7 @@ module _ (c : Chip) (t : List ℕ) where
       (held : Held)
       → 16 ≤ length t
       → byte t 0 ≡ 1
-      → isNone (descriptionBreaks c (described c t)) ≡ true
+      → descriptionBreaks c (described c t) ≡ none
       → HeldIs held (madeAt 0 (firstClaims (described c t)))
       → eqb (held .clash) 65536 ≡ salvageable c t
   by-claims held h e n w =
@@ -79,6 +98,14 @@ module _ (c : Chip) (t : List ℕ) where
       ∙ same-none (firstClash [] made)
       ∙ ap (λ (l : List _). isNone (firstClash [] l)) (sym (append-nil made)) in
       q ∙ sym (rw (le-leb 16 (length t) h, eq-eqb (byte t 0) 1 e, n) refl)
+
+-- the bytes that were taken
+module _ (c : Chip) (file t : List ℕ) (same : t ≡ taken file) where
+  pub sound-there : (b : Bool) → b ≡ salvageable c t → salvageable c (taken file) ≡ b
+  sound-there b e = sym (e ∙ ap (salvageable c) same)
+
+  pub taken-there : Bytes file → (length t ≤ 4096) × Bytes t
+  taken-there small = rw same (taken-top file, bytes-take 4096 file small)
 
 -- the refusals
 module _ (c : Chip) (file out lines : List ℕ) where
@@ -165,3 +192,34 @@ module _ (c : Chip) (file out lines : List ℕ) where
           table = x .1 ∙ ap (λ (l : List ℕ). overwritten 0 l out) (sym new-table);
           text = y .1;
         }
+
+-- the same of the bytes as the code took them
+module _
+    (c : Chip) (file t out lines : List ℕ) (same : t ≡ taken file) (small : Bytes file) (good : salvageable c t ≡ true)
+    (p : Plan) (kept log : List ℕ) (w : Decided c t p kept log)
+  where
+    good-there : salvageable c (taken file) ≡ true
+    good-there = sym (ap (salvageable c) same) ∙ good
+
+    decided-there : Decided c (taken file) p kept log
+    decided-there = subst (λ (x : List ℕ). Decided c x p kept log) same w
+
+    pub no-room : length out < p .len → Salvages c file out lines (Refused 16 0) out lines
+    no-room h = refused-16 c file out lines small good-there p kept log decided-there h
+
+    pub room-there : p .len ≤ length out → Fitting c t kept (p .kept) (p .len) out
+    room-there h =
+        subst (λ (x : List ℕ). Fitting c x kept (p .kept) (p .len) out) (sym same) (fitting c file out lines small good-there p kept log decided-there h)
+
+    pub lines-there : Noted log (p .lines)
+    lines-there = noted c file out lines small good-there p kept log decided-there
+
+    pub salvaged-there :
+        {end : ℕ} {out′ lines′ : List ℕ}
+        → p .len ≤ length out
+        → PutsTable c t kept (p .kept) (p .cleared) (p .len) out out′
+        → PutsLines log (p .lines) lines end lines′
+        → Salvages c file out lines (Done (p .len) end) out′ lines′
+    salvaged-there {out′ = out′} h a b =
+        done c file out lines small good-there p kept log decided-there h
+        (subst (λ (x : List ℕ). PutsTable c x kept (p .kept) (p .cleared) (p .len) out out′) same a) b
