@@ -3,10 +3,10 @@
    docs/CALLS.md has the theorem to each.
 
    WHAT A CALLER OWES. Nothing proves the C around the library, so these three are yours to keep:
-   - Each pointer and the length behind it are memory that may be read, and of 'buffer', 'out', 'lines', 'numbers', 'table' and 'sheet'
-     that is not const also written, until the call returns; so is '*state'. 'numbers' is 32 bytes, 'sheet' 25 numbers of two bytes, the 'out'
-     of esa_list 4,096 bytes, that of esa_sheet_text 275, that of esa_diff 65,536 and the 'lines' of esa_salvage 32,768. A bool is 0 or 1. With a length of 0 the pointer is not
-     followed: NULL will do.
+   - Each pointer and the length behind it are memory that may be read, and of 'buffer', 'out', 'lines', 'numbers', 'table' and
+     'sheet' that is not const also written, until the call returns; so is '*state'. 'numbers' is 32 bytes, 'sheet' 25 numbers of two
+     bytes, the 'out' of esa_list 4,096 bytes, that of esa_sheet_text 275, that of esa_diff 65,536 and the 'lines' of esa_salvage
+     32,768. A bool is 0 or 1. With a length of 0 the pointer is not followed: NULL will do.
    - The places lent to one call do not overlap.
    - Nobody else writes to them before the call returns.
    No other condition is asked: any bytes, any lengths and any numbers have an answer. As the code stands (this is no theorem)
@@ -354,18 +354,21 @@ static inline unsigned esa_diff_table(uint64_t answer)
     return esa_number(answer) == ESA_GOOD ? 0 : (unsigned)(answer >> 24 & 3);
 }
 
-/* SALVAGE. What can be saved of a damaged table, for the chip of the settings and by the ordinary rules (bit 1 is ignored). Only the first
-   4,096 bytes of 'file' are looked at; what bytes 1-2 say is not. Elements are kept in order, up to where esa_check would say 6 or until 96
-   are kept; each that breaks 7 to 12 or 23, against those kept so far, is left out. Then elements with an undeclared zone are left out (13),
-   missing string indexes set to 0, the description's first (14), and elements whose pins clash with those still kept left out (15).
-   0, and beside it the length of the new table, which esa_place takes out, and that of the text of the lines, which esa_length does: the table
-   stands at the front of 'out', the text at the front of 'lines', and the bytes behind both are as they were. The table is always accepted; one
-   that is accepted already comes out with its reserved places at zero, and no lines. A line for each change, in the order made: the offset in
-   'file' (of the description 0), the number of the rule, 'left out' or 'cleared', parted by tabs and ended by a line feed.
-   Or 24 at 0, where nothing can be saved; or 16 at 0 where 'room' is under the new table's length. With a refusal no byte of 'out' or 'lines'
-   alters. No table needs more room than 4,096 bytes; every text fits into 'lines', and none is ended by a zero. */
+/* SALVAGE. What can be saved of a damaged table, for the chip of the settings and by the ordinary rules (bit 1 is ignored). Only
+   the first 4,096 bytes of 'file' are looked at; what bytes 1-2 say is not. Elements are kept in order, up to where esa_check would
+   say 6 or until 96 are kept; each that breaks 7 to 12 or 23, against those kept so far, is left out. Then elements with an
+   undeclared zone are left out (13), missing string indexes set to 0, the description's first (14), and elements whose pins clash
+   with those still kept left out (15).
+   0, and beside it the length of the new table, which esa_place takes out, and that of the text of the lines, which esa_length
+   does: the table stands at the front of 'out', the text at the front of 'lines', and the bytes behind both are as they were. The
+   table is always accepted; one that is accepted already comes out with its reserved places at zero, and no lines. A line for each
+   change, in the order made: the offset in 'file' (of the description 0), the number of the rule, 'left out' or 'cleared', parted
+   by tabs and ended by a line feed.
+   Or 24 at 0, where nothing can be saved; or 16 at 0 where 'room' is under the new table's length. With a refusal no byte of 'out'
+   or 'lines' alters. No table needs more room than 4,096 bytes; every text fits into 'lines', and none is ended by a zero. */
 enum { ESA_SALVAGE_LINES = 32768 };
-uint64_t esa_salvage(const uint8_t *file, size_t length, uint64_t settings, uint8_t *out, size_t room, uint8_t lines[ESA_SALVAGE_LINES]);
+uint64_t esa_salvage(const uint8_t *file, size_t length, uint64_t settings, uint8_t *out, size_t room,
+                     uint8_t lines[ESA_SALVAGE_LINES]);
 
 /* WRITING. A table is started in a buffer and each element appended to it; bytes 1-2 of the buffer hold the length so far.
    With a refusal no byte of the buffer alters. A table that is still being written may break rules over the whole of it (11

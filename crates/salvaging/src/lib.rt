@@ -60,7 +60,7 @@ fn taken(file: &[u8]) -> &[u8]
     if file.len() <= 4096 {
         return file;
     }
-    &file[..4096]
+    &file[0..4096]
 }
 
 // Whether the description is sound: 1, 2, 4, 5, 10, and its claims.

@@ -1,6 +1,7 @@
 -- `decide` meets its contract: what each pass leaves is what the next starts from.
 -- Assumes nothing.
 use borrow.Author.Needs.{needs}
+use Prim.Native.Nat.{ℕ}
 use mathlib.Core.Path.{refl}
 use native.Mathlib.Omega.{arith}
 use denote.Ref.{now}
@@ -22,7 +23,7 @@ pass-requires c κs =
     let s = e .before .before .before in
     let f = salvageable-says (s .args .chip) (now (s .args .t)) .0 (s .pre .2) in
     let h = held-first (s .args .chip) (now (s .args .t)) _ _ (e .before .description .ensures) (f .described) (e .first-claims .ensures) in
-    (f .long, s .pre .0, s .pre .1, h, length-replicate 96 0, s .pre .4)
+    (f .long, s .pre .0, s .pre .1, h, length-replicate {A = ℕ} 96 0, s .pre .4)
 
 sift-requires : tie.Need-sift-requires
 sift-requires c κs =
@@ -30,7 +31,7 @@ sift-requires c κs =
     let s = e .before .before .before in
     let f = salvageable-says (s .args .chip) (now (s .args .t)) .0 (s .pre .2) in
     let h = held-first (s .args .chip) (now (s .args .t)) _ _ (e .before .description .ensures) (f .described) (e .first-claims .ensures) in
-    (ready-13 _ _ _ h (f .clear) _ _ _ _ _ (c .before .before .before .before .pass .ensures) (s .pre .0), length-replicate 96 0)
+    (ready-13 _ _ _ h (f .clear) _ _ _ _ _ (c .before .before .before .before .pass .ensures) (s .pre .0), length-replicate {A = ℕ} 96 0)
 
 shared-slice-read-wide : tie.Need-shared-slice-read-wide
 shared-slice-read-wide c =

@@ -12,4 +12,4 @@ returns-2 : tie.Need-returns-2
 returns-2 c = rw (c .if1 .left) (none-noted _ _)
 
 pub note-first-spec : {M : Type 1} → statement M
-note-first-spec = tie.close (tie.spec mul-log element-write-log add-result returns returns-2)
+note-first-spec = tie.close (tie.spec (λ c. search needs) (λ c. search needs) (λ c. search needs) returns returns-2)

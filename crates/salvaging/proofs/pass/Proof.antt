@@ -14,4 +14,4 @@ scan-requires c κs =
 
 pub pass-spec : {M : Type 1} → statement M
 pass-spec =
-    tie.close (tie.spec shared-slice-read-wide wide-requires array-write-su scan-requires returns)
+    tie.close (tie.spec (λ c. search needs) (λ c κs. search needs) (λ c. search needs) scan-requires (λ c. search needs))
