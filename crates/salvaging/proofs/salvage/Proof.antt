@@ -33,21 +33,21 @@ returns-2 : tie.Need-returns-2
 returns-2 c =
     let e = c .before .before .before .before .before in
     let s = e .before .before .before .before .before in
-    no-room _ (now (s .args .file)) _ _ _ (e .before .before .taken .ensures) (small e) (sym (e .before .sound .ensures) ∙ not-false _ (e .if1 .left)) _ _ _
+    no-room _ (now (s .args .file)) _ _ (now (s .args .lines)) (e .before .before .taken .ensures) (small e) (sym (e .before .sound .ensures) ∙ not-false _ (e .if1 .left)) _ _ _
     (c .before .before .decide .ensures) (c .if2 .taken)
 
 put-table-requires : tie.Need-put-table-requires
 put-table-requires c κs =
     let e = c .before .before .before .before .before .before .before in
     let s = e .before .before .before .before .before in
-    room-there _ (now (s .args .file)) _ _ _ (e .before .before .taken .ensures) (small e) (sym (e .before .sound .ensures) ∙ not-false _ (e .if1 .left)) _ _ _
+    room-there _ (now (s .args .file)) _ _ (now (s .args .lines)) (e .before .before .taken .ensures) (small e) (sym (e .before .sound .ensures) ∙ not-false _ (e .if1 .left)) _ _ _
     (c .before .before .before .before .decide .ensures) (c .before .before .if2 .left)
 
 returns-3 : tie.Need-returns-3
 returns-3 c =
     let e = c .before .before .before .before .before .before .before .before .before .before .before .before .before in
     let s = e .before .before .before .before .before in
-    salvaged-there _ (now (s .args .file)) _ _ _ (e .before .before .taken .ensures) (small e) (sym (e .before .sound .ensures) ∙ not-false _ (e .if1 .left)) _ _ _
+    salvaged-there _ (now (s .args .file)) _ _ (now (s .args .lines)) (e .before .before .taken .ensures) (small e) (sym (e .before .sound .ensures) ∙ not-false _ (e .if1 .left)) _ _ _
     (c .before .before .before .before .before .before .before .before .before .before .decide .ensures) (c .before .before .before .before .before .before .before .before .if2 .left) (c .before .before .before .before .before .put-table .ensures) (c .put-lines .ensures)
 
 pub salvage-spec : {M : Type 1} → statement M
