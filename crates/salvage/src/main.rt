@@ -18,7 +18,7 @@ fn tell(n: usize, lines: &[u8]) {
 }
 
 // The new table and its lines, or the refusal.
-fn answer(salvaged: Salvaged, out: &[u8], lines: &[u8]) {
+fn answer(salvaged: Salvaged, out: &[u8], lines: &[u8; 32768]) {
     match salvaged {
         Salvaged::Done(n, m) => {
             send(n, out);
