@@ -27,7 +27,7 @@ function array(of,    size, kind) {
     kind = of
     sub(/.*\[/, "", kind)
     sub(/;.*/, "", kind)
-    if (kind == "u8" && size != 30) return sized(of, kind, size, "NUMBERS LISTING SHEET_TEXT DIFF")
+    if (kind == "u8" && size != 30) return sized(of, kind, size, "NUMBERS LISTING SHEET_TEXT DIFF SALVAGE_LINES")
     if (kind == "u16" && size != 256) return sized(of, kind, size, "SHEET")
     return part(of, kind, size)
 }
