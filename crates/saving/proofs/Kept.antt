@@ -55,8 +55,9 @@ together :
 together c is nothing done done = no-more
 together c is (passes-over r) q p = left (together c is r q p)
 together c is (reads {k = k} e s r) (keep q) (keep p) =
-    kept (k .what) s e
-    (by-test (λ m. (m ≡ k .what) ⊎ (m ≡ unindexed (k .what))) (allAmong (stringNamed (role (k .what))) is) (k .what) (unindexed (k .what)) (λ t. inl refl) (λ t. inr refl))
+    let a = k .what in
+    kept a s e
+    (by-test (λ m. (m ≡ a) ⊎ (m ≡ unindexed a)) (allAmong (stringNamed (role a)) is) a (unindexed a) (λ t. inl refl) (λ t. inr refl))
     (together c is r q p)
 together c is (reads e s r) (keep q) (leave p) = left (together c is r q p)
 together c is (reads e s r) (leave q) p = left (together c is r q p)
@@ -68,4 +69,6 @@ kept-part σ b d small =
     let z = inZones σ b in
     let is = stringIndexes z in
     together (σ .chip) is (pass-saved σ b small .there) (zoned-part s)
-    (subst (λ (l : List (At Record)). Part (At Record) (ending d z .kept) l) (mended-kept is (z .lines ++ firstLine is d) (z .kept)) (unclashed-part d (named d z)))
+    (subst (λ (l : List (At Record)). Part (At Record) (ending d z .kept) l)
+    (mended-kept is (z .lines ++ firstLine is d) (z .kept))
+    (unclashed-part d (named d z)))

@@ -1,4 +1,4 @@
-pub mod Rows
+pub mod Answers
 pub mod Sifting
 pub mod Clearing
 pub mod Alike

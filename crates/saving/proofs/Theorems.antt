@@ -77,9 +77,15 @@ sound-start c b small s =
       clear = s .clear;
     }
 
--- the records of the new table
+-- what is kept and the lines, and the records of the new table with their description
+abbrev pub ended : Chip → List ℕ → Saved
+ended c file = ending (readDescription c (byte (taken file))) (inZones (writing c) (taken file))
+
 abbrev pub kept : Chip → List ℕ → List Record
-kept c file = records (ending (readDescription c (byte (taken file))) (inZones (writing c) (taken file)) .kept)
+kept c file = records (ended c file .kept)
+
+abbrev pub newDescription : Chip → List ℕ → Description
+newDescription c file = mendedDescription (stringIndexes (inZones (writing c) (taken file))) (readDescription c (byte (taken file)))
 
 -- 'The output is always accepted', by the ordinary reader with the chip
 pub saved-accepted :
@@ -94,7 +100,8 @@ saved-accepted c file small h =
     let z = inZones (writing c) b in
     let s = bytes-take 4096 file small in
     written-accepted (writing c) (mendedDescription (stringIndexes z) d) (kept c file)
-    (ending-keeps (writing c) d z (sound-start c b s (salvageable-says c b .0 h)) (in-zones (writing c) b s (omega (arith, length-take 4096 file))))
+    (ending-keeps (writing c) d z (sound-start c b s (salvageable-says c b .0 h))
+    (in-zones (writing c) b s (omega (arith, length-take 4096 file))))
 
 -- 'An accepted table comes out with reserved places at zero and no lines'
 whole-ending :
@@ -129,7 +136,8 @@ module _ (c : Chip) (file : List ℕ) (d : Description) (rs : List Record) (smal
       let o = opened-only c file d (m .rest) (m .opened) in
       let f = opened-facts c file d (m .rest) (m .opened) in
       let p =
-      pass-whole (writing c) rs (length (drop 16 file)) 16 (drop 16 file) (saved [] []) (omega arith) (rw (o .1) at (m .fits)) (k .passed) in
+      pass-whole (writing c) rs (length (drop 16 file)) 16 (drop 16 file) (saved [] []) (omega arith)
+      (rw (o .1) at (m .fits)) (k .passed) in
       record {
         all = take-all 4096 file top;
         opens =
@@ -144,8 +152,8 @@ module _ (c : Chip) (file : List ℕ) (d : Description) (rs : List Record) (smal
         no-lines = p .1;
       }
 
-  ended : (ending d (inZones (writing c) file) .lines ≡ []) × (tableOf d (inZones (writing c) file) ≡ written (table d rs))
-  ended =
+  end-same : (ending d (inZones (writing c) file) .lines ≡ []) × (tableOf d (inZones (writing c) file) ≡ written (table d rs))
+  end-same =
       let t = seen in
       let s = passed (writing c) file in
       let k = a .keeps in
@@ -160,7 +168,7 @@ module _ (c : Chip) (file : List ℕ) (d : Description) (rs : List Record) (smal
       let t = seen in
       ap (λ (b : List ℕ). tableOf (readDescription c (byte b)) (inZones (writing c) b)) (t .all)
       ∙ ap (λ (e : Description). tableOf e (inZones (writing c) file)) (t .description)
-      ∙ ended .1
+      ∙ end-same .1
 
   pub unchanged-text : newText c file ≡ []
   unfolding newText
@@ -168,7 +176,7 @@ module _ (c : Chip) (file : List ℕ) (d : Description) (rs : List Record) (smal
       let t = seen in
       ap (λ (b : List ℕ). textOf (ending (readDescription c (byte b)) (inZones (writing c) b) .lines)) (t .all)
       ∙ ap (λ (e : Description). textOf (ending e (inZones (writing c) file) .lines)) (t .description)
-      ∙ ap textOf (ended .0)
+      ∙ ap textOf (end-same .0)
 
   -- the table with its reserved places at zero, in as many bytes, and no text; or 16
   pub accepted-unchanged : (newTable c file ≡ cleared file (table d rs)) × (newText c file ≡ [])
@@ -192,7 +200,9 @@ pub data Damaged (c : Chip) (b : List ℕ) : Type 0 where
 
 -- one of the two
 damaged-or : (c : Chip) (b : List ℕ) → Damaged c b ⊎ Salvageable c b
-damaged-or c b = go (leb 16 (length b)) refl (eqb (byte b 0) 1) refl (descriptionBreaks c (readDescription c (byte b))) refl (contested (readDescription c (byte b)) []) refl
+damaged-or c b =
+    go (leb 16 (length b)) refl (eqb (byte b 0) 1) refl (descriptionBreaks c (readDescription c (byte b))) refl
+    (contested (readDescription c (byte b)) []) refl
   where
     go :
         (t : Bool)
@@ -233,7 +243,8 @@ damaged-exactly c file room = (to, from)
   where
     to : answer c file room ≡ Refused 24 0 → Damaged c (taken file)
     to e =
-        let f = of-24 (salvageable c (taken file)) (leb (length (newTable c file)) room) (length (newTable c file)) (length (newText c file)) e in
+        let n = length (newTable c file) in
+        let f = of-24 (salvageable c (taken file)) (leb n room) n (length (newText c file)) e in
         ⊎-elim (λ d. d) (λ s. absurd (false≢true (sym f ∙ salvageable-says c (taken file) .1 s))) (damaged-or c (taken file))
 
     from : Damaged c (taken file) → answer c file room ≡ Refused 24 0

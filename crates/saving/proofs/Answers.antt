@@ -41,7 +41,8 @@ module _ (c : Chip) where
   abbrev right : List Row → Bool
   right [] = true
   right (r ∷ rs) =
-      salvageable c (taken (r .file)) && (same (newTable c (r .file)) (r .table) && (same (newText c (r .file)) (textOf (r .lines)) && right rs))
+      salvageable c (taken (r .file))
+      && (same (newTable c (r .file)) (r .table) && (same (newText c (r .file)) (textOf (r .lines)) && right rs))
 
   -- what it shows: of each row's bytes its table and its lines are made
   abbrev pub Each : List Row → Type 0
@@ -57,7 +58,12 @@ module _ (c : Chip) where
       let p = and-true (salvageable c (taken (r .file))) (t && (u && right rs)) h in
       let q = and-true t (u && right rs) (p .1) in
       let w = and-true u (right rs) (q .1) in
-      (p .0, same-is (newTable c (r .file)) (r .table) (q .0), same-is (newText c (r .file)) (textOf (r .lines)) (w .0), right-each rs (w .1))
+      (
+        p .0,
+        same-is (newTable c (r .file)) (r .table) (q .0),
+        same-is (newText c (r .file)) (textOf (r .lines)) (w .0),
+        right-each rs (w .1),
+      )
 
   abbrev allLost : List (List ℕ) → Bool
   allLost [] = true
