@@ -3,11 +3,11 @@
 use Prim.Native.Nat.{ℕ, _+_, _≤_}
 use native.Mathlib.Omega.{arith}
 use mathlib.Core.Path.{_≡_, refl, sym, _∙_, ap}
-use mathlib.Core.Bool.{Bool, true, false, false≢true, true≢false}
-use mathlib.Core.List.{List, [], _∷_, _++_, append-nil, map}
+use mathlib.Core.Bool.{true, false, false≢true, true≢false}
+use mathlib.Core.List.{List, [], _∷_, _++_, append-nil}
 use mathlib.Core.Logic.{_⊎_, inl, inr, ⊎-elim}
 use mathlib.Core.Option.{Option, none, some}
-use lib.ListN.{length, drop, length-drop}
+use lib.ListN.{length, length-drop}
 use Rattle.format.specs.Slots.{allRoomy, Bytes}
 use Rattle.format.specs.Records.{Record, digital, analogue, fan, led, water, pump, voltage, current, controller, tachometer, zone, string, external, rgb}
 use Rattle.format.specs.Layout.{opening, layouts}
@@ -26,11 +26,11 @@ use Rattle.removal.proofs.Parts.{part-length, part-slots, part-numbers, part-ro
 use Rattle.removal.proofs.Among.{In, Within, in-one, in-cases, all-within, part-within}
 use Rattle.removal.proofs.Passing.{part-passed}
 use Rattle.removal.proofs.Naming.{zoned-exactly, named-exactly}
-use Rattle.saving.specs.Saving.{At, isNone, Saved, records, zoned, stringIndexes, mendedDescription, firstLine, named, unclashed, passed, inZones, ending}
+use Rattle.saving.specs.Saving.{isNone, Saved, records, zoned, stringIndexes, mendedDescription, firstLine, named, unclashed, passed, inZones, ending}
 use Rattle.saving.proofs.Alike.{EachAlike, no-more, alike-gathered, alike-length, alike-roomy, alike-passed}
-use Rattle.saving.proofs.Reading.{PassSaved, pass-saved}
+use Rattle.saving.proofs.Reading.{pass-saved}
 use Rattle.saving.proofs.Choosing.{choose-holds, choose-gathered, part-records, inZone, clashless, zoned-part, unclashed-part}
-use Rattle.saving.proofs.Mending.{mendedAt, mended-kept, each-alike, all-named, mended-described, mended-claims, mended-opening, mended-string}
+use Rattle.saving.proofs.Mending.{mended-kept, each-alike, all-named, mended-described, mended-claims, mended-opening, mended-string}
 
 pub none-is : (o : Option ℕ) → isNone o ≡ true → o ≡ none
 none-is none h = refl

@@ -1,25 +1,24 @@
 -- What is kept is a part of what stood there, in order, each record as it was or with its string index cleared.
 -- Assumes nothing.
 use Prim.Native.Nat.{ℕ, zero, suc, _+_}
-use mathlib.Core.Path.{_≡_, refl, sym, _∙_, ap, subst}
+use mathlib.Core.Path.{_≡_, refl, _∙_, ap, subst}
 use mathlib.Core.List.{List, [], _∷_, _++_, map}
 use mathlib.Core.Logic.{_⊎_, inl, inr}
 use lib.ListN.{length, drop}
 use lib.Seq.{drop-drop}
-use Rattle.format.specs.Slots.{Bytes, byte}
+use Rattle.format.specs.Slots.{Bytes}
 use Rattle.format.specs.Records.{Record}
 use Rattle.format.specs.ZonesAndStrings.{role, stringNamed, allAmong}
 use Rattle.format.specs.Verdict.{stated, framed, Stands}
-use Rattle.format.specs.Writing.{writing}
 use Rattle.format.specs.declared.pins.Chip.{Chip}
 use Rattle.format.specs.declared.records.Description.{Description}
 use Rattle.format.specs.declared.settings.Settings.{Settings}
 use Rattle.removal.specs.Parts.{Part, done, keep, leave}
-use Rattle.saving.specs.Saving.{At, standing, elements, Saved, records, unindexed, stringIndexes, firstLine, passed, zoned, named, inZones, ending}
+use Rattle.saving.specs.Saving.{At, standing, elements, unindexed, stringIndexes, firstLine, passed, named, inZones, ending}
 use Rattle.saving.proofs.Sifting.{All, by-test}
 use Rattle.saving.proofs.Reading.{Reads, nothing, reads, passes-over, pass-saved}
 use Rattle.saving.proofs.Choosing.{zoned-part, unclashed-part}
-use Rattle.saving.proofs.Mending.{mended, mendedAt, mended-kept}
+use Rattle.saving.proofs.Mending.{mendedAt, mended-kept}
 
 -- the elements are the table's bytes from their places on
 pub elements-there : (b : List ℕ) → All (λ x. x .what ≡ drop (x .place) b) (elements b)

@@ -11,4 +11,7 @@ pub mod Texts
 pub mod Keeping
 pub mod Whole
 pub mod Kept
+pub mod First
+pub mod Stages
+pub mod Repaired
 pub mod Theorems

@@ -2,7 +2,7 @@
 -- Assumes nothing.
 use Prim.Native.Nat.{ℕ, _+_, _*_, _/_, _≤_, _<_}
 use native.Mathlib.Omega.{arith}
-use mathlib.Core.Path.{_≡_, refl, ap}
+use mathlib.Core.Path.{_≡_, refl}
 use mathlib.Core.Bool.{Bool, true, false, cond}
 use mathlib.Core.List.{List, [], _∷_, _++_, append-nil}
 use mathlib.Core.Option.{Option, none, some}
@@ -16,14 +16,14 @@ use Rattle.format.specs.Rules.{Rule, unlessKept, firstBroken, ownRules}
 use Rattle.format.specs.ZonesAndStrings.{role, zones, stringNamed, allAmong, rulesAgainst}
 use Rattle.format.specs.Verdict.{framed, known}
 use Rattle.format.specs.Decode.{readDescription, decode, content}
-use Rattle.format.specs.Reader.{Outcome, took, stop, orStop, unlessBroken, judge, step}
+use Rattle.format.specs.Reader.{Outcome, orStop, unlessBroken, judge, step}
 use Rattle.format.specs.Writing.{writing}
 use Rattle.format.specs.declared.pins.Chip.{Chip}
 use Rattle.format.specs.declared.settings.Settings.{Settings}
 use Rattle.format.specs.declared.records.Description.{Description}
 use Rattle.format.proofs.Slots.{bytes-take}
 use Rattle.spelling.specs.Spelling.{digit, digitAt, decimal}
-use Rattle.saving.specs.Saving.{taken, At, atPlace, elements, Change, left-out, cleared, Line, line, Saved, saved, records, Fate, stays, leaves, mends, unseen, settled, sift, answered, byPass, passed, byZone, zoned, unindexed, stringIndexes, firstLine, byString, named, byClaim, unclashed, inZones, ending}
+use Rattle.saving.specs.Saving.{taken, At, atPlace, elements, Change, left-out, cleared, Line, line, Saved, saved, records, Fate, stays, leaves, mends, unseen, settled, sift, answered, byPass, passed, byZone, unindexed, stringIndexes, firstLine, byString, named, byClaim, inZones, ending}
 use Rattle.saving.specs.Lines.{changeText, lineText, textOf, newText}
 use Rattle.saving.proofs.Sifting.{All, all-snoc, by-test, sift-through}
 use Rattle.saving.proofs.Standing.{Before, standing-before}

@@ -1,18 +1,18 @@
 -- THE THEOREMS of salvage, of its bytes: the output is always accepted, an accepted table comes out as it is written, and 24 is given
 -- exactly where document 02 says.
 -- Assumes nothing.
-use Prim.Native.Nat.{ℕ, _+_, _≤_, _<_}
+use Prim.Native.Nat.{ℕ, _≤_, _<_}
 use native.Mathlib.Omega.{arith}
-use mathlib.Core.Path.{_≡_, refl, sym, _∙_, ap, subst}
+use mathlib.Core.Path.{_≡_, refl, sym, _∙_, ap}
 use mathlib.Core.Bool.{Bool, true, false, _&&_, cond, false≢true}
-use mathlib.Core.List.{List, [], _∷_, _++_}
+use mathlib.Core.List.{List, []}
 use mathlib.Core.Logic.{_↔_, _⊎_, inl, inr, ⊎-elim}
 use mathlib.Core.Option.{Option, none, some}
-use lib.ListN.{length, take, drop, length-take}
+use lib.ListN.{length, drop, length-take}
 use lib.Seq.{take-all}
 use lib.Dec.{eqb, leb}
 use borrow.Author.Tests.{leb-true, leb-false, le-leb, eqb-true, eqb-false, eq-eqb}
-use Rattle.format.specs.Slots.{byte, written, Bytes, allRoomy}
+use Rattle.format.specs.Slots.{byte, written, Bytes}
 use Rattle.format.specs.Records.{Record}
 use Rattle.format.specs.Layout.{opening, table}
 use Rattle.format.specs.Pins.{among}
@@ -35,10 +35,12 @@ use Rattle.format.proofs.Written.{written-accepted, written-again, length-writt
 use Rattle.removal.proofs.Claims.{part-uncontested}
 use Rattle.removal.proofs.Parts.{part-none}
 use Rattle.removal.proofs.Keeping.{opening-roomy}
-use Rattle.saving.specs.Saving.{taken, isNone, sound, salvageable, At, Saved, saved, records, elements, passed, zoned, stringIndexes, mendedDescription, named, unclashed, inZones, ending}
+use Rattle.saving.specs.Saving.{taken, isNone, sound, salvageable, Saved, saved, records, elements, passed, zoned, stringIndexes, mendedDescription, named, unclashed, inZones, ending}
 use Rattle.saving.specs.Lines.{textOf, tableOf, newTable, newText, answer}
 use Rattle.saving.specs.declared.Salvaged.the-variants.{Done, Refused}
 use Rattle.saving.proofs.Keeping.{none-is, Sound, in-zones, ending-keeps}
+use Rattle.saving.specs.Repairing.{RepairsPass}
+use Rattle.saving.proofs.Repaired.{repaired}
 use Rattle.saving.proofs.Whole.{pass-whole, zoned-whole, named-whole, unclashed-whole}
 
 -- what no 24 says of the bytes
@@ -102,6 +104,19 @@ saved-accepted c file small h =
     written-accepted (writing c) (mendedDescription (stringIndexes z) d) (kept c file)
     (ending-keeps (writing c) d z (sound-start c b s (salvageable-says c b .0 h))
     (in-zones (writing c) b s (omega (arith, length-take 4096 file))))
+
+-- putting right what the reader names first, again and again, gives the same table and the same lines
+pub put-right :
+    (c : Chip) (file : List ℕ)
+    → Bytes file
+    → salvageable c (taken file) ≡ true
+    → RepairsPass (writing c) (readDescription c (byte (taken file))) (newDescription c file) (ended c file .kept)
+    [] 16 (drop 16 (taken file)) (ended c file .lines)
+put-right c file small h =
+    let b = taken file in
+    let s = bytes-take 4096 file small in
+    let o = salvageable-says c b .0 h in
+    repaired (writing c) b (readDescription c (byte b)) s (o .long) (omega (arith, length-take 4096 file)) (sound-start c b s o)
 
 -- 'An accepted table comes out with reserved places at zero and no lines'
 whole-ending :
