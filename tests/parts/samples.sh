@@ -53,8 +53,8 @@ sample_with() { # NAME STATUS OPTION STATUS
     try "./esa list $3 of $1 is as its text says" as_the_text_says "list $3" "$1" "$4"
 }
 
-fourteen_samples() {
-    [ "$(find "$tables" -type f | wc -l)" -eq 29 ]
+fifteen_samples() {
+    [ "$(find "$tables" -type f | wc -l)" -eq 31 ]
 }
 
 samples() {
@@ -72,7 +72,8 @@ samples() {
     sample blank 1
     sample lamp 1
     sample twice 1
+    sample damaged 1
     sample_with larger-chip 0 '--chip 321' 1
     sample_with old-box 1 --archive 0
-    try "fourteen sample tables with a text each, one of them as Intel HEX too, and nothing else" fourteen_samples
+    try "fifteen sample tables with a text each, one of them as Intel HEX too, and nothing else" fifteen_samples
 }

@@ -1,7 +1,7 @@
 # Part of tests/esa: help, why, and words that make no command.
 # shellcheck shell=sh disable=SC2015,SC2154
 
-numbers="the numbers are 0, 1, 2, 3, 4, 5, 6, 7, 8, 9, 10, 11, 12, 13, 14, 15, 16, 17, 20, 21, 22, 23, 25"
+numbers="the numbers are 0, 1, 2, 3, 4, 5, 6, 7, 8, 9, 10, 11, 12, 13, 14, 15, 16, 17, 20, 21, 22, 23, 24, 25"
 
 helps() { # WORD...
     ran "$@"

@@ -157,7 +157,7 @@ digit-count p n = go (ltb n p) refl
     go true e = omega arith
     go false e = omega (arith, ltb-false n p e)
 
-decimal-length : (n : ℕ) → (n < 10000 → length (decimal n) ≤ 4) × (n < 100 → length (decimal n) ≤ 2)
+pub decimal-length : (n : ℕ) → (n < 10000 → length (decimal n) ≤ 4) × (n < 100 → length (decimal n) ≤ 2)
 unfolding decimal
 decimal-length n =
     simp length-append
@@ -172,7 +172,7 @@ decimal-length n =
       digit-count 10 n,
     ))
 
-change-length : (c : Change) → length (changeText c) ≤ 8
+pub change-length : (c : Change) → length (changeText c) ≤ 8
 change-length left-out = omega arith
 change-length cleared = omega arith
 
