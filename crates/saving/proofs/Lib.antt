@@ -13,5 +13,6 @@ pub mod Whole
 pub mod Kept
 pub mod First
 pub mod Stages
+pub mod Passing
 pub mod Repaired
 pub mod Theorems
