@@ -1,5 +1,5 @@
--- THE THEOREMS of salvage, of its bytes: the output is always accepted, an accepted table comes out as it is written, and 24 is given
--- exactly where document 02 says.
+-- THE THEOREMS of salvage, of its bytes: the output is always accepted, an accepted table comes out as it is written, and 24 and 16 are
+-- given exactly where document 02 says.
 -- Assumes nothing.
 use Prim.Native.Nat.{ℕ, _≤_, _<_}
 use native.Mathlib.Omega.{arith}
@@ -8,10 +8,10 @@ use mathlib.Core.Bool.{Bool, true, false, _&&_, cond, false≢true}
 use mathlib.Core.List.{List, []}
 use mathlib.Core.Logic.{_↔_, _⊎_, inl, inr, ⊎-elim}
 use mathlib.Core.Option.{Option, none, some}
-use lib.ListN.{length, drop, length-take}
+use lib.ListN.{length, drop, length-take, length-drop}
 use lib.Seq.{take-all}
 use lib.Dec.{eqb, leb}
-use borrow.Author.Tests.{leb-true, leb-false, le-leb, eqb-true, eqb-false, eq-eqb}
+use borrow.Author.Tests.{leb-true, leb-false, le-leb, lt-leb, eqb-true, eqb-false, eq-eqb}
 use Rattle.format.specs.Slots.{byte, written, Bytes}
 use Rattle.format.specs.Records.{Record}
 use Rattle.format.specs.Layout.{opening, table}
@@ -32,12 +32,14 @@ use Rattle.format.proofs.EachKind.{description-fits}
 use Rattle.format.proofs.Lengths.{fits-length}
 use Rattle.format.proofs.Opening.{table-split, opened-only, opened-facts}
 use Rattle.format.proofs.Written.{written-accepted, written-again, length-written}
+use Rattle.removal.proofs.Among.{not-so}
 use Rattle.removal.proofs.Claims.{part-uncontested}
 use Rattle.removal.proofs.Parts.{part-none}
 use Rattle.removal.proofs.Keeping.{opening-roomy}
 use Rattle.saving.specs.Saving.{taken, isNone, sound, salvageable, Saved, saved, records, elements, passed, zoned, stringIndexes, mendedDescription, named, unclashed, inZones, ending}
 use Rattle.saving.specs.Lines.{textOf, tableOf, newTable, newText, answer}
 use Rattle.saving.specs.declared.Salvaged.the-variants.{Done, Refused}
+use Rattle.saving.proofs.Bounds.{table-short}
 use Rattle.saving.proofs.Keeping.{none-is, Sound, in-zones, ending-keeps}
 use Rattle.saving.specs.Repairing.{RepairsPass}
 use Rattle.saving.proofs.Repaired.{repaired}
@@ -242,10 +244,6 @@ not-both c b (unrevised n) s = n (s .revised)
 not-both c b (misdescribed {k = k} e) s = let d : none ≡ some k = sym (s .described) ∙ e in let z : _≡_ {A = ℕ} 0 1 = cc in omega arith
 not-both c b (clashing {p = p} e) s = let d : none ≡ some p = sym (s .clear) ∙ e in let z : _≡_ {A = ℕ} 0 1 = cc in omega arith
 
-not-so : (t : Bool) → (t ≡ true → ⊥) → t ≡ false
-not-so true n = absurd (n refl)
-not-so false n = refl
-
 -- the answer by its two tests
 of-24 : (t u : Bool) (n m : ℕ) → cond t (cond u (Done n m) (Refused 16 0)) (Refused 24 0) ≡ Refused 24 0 → t ≡ false
 of-24 true true n m e = let z : _≡_ {A = ℕ} 0 1 = cc in absurd (omega arith)
@@ -264,3 +262,30 @@ damaged-exactly c file room = (to, from)
 
     from : Damaged c (taken file) → answer c file room ≡ Refused 24 0
     from d = rw (not-so (salvageable c (taken file)) (λ e. not-both c (taken file) d (salvageable-says c (taken file) .0 e))) refl
+
+-- 'then 16': there is a new table, and the buffer has no room for it
+of-16 : (t u : Bool) (n m : ℕ) → cond t (cond u (Done n m) (Refused 16 0)) (Refused 24 0) ≡ Refused 16 0 → (t ≡ true) × (u ≡ false)
+of-16 true true n m e = let z : _≡_ {A = ℕ} 0 1 = cc in absurd (omega arith)
+of-16 true false n m e = (refl, refl)
+of-16 false u n m e = let z : _≡_ {A = ℕ} 24 16 = cc in absurd (omega (arith, z))
+
+pub no-room-exactly :
+    (c : Chip) (file : List ℕ) (room : ℕ)
+    → (answer c file room ≡ Refused 16 0) ↔ ((salvageable c (taken file) ≡ true) × (room < length (newTable c file)))
+unfolding answer
+no-room-exactly c file room = (to, from)
+  where
+    to : answer c file room ≡ Refused 16 0 → (salvageable c (taken file) ≡ true) × (room < length (newTable c file))
+    to e =
+        let n = length (newTable c file) in
+        let f = of-16 (salvageable c (taken file)) (leb n room) n (length (newText c file)) e in
+        (f .0, leb-false n room (f .1))
+
+    from : (salvageable c (taken file) ≡ true) × (room < length (newTable c file)) → answer c file room ≡ Refused 16 0
+    from h = rw (h .0, lt-leb (length (newTable c file)) room (h .1)) refl
+
+-- and a buffer of the file's length has
+pub table-within :
+    (c : Chip) (file : List ℕ) → Bytes file → salvageable c (taken file) ≡ true → length (newTable c file) ≤ length (taken file)
+table-within c file small h =
+    omega (arith, table-short c file small, salvageable-says c (taken file) .0 h .long, length-drop 16 (taken file))
