@@ -33,7 +33,7 @@ pub record Named (i : ℕ) : Type 0 where
   pub long : length (nameText i) ≤ 29
 
 pub letters-length : length letters ≡ 535
-unfolding letters
+unfolding letters names
 letters-length = refl
 
 pub named : (i : ℕ) → i < 59 → Named i

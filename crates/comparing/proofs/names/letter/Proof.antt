@@ -1,6 +1,7 @@
 -- `letter` meets its contract: the constant is the list of the definition.
 -- Assumes nothing.
 use mathlib.Core.Path.{refl}
+use Rattle.comparing.specs.Rows.{names}
 use Rattle.comparing.specs.Letters.{letters}
 use borrow.Author.Needs.{needs}
 use Rattle.comparing.proofs.names.letter.Statement.{statement}
@@ -12,7 +13,7 @@ array-read-result : tie.Need-array-read-result
 array-read-result c = search needs
 
 returns : tie.Need-returns
-unfolding letters
+unfolding letters names
 returns c = refl
 
 pub letter-spec : {M : Type 1} → statement M
