@@ -121,8 +121,33 @@ full_disk() { # COMMAND
     try "$1: the old file is as it was there" eval '[ "$(tr "\n" " " <stands)" = "filler out " ] && same left bad'
 }
 
+# What is printed to where nothing more fits: a report that did not arrive is no report, whatever it said.
+unheard_by() { # WORD...
+    said=$("$esa" "$@" 2>&1 >/dev/full; echo "status $?")
+    case $said in
+    *"esa: standard output cannot be written; look whether the disk is full${newline}status 2") return 0 ;;
+    esac
+    printf '%s\n' "$said" | sed 's/^/  /'
+    return 1
+}
+
+full_output() {
+    if [ ! -c /dev/full ]; then
+        not_tried "standard output without room: there is no /dev/full"
+        return
+    fi
+    for command in $readers; do
+        try "$command of a good table, to a full disk" unheard_by $(words_of $command "$tables/this-month.esa")
+        try "$command of a refused table, to a full disk" unheard_by $(words_of $command bad)
+    done
+    for words in 'label good 99' "diff --words good $tables/this-month.esa" 'receive missing' 'why 13' help 'check --help' 'why --help'; do
+        try "$words to a full disk" unheard_by $words
+    done
+}
+
 no_room() {
     mkdir -p bound full
+    full_output
     for command in $writers; do quota $command; done
     if [ "$(on_full_disk '' help 2>/dev/null | tail -n 1)" = 'status 0' ]; then
         for command in $writers; do full_disk $command; done
