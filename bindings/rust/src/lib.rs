@@ -21,6 +21,10 @@
 //! # Ok::<(), std::io::Error>(())
 //! ```
 //!
+//! To use it from another crate, run `rt staticlib esa` in the repository and name its folder here among your dependencies:
+//! `esa = { path = "<repository>/bindings/rust" }`. On another processor than x86-64 name the folder that `tools/archive . DIR` prints
+//! in the variable `ESA_ARCHIVE_DIR` when you build.
+//!
 //! | To | Call |
 //! |---|---|
 //! | check a table | [`check`]; in pieces [`Receiving`] |
