@@ -35,5 +35,5 @@ toured() { # PAGE LEAST
 }
 
 tour() {
-    toured README.md 15
+    toured README.md 14
 }
