@@ -34,6 +34,13 @@ options_of_page() { # COMMAND
         inside && mine && match($0, /--[a-z]+/) { print substr($0, RSTART, RLENGTH) }' | sort
 }
 
+# The same by the lines of help: an option, the commands that take it, a colon.
+options_of_help() { # COMMAND
+    "$esa" help | NAME=$1 awk '/^     --/ { option = $1; line = $0; sub(/^     --.*   +/, "", line); sub(/:.*/, "", line)
+        n = split(line, words, /, /)
+        for (i = 1; i <= n; i++) if (words[i] == ENVIRON["NAME"] || line == "all but why and help") { print option; break } }' | sort
+}
+
 every_option() {
     sed 's/\\-/-/g' "$page" | awk '/^\.SH/ { inside = /SYNOPSIS/ } inside && match($0, /--[a-z]+/) { print substr($0, RSTART, RLENGTH) }' | sort -u
 }
@@ -69,10 +76,10 @@ same_commands() {
         case $command in why | help) continue ;; esac
         of_page=$(options_of_page "$command")
         try "$command takes the options of the manual page" alike options "$of_page" "$(options_of_command "$command")"
+        try "$command has these options in help" alike options "$of_page" "$(options_of_help "$command")"
         try "$command has these options in the completion" alike options "$of_page" "$(offered esa "$command" - | sort)"
     done
     for option in $(every_option); do
-        try "help speaks of $option" eval '"$esa" help | grep -q -- "$option"'
         try "the manual page tells of $option" eval 'sed "s/\\\\-/-/g" "$page" | grep -q "^\.BI* $option"'
     done
 }
