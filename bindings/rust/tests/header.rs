@@ -1,4 +1,4 @@
-//! The crate says what `include/esa.h` says: the same calls, with as many parameters, numbers, sentences, kinds and bounds.
+//! The crate says what `include/esa.h` says: the same calls with the same types, numbers, sentences, kinds and bounds.
 
 mod common;
 
@@ -18,23 +18,57 @@ fn header() -> String {
     kept.split_whitespace().collect::<Vec<_>>().join(" ")
 }
 
-/// Each declaration `.. esa_name(..)` behind one of these starts and before this end: its name, and how many parameters it has.
-fn calls(text: &str, starts: &[&str], end: char) -> BTreeMap<String, usize> {
-    let mut found = BTreeMap::new();
-    for start in starts {
-        for (at, _) in text.match_indices(start) {
-            let rest = &text[at + start.len()..];
-            let Some((name, rest)) = rest.split_once('(') else { continue };
-            let Some((parameters, rest)) = rest.split_once(')') else { continue };
-            let plain = name.chars().all(|c| c.is_ascii_lowercase() || c == '_' || c.is_ascii_digit());
-            let inline = text[..at].ends_with("static inline ");
-            if plain && !inline && rest.trim_start().starts_with(end) {
-                let many = parameters.split(',').filter(|word| !word.trim().is_empty()).count();
-                found.insert(name.to_string(), many);
+/// The declarations of calls in a text: the name, and the types of its parameters and of what it gives, as Rust has them.
+type Calls = BTreeMap<String, Vec<String>>;
+
+/// A parameter of C as a type of Rust: `const uint8_t *table` and `const uint8_t table[32]` are `*const u8`.
+fn of_c(parameter: &str) -> String {
+    let lent = parameter.contains('*') || parameter.contains('[');
+    let constant = parameter.starts_with("const ");
+    let kind = match parameter.trim_start_matches("const ").split([' ', '*']).next().unwrap() {
+        "uint8_t" => "u8",
+        "uint16_t" => "u16",
+        "uint32_t" => "u32",
+        "uint64_t" => "u64",
+        "size_t" => "usize",
+        "bool" => "bool",
+        other => panic!("a type of C that is not known here: {other}"),
+    };
+    match (lent, constant) {
+        (false, _) => kind.to_string(),
+        (true, true) => format!("*const {kind}"),
+        (true, false) => format!("*mut {kind}"),
+    }
+}
+
+/// Each `uint64_t esa_name(..);` or `size_t esa_name(..);` that is no inline function.
+fn calls_of_c(text: &str) -> Calls {
+    let mut found = Calls::new();
+    for given in ["uint64_t ", "size_t "] {
+        for (at, _) in text.match_indices(&format!("{given}esa_")) {
+            let rest = &text[at + given.len()..];
+            let (name, rest) = rest.split_once('(').unwrap();
+            let (parameters, rest) = rest.split_once(')').unwrap();
+            if rest.starts_with(';') && !text[..at].ends_with("static inline ") {
+                let types = parameters.split(", ").chain([given]).map(|word| of_c(word.trim()));
+                found.insert(name.to_string(), types.collect());
             }
         }
     }
     found
+}
+
+/// Each `pub fn esa_name(..) -> type;`.
+fn calls_of_rust(text: &str) -> Calls {
+    let declared = text.split("pub fn ").skip(1).map(|rest| {
+        let (name, rest) = rest.split_once('(').unwrap();
+        let (parameters, rest) = rest.split_once(") -> ").unwrap();
+        let given = rest.split(';').next().unwrap();
+        let types = parameters.split(',').map(str::trim).filter(|word| !word.is_empty());
+        let types = types.map(|word| word.split_once(": ").unwrap().1).chain([given]);
+        (name.to_string(), types.map(str::to_string).collect())
+    });
+    declared.collect()
 }
 
 /// The number of a name of an enumeration.
@@ -62,12 +96,10 @@ fn cases(header: &str, function: &str) -> BTreeMap<usize, String> {
 
 #[test]
 fn every_call_is_declared() {
-    let of_c = calls(&header(), &["uint64_t ", "size_t "], ';');
+    let of_c = calls_of_c(&header());
     let raw = common::words("bindings/rust/src/raw.rs");
-    let raw = raw.split_whitespace().collect::<Vec<_>>().join(" ").replace(", )", ")");
-    let of_rust = calls(&raw, &["pub fn "], '-');
     assert!(of_c.len() >= 29, "only {} calls in the header", of_c.len());
-    assert_eq!(of_c, of_rust);
+    assert_eq!(of_c, calls_of_rust(&raw));
 }
 
 #[test]
