@@ -57,6 +57,12 @@ __attribute__((weak)) number esa_receiving_piece(number *numbers, byte *describe
 __attribute__((weak)) number esa_receiving_end(number *numbers, const byte *described, const _Bool *zones, const _Bool *strings,
                                                const _Bool *named_zones, const _Bool *named_strings,
                                                const unsigned short *zone_places, const unsigned short *string_places);
+/* The calls on traces by way of traces.c, which knows the header's state; a state has so many bytes. */
+__attribute__((weak)) extern const number trace_state;
+__attribute__((weak)) number trace_start(byte *state, const byte *table, number length, number settings);
+__attribute__((weak)) number trace_piece(byte *state, const byte *piece, number length, byte *out);
+__attribute__((weak)) number trace_end(const byte *state, byte *out);
+__attribute__((weak)) number esa_reading(const byte *table, number length, number k, number count, number settings);
 __attribute__((weak)) number esa_diff(const byte *one, number one_length, const byte *two, number two_length, number settings, byte *out);
 
 static number esa_receive_start(byte *state, number settings)
@@ -91,13 +97,16 @@ enum { SHEET = 50, SHEET_TEXT = 275, SHEET_CALL = 1 + SHEET, MOST_SHEETS = 256 }
 enum { FRONT = 256, FRONT_BYTE = 0xC3, NAME_BYTE = 0xD8, GONE_BYTE = 0x5A, ROOM = 1 << 20, GUARD = 1 << 16 };
 enum { STEP = 9, MOST_STEPS = 1 << 16, REPORT = 64 };
 enum { PAIR = 15, DIFF = 65536 };
+enum { TRACE = 30, COUNTS = 31, TRACE_PIECE = 2048, TRACE_TEXT = DIFF, LONGEST_TRACE = 1 << 18, LONGEST_TRACE_STATE = 1 << 16 };
+enum { GATHERED = 1 << 23, COUNT_ASKED = 16, MOST_COUNTS = 1 << 16 }; /* a byte of trace gives at most 32 of text */
 #define NO_SUCH_CALL (~0UL)
 #define STATE_CHANGED (~1UL) /* by a call that was to keep it */
+#define OUT_CHANGED (~2UL)   /* behind the text */
 
 static byte input[1 << 21];
 static byte output[1 << 16];
 static number waiting; /* bytes of output */
-static byte *table_end, *numbers_end, *part_end, *text_end, *name_end, *state_end, *lines_end; /* of seven guarded places */
+static byte *table_end, *numbers_end, *part_end, *text_end, *name_end, *state_end, *lines_end, *tracing_end; /* of guarded places */
 static byte front[FRONT];
 /* What the buffer of a listing or of a pair's lines, and the numbers of a reading, hold before the call: no byte of a text, no zero. */
 static union {
@@ -472,6 +481,139 @@ static void answer_pair(const byte *body, number length, number two_length, numb
     memcpy(out, pattern.bytes, count);
 }
 
+/* The calls on traces, on a state of their own, which stays from request to request. The buffer is that of a pair's lines. */
+static byte kept_tracing[LONGEST_TRACE_STATE];
+static byte gathered[GATHERED];
+
+/* The table is gone when the call returns. A refusal keeps the state. */
+static number tracing_start(const byte *bytes, number length, unsigned fill, number settings)
+{
+    byte *state = tracing_end - trace_state, *table = table_end - length;
+    if (fill < 256) memset(state, (int)fill, trace_state);
+    memcpy(kept_tracing, state, trace_state);
+    memcpy(table, bytes, length);
+    number value = trace_start(state, table, length, settings);
+    if (differ(table, bytes, length)) _exit(TOUCHED);
+    memset(table, GONE_BYTE, length);
+    return value & 0xFF && memcmp(kept_tracing, state, trace_state) ? STATE_CHANGED : value;
+}
+
+/* The length of the text of one piece, which ends where its memory ends and is gone when the call returns. */
+static number tracing_piece(const byte *from, number length)
+{
+    byte *piece = part_end - length;
+    memcpy(piece, from, length);
+    number answered = trace_piece(tracing_end - trace_state, piece, length, lines_end - TRACE_TEXT);
+    if (differ(piece, from, length)) _exit(TOUCHED);
+    memset(piece, GONE_BYTE, length);
+    if (answered > TRACE_TEXT) _exit(TOUCHED);
+    return answered;
+}
+
+/* Takes the text of the last call to the others, and has the pattern in its place again. */
+static number gather(number so_far, number answered)
+{
+    byte *out = lines_end - TRACE_TEXT;
+    if (answered > GATHERED - so_far) _exit(BROKEN_REQUEST);
+    memcpy(gathered + so_far, out, answered);
+    memcpy(out, pattern.bytes, answered);
+    return so_far + answered;
+}
+
+/* All bytes in pieces of so many, of which each takes 2,048 at most: all their texts together. */
+static number tracing_reports(const byte *bytes, number length, number size)
+{
+    number most = size < TRACE_PIECE ? size : TRACE_PIECE, all = 0;
+    for (number at = 0; at < length; at += most) {
+        number left = length - at;
+        all = gather(all, tracing_piece(bytes + at, size < left ? size : left));
+    }
+    return all;
+}
+
+/* The same piece so many times: the last text alone. */
+static number tracing_again(const byte *bytes, number length, number times)
+{
+    number all = 0;
+    for (number i = 0; i < times; i++) all = gather(0, tracing_piece(bytes, length));
+    return all;
+}
+
+static number tracing_stop(void)
+{
+    number answered = trace_end(tracing_end - trace_state, lines_end - TRACE_TEXT);
+    if (answered > TRACE_TEXT) _exit(TOUCHED);
+    return gather(0, answered);
+}
+
+/* A state that no start gave: whatever it says, it is text in the buffer. */
+static void tracing_wild(const byte *bytes, number length, number seed, number size)
+{
+    byte *state = tracing_end - trace_state;
+    for (number i = 0; i < trace_state; i++) {
+        seed = seed * 6364136223846793005UL + 1442695040888963407UL;
+        state[i] = (byte)(seed >> 56);
+    }
+    tracing_reports(bytes, length, size);
+    tracing_stop();
+}
+
+/* The length of the text that is gathered. A piece of no bytes and an end keep the state. */
+static number tracing_text(byte which, const byte *trace, number length, unsigned a, unsigned b, number *value)
+{
+    byte *state = tracing_end - trace_state;
+    int keeps = which == 4 || (which == 1 && b == 0);
+    number all = 0;
+    if (a > length && which != 5) _exit(BROKEN_REQUEST);
+    if (keeps) memcpy(kept_tracing, state, trace_state);
+    if (which == 1 && b <= length - a) all = gather(0, tracing_piece(trace + a, b));
+    else if (which == 2 && b) all = tracing_reports(trace + a, length - a, b);
+    else if (which == 3) all = tracing_again(trace, a, b);
+    else if (which == 4) all = tracing_stop();
+    else if (which == 5 && b) tracing_wild(trace, length, a, b);
+    else _exit(BROKEN_REQUEST);
+    *value = keeps && memcmp(kept_tracing, state, trace_state) ? STATE_CHANGED : 256 * all;
+    if (altered(lines_end - TRACE_TEXT, TRACE_TEXT, 0)) *value = OUT_CHANGED;
+    return all;
+}
+
+static void answer_trace(const byte *body, number length, number trace_length, number count, number settings)
+{
+    const byte *trace = body + length;
+    int lacks = !trace_start || !trace_piece || !trace_end || trace_state > LONGEST_TRACE_STATE;
+    if (!lacks) memcpy(tracing_end - trace_state - FRONT, front, FRONT);
+    for (number at = 0; at < count; at++) {
+        const byte *step = trace + trace_length + at * STEP;
+        unsigned a, b;
+        memcpy(&a, step + 1, 4);
+        memcpy(&b, step + 5, 4);
+        number value = NO_SUCH_CALL, all = 0;
+        if (!lacks && step[0] == 0) value = tracing_start(body, length, a, settings);
+        else if (!lacks) all = tracing_text(step[0], trace, trace_length, a, b, &value);
+        put(&value, 8);
+        put(&all, 8);
+        put(gathered, all);
+    }
+    if (lacks) return;
+    if (memcmp(tracing_end - trace_state - FRONT, front, FRONT) || memcmp(lines_end - TRACE_TEXT - FRONT, front, FRONT)) _exit(TOUCHED);
+}
+
+/* What does a count mean? Asked of one table with many elements and counts, 8 bytes each behind it; the answer to each goes out. */
+static void answer_counts(const byte *body, number length, number count, number settings)
+{
+    byte *table = table_end - length;
+    memcpy(table, body, length);
+    for (number at = 0; at < count; at++) {
+        const byte *asked = body + length + at * COUNT_ASKED;
+        number k, of;
+        memcpy(&k, asked, 8);
+        memcpy(&of, asked + 8, 8);
+        number value = esa_reading ? esa_reading(table, length, k, of, settings) : NO_SUCH_CALL;
+        put(&value, 8);
+    }
+    if (memcmp(table, body, length)) _exit(TOUCHED);
+}
+
 /* Answers the whole requests among the bytes held, and gives the number of bytes that they took. */
 static number answer_all(number held)
 {
@@ -488,11 +630,14 @@ static number answer_all(number held)
         memcpy(&settings, request + 13, 8);
         number part_length = writes ? k >> 8 : 0;
         number readings = mode == READINGS ? k : 0, zones = mode == FANS ? k : 0, removals = mode == REMOVALS ? k : 0;
-        number sheets = mode == SHEETS ? k : 0, steps = mode == RECEIVE ? k : 0, two_length = mode == PAIR ? k : 0;
+        number sheets = mode == SHEETS ? k : 0, steps = mode == RECEIVE ? k : mode == TRACE ? k >> 32 : 0;
+        number two_length = mode == PAIR ? k : 0, trace_length = mode == TRACE ? k & 0xFFFFFFFF : 0, counts = mode == COUNTS ? k : 0;
         if (length > (moves ? LONGEST_TEXT : LONGEST) || (moves && k > LONGEST_TEXT)) _exit(BROKEN_REQUEST);
         if (part_length > LONGEST || two_length > LONGEST || readings > MOST_READINGS || zones > MOST_ZONES) _exit(BROKEN_REQUEST);
         if (removals > MOST_REMOVALS || sheets > MOST_SHEETS || steps > MOST_STEPS) _exit(BROKEN_REQUEST);
+        if (trace_length > LONGEST_TRACE || counts > MOST_COUNTS) _exit(BROKEN_REQUEST);
         number asked = readings * READING + zones + 8 * removals + sheets * SHEET_CALL + steps * STEP + two_length;
+        asked += trace_length + counts * COUNT_ASKED;
         number size = HEADER + (number)length + (writes ? NUMBERS + part_length : asked);
         if (held - used < size) break;
         if (writes) answer_writer(mode, (byte)k, settings, request + HEADER, length, part_length);
@@ -504,6 +649,8 @@ static number answer_all(number held)
         else if (moves) answer_moved(mode, request + HEADER, length, k, settings);
         else if (mode == RECEIVE) answer_receive(request + HEADER, length, steps, settings);
         else if (mode == PAIR) answer_pair(request + HEADER, length, two_length, settings);
+        else if (mode == TRACE) answer_trace(request + HEADER, length, trace_length, steps, settings);
+        else if (mode == COUNTS) answer_counts(request + HEADER, length, counts, settings);
         else answer_reader(mode, request + HEADER, length, k, settings);
         used += size;
     }
@@ -523,6 +670,7 @@ int main(void)
     for (int i = 0; i < DIFF; i++) pattern.bytes[i] = (byte)(0x80 + i % 127);
     memcpy(text_end - LISTING - FRONT, front, FRONT);
     memcpy(text_end - LISTING, pattern.bytes, LISTING);
+    tracing_end = guarded_end();
     lines_end = guarded_end();
     memcpy(lines_end - DIFF - FRONT, front, FRONT);
     memcpy(lines_end - DIFF, pattern.bytes, DIFF);

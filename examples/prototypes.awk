@@ -7,6 +7,8 @@ BEGIN {
     type["usize"] = "size_t"
     of_c["u8"] = "uint8_t"
     of_c["u16"] = "uint16_t"
+    of_c["u32"] = "uint32_t"
+    of_c["u64"] = "uint64_t"
     of_c["usize"] = "size_t"
     of_c["bool"] = "bool"
     print "#include \"esa.h\""
@@ -14,12 +16,12 @@ BEGIN {
 
 function c_type(of) {
     if (of in type) return type[of]
-    if (of ~ /^&(mut )?\[(u8|u16|usize|bool); [0-9]+\]$/) return array(of)
+    if (of ~ /^&(mut )?\[(u8|u16|u32|u64|usize|bool); [0-9]+\]$/) return array(of)
     print "examples/prototypes.awk: no type of C for '" of "'" > "/dev/stderr"
     exit 1
 }
 
-# An array is a pointer. Its size is one that the header names, or, of a receiver's parts, that of the header's struct.
+# An array is a pointer. Its size is one that the header names, or, of the parts of a receiver or a trace, that of the header's struct.
 function array(of,    size, kind) {
     size = of
     sub(/.*; /, "", size)
@@ -27,9 +29,12 @@ function array(of,    size, kind) {
     kind = of
     sub(/.*\[/, "", kind)
     sub(/;.*/, "", kind)
-    if (kind == "u8" && size != 30) return sized(of, kind, size, "NUMBERS LISTING SHEET_TEXT DIFF")
+    if (kind == "u8" && size != 30) return sized(of, kind, size, "NUMBERS LISTING SHEET_TEXT DIFF TRACE_TEXT")
+    if (kind == "u64") return part(of, kind, size, "trace", "numbers")
+    if (kind == "u32") return part(of, kind, size, "trace", "tallies")
+    if (kind == "u16" && size == 576) return part(of, kind, size, "trace", "sensors")
     if (kind == "u16" && size != 256) return sized(of, kind, size, "SHEET")
-    return part(of, kind, size)
+    return part(of, kind, size, "receiving", kind == "u8" ? "element" : kind == "u16" ? "zone_places" : kind == "bool" ? "zones" : "numbers")
 }
 
 function sized(of, kind, size, names,    i, sizes, test) {
@@ -39,13 +44,9 @@ function sized(of, kind, size, names,    i, sizes, test) {
     return (of ~ /mut/ ? "" : "const ") of_c[kind] " *"
 }
 
-function part(of, kind, size,    member) {
-    member["u8"] = "element"
-    member["u16"] = "zone_places"
-    member["usize"] = "numbers"
-    member["bool"] = "zones"
-    if (!named[kind]++)
-        print "typedef char of_" kind "[sizeof(((struct esa_receiving *)0)->" member[kind] ") == " size " * sizeof(" of_c[kind] ") ? 1 : -1];"
+function part(of, kind, size, of_struct, member) {
+    if (!named[of_struct, member]++)
+        print "typedef char " of_struct "_" member "[sizeof(((struct esa_" of_struct " *)0)->" member ") == " size " * sizeof(" of_c[kind] ") ? 1 : -1];"
     return (of ~ /mut/ ? "" : "const ") of_c[kind] " *"
 }
 

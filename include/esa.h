@@ -64,6 +64,8 @@ enum esa_numbers {
     ESA_NO_ROOM = 16,          /* writer: the new length passes the buffer or 4,096; 0. Of hex and unhex: what is to be written
                                   passes the buffer; 0 */
     ESA_PAST_THE_LAST = 17,    /* there is no element k; in a part, no such block or pair; 0 */
+    ESA_NO_READING = 18,       /* the element has no reading for the count; 0, of a trace the line's number, from 1 */
+    ESA_TRACE_LINE = 19,       /* pulses over 65,535; 0. Of a trace also a malformed line or one past 1,000,000; the line's number, from 1 */
     ESA_AFTER_THE_END = 20,    /* receiving: a piece or an end after the end; 0 */
     ESA_HEX = 21,              /* a line that is not Intel HEX as it is taken here; the line's number, from 1 */
     ESA_STILL_NAMED = 22,      /* remove: something still names the zone or string that was to go; element */
@@ -93,6 +95,8 @@ static inline const char *esa_words(unsigned number)
     case ESA_CLASH: return "a pin is claimed a second time";
     case ESA_NO_ROOM: return "no room for it";
     case ESA_PAST_THE_LAST: return "there is no such element, block or pair";
+    case ESA_NO_READING: return "the element has no reading for this count";
+    case ESA_TRACE_LINE: return "a line of a trace that is malformed, past 1,000,000, or has too many pulses";
     case ESA_AFTER_THE_END: return "the end has been called, and nothing more is received";
     case ESA_HEX: return "a line that is not Intel HEX as it is taken here";
     case ESA_STILL_NAMED: return "something still names it";
@@ -220,6 +224,27 @@ static inline size_t esa_fan_visited(uint64_t answer)
     return esa_number(answer) == ESA_GOOD ? (size_t)(answer >> 9) : 0;
 }
 
+/* What does a count mean at element k? Of a fan (03h) or a pump (06h) it is the pulses in one second, of an analogue thermal sensor (02h), a
+   voltage (07h) or a current (08h) the converter's count. 0, and beside it the reading (esa_reading_value) in RPM, tenths of a degree,
+   decivolts or deciamps, or 'under 0' or 'over 100' degrees (esa_reading_kind). Or the table's own refusal as esa_check gives it; 17 at 0
+   where there is no element k; 19 at 0 for pulses over 65,535; 18 at 0 for an element of another kind, PPR 0, a calibration that does not
+   rise or fall strictly, and a count over 1023. */
+uint64_t esa_reading(const uint8_t *table, size_t length, size_t k, uint64_t count, uint64_t settings);
+
+enum { ESA_READING = 0, ESA_UNDER_0 = 1, ESA_OVER_100 = 2 };
+
+/* Of an answer that is no refusal: ESA_READING, ESA_UNDER_0 or ESA_OVER_100. */
+static inline unsigned esa_reading_kind(uint64_t answer)
+{
+    return (unsigned)(answer >> 8 & 3);
+}
+
+/* 0 unless there is a reading. */
+static inline uint64_t esa_reading_value(uint64_t answer)
+{
+    return esa_number(answer) == ESA_GOOD ? answer >> 10 : 0;
+}
+
 /* Inside a part, which may be any bytes: 17 at 0 where no such block or pair stands whole in it. Of the part of 09h: the speed of
    speed block j in units of 100 RPM, and 256 times its number of register pairs; and of its register pair i the address, and
    65,536 times the data. Blocks and pairs are counted from 0; block 0 is the default block. */
@@ -330,6 +355,48 @@ static inline uint64_t esa_receive_end(struct esa_receiving *state)
 {
     return esa_receiving_end(state->numbers, state->description, state->zones, state->strings, state->named_zones,
                              state->named_strings, state->zone_places, state->string_places);
+}
+
+/* TRACES. Raw counts from the bench, run through a table. A line is second of day (0 to 86,399), element number and count (of a fan or pump the
+   pulses in one second), three numbers of 1 to 9 digits parted by tabs, and ends in a line feed. Its output line is the reading in plain
+   decimals (tenths of a degree, deciamps, decivolts, RPM), 'under 0', 'over 100', or 'R', number, line number by tabs: 19, 17 or 18. A
+   line of tallies is element number, least, greatest and number of the readings, under 0, over 100. The state has the same size whatever
+   the trace; it may be copied and moved. What comes of a state that no start gave stands in docs/DECISIONS.md. */
+enum { ESA_TRACE_PIECE = 2048, ESA_TRACE_TEXT = 65536 };
+
+struct esa_trace {
+    uint64_t numbers[7];
+    uint32_t tallies[480];
+    uint16_t sensors[576];
+};
+
+/* The library's calls, to which a state is lent part by part; those to use stand below. */
+uint64_t esa_tracing_start(uint64_t numbers[7], uint16_t sensors[576], uint32_t tallies[480], const uint8_t *table, size_t length,
+                           uint64_t settings);
+size_t esa_tracing_piece(uint64_t numbers[7], const uint16_t sensors[576], uint32_t tallies[480], const uint8_t *piece, size_t length,
+                         uint8_t out[ESA_TRACE_TEXT]);
+size_t esa_tracing_end(const uint64_t numbers[7], const uint16_t sensors[576], const uint32_t tallies[480],
+                       uint8_t out[ESA_TRACE_TEXT]);
+
+/* Begins: checks the table by the ordinary rules (bit 1 of the settings is ignored). 0, and beside it the number of elements: no line has
+   come and every tally is 0. Or the table's own refusal as esa_check gives it, and then no byte of 'state' alters. */
+static inline uint64_t esa_trace_start(struct esa_trace *state, const uint8_t *table, size_t length, uint64_t settings)
+{
+    return esa_tracing_start(state->numbers, state->sensors, state->tallies, table, length, settings);
+}
+
+/* The next bytes of the trace, cut anywhere: takes the first ESA_TRACE_PIECE of them at most. The length of the text that is put at the
+   front of 'out': an output line for each line that was ended by a line feed. The bytes behind it are as they were. */
+static inline size_t esa_trace_piece(struct esa_trace *state, const uint8_t *piece, size_t length, uint8_t out[ESA_TRACE_TEXT])
+{
+    return esa_tracing_piece(state->numbers, state->sensors, state->tallies, piece, length, out);
+}
+
+/* No more comes: the output line of a last line without a line feed, unless it is empty, and a line of tallies for every element of the
+   table in order. The length of the text; the bytes of 'out' behind it are as they were. 'state' is only read. */
+static inline size_t esa_trace_end(const struct esa_trace *state, uint8_t out[ESA_TRACE_TEXT])
+{
+    return esa_tracing_end(state->numbers, state->sensors, state->tallies, out);
 }
 
 /* Two tables side by side: in which fields do their records differ? Both are read for the chip of the settings and always by the

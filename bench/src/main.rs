@@ -8,12 +8,14 @@ mod putting;
 mod receiving;
 mod rounds;
 mod sides;
+#[cfg(traces)]
+mod traces;
 mod writing;
 
 use std::process::ExitCode;
 
 /// What can be measured, by its name: prints and gives the number of differences.
-const PARTS: [(&str, fn() -> usize); 7] = [
+const PARTS: &[(&str, fn() -> usize)] = &[
     ("check", checking::report),
     ("growth", growth::report),
     ("receiving", receiving::report),
@@ -21,13 +23,16 @@ const PARTS: [(&str, fn() -> usize); 7] = [
     ("listing", putting::listing),
     ("rewriting", putting::rewriting),
     ("fan", fans::report),
+    #[cfg(traces)]
+    ("trace", traces::report),
 ];
 
 fn main() -> ExitCode {
     let asked: Vec<String> = std::env::args().skip(1).collect();
     let known = |name: &String| PARTS.iter().any(|(part, _)| part == name);
     if let Some(name) = asked.iter().find(|name| !known(name)) {
-        let parts = PARTS.map(|(part, _)| part).join(", ");
+        let parts: Vec<&str> = PARTS.iter().map(|(part, _)| *part).collect();
+        let parts = parts.join(", ");
         eprintln!("bench: there is no part '{name}'; there are {parts}");
         return ExitCode::from(2);
     }

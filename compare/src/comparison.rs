@@ -16,6 +16,7 @@ use crate::removals::Removals;
 use crate::settings;
 use crate::sheets::Sheets;
 use crate::tally::Tally;
+use crate::traces::Traces;
 use second::generator::any;
 use second::random::Random;
 use second::{Chip, Settings};
@@ -41,6 +42,8 @@ pub struct Comparison {
     receiving: Option<Receiving>,
     /// Hold tables side by side too.
     pairs: Option<Pairs>,
+    /// Run traces through tables too.
+    traces: Option<Traces>,
 }
 
 /// Numbers that no table has, and that are small ones in their low bits.
@@ -94,6 +97,10 @@ impl Comparison {
                 true => Some(Pairs::start(options)?),
                 false => None,
             },
+            traces: match options.traces {
+                true => Some(Traces::start(options)?),
+                false => None,
+            },
             elements: options.elements,
             listing: options.listing,
         })
@@ -132,7 +139,8 @@ impl Comparison {
         }
         self.removals(origin, turn, &table)?;
         self.hex(origin, &all, turn, &table)?;
-        self.pairs(origin, turn, made_for, &table)
+        self.pairs(origin, turn, made_for, &table)?;
+        self.traces(origin, turn, made_for, &table)
     }
 
     fn calls(&mut self, origin: Origin, settings: u64, table: &Rc<[u8]>) -> Result<(), String> {
@@ -177,7 +185,8 @@ impl Comparison {
         self.sheets(origin, settings, &table)?;
         self.hex(origin, &[row.settings], turn, &table)?;
         self.receive(origin, settings, &table)?;
-        self.pairs(origin, turn, row.settings, &table)
+        self.pairs(origin, turn, row.settings, &table)?;
+        self.traces(origin, turn, row.settings, &table)
     }
 
     /// Holds both sides to the papers' answers of fans, if they are asked for.
@@ -213,6 +222,11 @@ impl Comparison {
     /// Compares receivers at their edges.
     pub fn receiving_edges(&mut self) -> Result<(), String> {
         self.receiving.as_mut().map_or(Ok(()), Receiving::edges)
+    }
+
+    /// Holds both sides to the papers' answers of traces, and compares those at the edges.
+    pub fn trace_edges(&mut self) -> Result<(), String> {
+        self.traces.as_mut().map_or(Ok(()), Traces::edges)
     }
 
     fn receive(&mut self, origin: Origin, settings: u64, table: &Rc<[u8]>) -> Result<(), String> {
@@ -289,6 +303,19 @@ impl Comparison {
         pairs.table(origin, turn, made_for, table)
     }
 
+    fn traces(
+        &mut self,
+        origin: Origin,
+        turn: u64,
+        made_for: Settings,
+        table: &Rc<[u8]>,
+    ) -> Result<(), String> {
+        let Some(traces) = &mut self.traces else {
+            return Ok(());
+        };
+        traces.table(origin, turn, made_for, table)
+    }
+
     fn listing(&mut self, origin: Origin, settings: u64, table: &Rc<[u8]>) -> Result<(), String> {
         if !self.listing {
             return Ok(());
@@ -324,7 +351,8 @@ impl Comparison {
         let hex = self.hex.as_ref().map_or(0, Hex::differences);
         let receiving = self.receiving.as_ref().map_or(0, Receiving::differences);
         let pairs = self.pairs.as_ref().map_or(0, Pairs::differences);
-        let asked_of_tables = fields + fans + removals + sheets + hex + receiving + pairs;
+        let traces = self.traces.as_ref().map_or(0, Traces::differences);
+        let asked_of_tables = fields + fans + removals + sheets + hex + receiving + pairs + traces;
         self.exchange.tally.all_differences() + asked_of_tables
     }
 
@@ -337,6 +365,7 @@ impl Comparison {
         tally.hex = self.hex.map(Hex::finish).transpose()?;
         tally.receiving = self.receiving.map(Receiving::finish).transpose()?;
         tally.pairs = self.pairs.map(Pairs::finish).transpose()?;
+        tally.traces = self.traces.map(Traces::finish).transpose()?;
         Ok(tally)
     }
 }

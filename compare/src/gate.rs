@@ -13,6 +13,7 @@ use crate::removals;
 use crate::sheets;
 use crate::tally::Tally;
 use crate::texts;
+use crate::traces;
 use second::generator::{self, raw};
 use second::random::Random;
 use second::{Chip, Settings};
@@ -40,6 +41,7 @@ pub fn gate(options: &Options) -> Result<bool, String> {
     }
     comparison.part_edges()?;
     comparison.receiving_edges()?;
+    comparison.trace_edges()?;
     for seed in SEEDS {
         let mut random = Random::new(seed);
         for at in 0..TABLES_OF_A_SEED {
@@ -84,6 +86,7 @@ fn judged(tally: &Tally, elements: bool) -> bool {
     let receiving = tally.receiving.as_ref();
     good &= receiving.is_none_or(receiving::Tally::all_came);
     good &= tally.pairs.as_ref().is_none_or(pairs::Tally::all_came);
+    good &= tally.traces.as_ref().is_none_or(traces::Tally::all_came);
     tally.print_sum();
     good && tally.all_differences() == 0
 }

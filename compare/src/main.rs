@@ -25,14 +25,15 @@ mod sheets;
 mod stand_in;
 mod tally;
 mod texts;
+mod traces;
 mod writer;
 
 use options::{Command, Options};
 use std::process::ExitCode;
 
 const USAGE: &str = "\
-use: compare gate [--elements] [--listing] [--fields] [--fans] [--removals] [--sheets] [--hex] [--receive] [--pairs] [--writer] [--first] --driver COMMAND...
-     compare long --seed S --count N [--elements] [--listing] [--fields] [--fans] [--removals] [--sheets] [--hex] [--receive] [--pairs] --driver COMMAND...
+use: compare gate [--elements] [--listing] [--fields] [--fans] [--removals] [--sheets] [--hex] [--receive] [--pairs] [--traces] [--writer] [--first] --driver COMMAND...
+     compare long --seed S --count N [--elements] [--listing] [--fields] [--fans] [--removals] [--sheets] [--hex] [--receive] [--pairs] [--traces] --driver COMMAND...
      compare writer --seed S --count N --driver COMMAND...
      compare stand-in
 ";

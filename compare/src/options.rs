@@ -27,6 +27,7 @@ pub struct Options {
     pub hex: bool,
     pub receive: bool,
     pub pairs: bool,
+    pub traces: bool,
     /// The gate: the writer's calls too.
     pub writer: bool,
     /// The gate: it ends at the first difference.
@@ -49,6 +50,7 @@ struct Given {
     hex: bool,
     receive: bool,
     pairs: bool,
+    traces: bool,
     writer: bool,
     first: bool,
     driver: Vec<String>,
@@ -78,6 +80,7 @@ impl Given {
                 "--hex" => given.hex = true,
                 "--receive" => given.receive = true,
                 "--pairs" => given.pairs = true,
+                "--traces" => given.traces = true,
                 "--writer" => given.writer = true,
                 "--first" => given.first = true,
                 "--driver" => given.driver = words.by_ref().cloned().collect(),
@@ -106,7 +109,7 @@ impl Options {
         }
         let of_tables = given.elements || given.listing || given.fields || given.fans;
         let of_tables = of_tables || given.removals || given.sheets || given.hex;
-        let of_tables = of_tables || given.receive || given.pairs;
+        let of_tables = of_tables || given.receive || given.pairs || given.traces;
         if of_tables && matches!(command, Command::Writer { .. }) {
             return Err("the writer's calls take '--seed' and '--count' alone".into());
         }
@@ -124,6 +127,7 @@ impl Options {
             hex: given.hex,
             receive: given.receive,
             pairs: given.pairs,
+            traces: given.traces,
             writer: given.writer,
             first: given.first,
             driver: given.driver,

@@ -11,6 +11,7 @@ use crate::question::Origin;
 use crate::receiving::{Conversation, Step};
 use crate::removals::{self, Removal};
 use crate::sheets::{Asking, SheetCall};
+use crate::traces::{self, Traced};
 use crate::writer::{Does, WriterCall};
 use std::io::{self, BufRead, BufReader, BufWriter, Read, Write};
 
@@ -55,6 +56,8 @@ fn answer(from: &mut impl Read) -> io::Result<Vec<u8>> {
         None if mode == Asking::MODE => of_sheets(k, settings, &lent, from),
         None if mode == Conversation::MODE => of_steps(k, settings, &lent, from),
         None if mode == Pair::MODE => of_pair(k, settings, &lent, from),
+        None if mode == Traced::TRACE => of_trace(k, settings, &lent, from),
+        None if mode == Traced::COUNTS => of_counts(k, settings, &lent, from),
         None => of_readings(k, settings, &lent, from),
     }
 }
@@ -176,6 +179,38 @@ fn of_pair(length: u64, settings: u64, one: &[u8], from: &mut impl Read) -> io::
     Ok([&answer.0.to_le_bytes(), &length, &buffer[..]].concat())
 }
 
+/// The trace follows the table, and then so many steps.
+fn of_trace(k: u64, settings: u64, table: &[u8], from: &mut impl Read) -> io::Result<Vec<u8>> {
+    let trace = bytes(from, k as u32 as usize)?;
+    let mut steps = Vec::new();
+    for _ in 0..k >> 32 {
+        let step = traces::Step::of(&bytes(from, traces::Step::LENGTH)?);
+        steps.push(step.ok_or(io::ErrorKind::InvalidData)?);
+    }
+    let mut replies = Vec::new();
+    for Outcome { answer, buffer } in traces::of_steps(table, &trace, &steps, settings) {
+        replies.extend(
+            [answer.0, buffer.len() as u64]
+                .map(u64::to_le_bytes)
+                .concat(),
+        );
+        replies.extend(buffer);
+    }
+    Ok(replies)
+}
+
+/// So many elements and counts follow the table.
+fn of_counts(count: u64, settings: u64, table: &[u8], from: &mut impl Read) -> io::Result<Vec<u8>> {
+    let mut replies = Vec::new();
+    for _ in 0..count {
+        let asked = bytes(from, 16)?;
+        let (k, count) = (number(&asked[..8]), number(&asked[8..]));
+        let answer = traces::of_count(table, k, count, settings);
+        replies.extend(answer.0.to_le_bytes());
+    }
+    Ok(replies)
+}
+
 fn bytes(from: &mut impl Read, count: usize) -> io::Result<Vec<u8>> {
     let mut bytes = vec![0; count];
     from.read_exact(&mut bytes)?;
@@ -279,6 +314,44 @@ mod tests {
         }
     }
 
+    /// A trace in steps of every sort, and two counts, in a request each.
+    fn traced(table: &Rc<[u8]>, requests: &mut Vec<u8>, wanted: &mut Vec<u8>) {
+        use crate::traces::{Step, What};
+        let mut asking = Traced {
+            origin: Origin::Known("any"),
+            settings: 3,
+            table: table.clone(),
+            what: What::Run {
+                trace: Rc::from(&b"0\t1\t2\n3\t0\t4"[..]),
+                steps: vec![
+                    Step::Start(None),
+                    Step::Reports { from: 0, size: 3 },
+                    Step::Piece { from: 2, length: 5 },
+                    Step::Again {
+                        length: 6,
+                        times: 2,
+                    },
+                    Step::End,
+                    Step::Wild { seed: 1, size: 1 },
+                ],
+            },
+        };
+        asking.request(requests);
+        for Outcome { answer, buffer } in asking.second() {
+            wanted.extend(
+                [answer.0, buffer.len() as u64]
+                    .map(u64::to_le_bytes)
+                    .concat(),
+            );
+            wanted.extend(buffer);
+        }
+        asking.what = What::Counts(vec![(0, 5), (1, 70_000)]);
+        asking.request(requests);
+        for Outcome { answer, .. } in asking.second() {
+            wanted.extend(answer.0.to_le_bytes());
+        }
+    }
+
     /// Every request is taken in whole, and answered as the second program answers.
     #[test]
     fn requests_end_to_end_are_answered_one_by_one() {
@@ -295,6 +368,7 @@ mod tests {
             zones_and_removals(&lent, &mut requests, &mut wanted);
             steps(&lent, &mut requests, &mut wanted);
             sheets(&table, &mut requests, &mut wanted);
+            traced(&lent, &mut requests, &mut wanted);
             write.request(&mut requests);
             let Outcome { answer, buffer } = write.second();
             wanted.extend([&answer.0.to_le_bytes()[..], &buffer].concat());

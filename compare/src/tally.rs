@@ -12,6 +12,7 @@ use crate::question::Question;
 use crate::receiving;
 use crate::removals;
 use crate::sheets;
+use crate::traces;
 use second::Settings;
 
 /// By mode of the driver; a listing has no number and is only counted.
@@ -37,6 +38,8 @@ pub struct Tally {
     pub receiving: Option<receiving::Tally>,
     /// And of tables side by side.
     pub pairs: Option<pairs::Tally>,
+    /// And of traces run through tables.
+    pub traces: Option<traces::Tally>,
     /// By mode: how often each number came, both sides agreeing.
     answers: [Answers; 3],
 }
@@ -88,6 +91,9 @@ impl Tally {
         if let Some(pairs) = &self.pairs {
             pairs.print_answers();
         }
+        if let Some(traces) = &self.traces {
+            traces.print_answers();
+        }
     }
 
     /// Prints the answers of this mode that should have come and did not, those to a whole table and these
@@ -112,11 +118,12 @@ impl Tally {
         let hex = self.hex.as_ref().map_or(0, |hex| hex.differences.0);
         let receiving = self.receiving.as_ref().map_or(0, |them| them.differences.0);
         let pairs = self.pairs.as_ref().map_or(0, |them| them.differences.0);
-        let asked_of_tables = fields + fans + removals + sheets + hex + receiving + pairs;
+        let traces = self.traces.as_ref().map_or(0, |them| them.differences.0);
+        let asked_of_tables = fields + fans + removals + sheets + hex + receiving + pairs + traces;
         self.differences.0 + self.listing_differences.0 + asked_of_tables
     }
 
-    /// The last line, or the last nine.
+    /// The last line, or the last ten.
     pub fn print_sum(&self) {
         println!("{} tables, {} differences", self.tables, self.differences.0);
         if self.listings > 0 {
@@ -143,6 +150,9 @@ impl Tally {
         }
         if let Some(pairs) = &self.pairs {
             pairs.print_sum();
+        }
+        if let Some(traces) = &self.traces {
+            traces.print_sum();
         }
     }
 }

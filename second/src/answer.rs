@@ -21,6 +21,8 @@ pub mod number {
     pub const CLASH: u8 = 15;
     pub const NO_ROOM: u8 = 16;
     pub const PAST_LAST: u8 = 17;
+    pub const NO_CONVERSION: u8 = 18;
+    pub const LINE: u8 = 19;
     pub const AFTER_END: u8 = 20;
     pub const HEX: u8 = 21;
     pub const STILL_NAMED: u8 = 22;

@@ -32,6 +32,7 @@ pub mod rules;
 pub mod settings;
 pub mod sheet;
 pub mod text;
+pub mod trace;
 pub mod units;
 pub mod writer;
 
@@ -49,4 +50,5 @@ pub use remove::remove;
 pub use rewrite::{cleared, rewrite, rewrite_by_records};
 pub use settings::{Chip, Rules, Settings};
 pub use sheet::{forward, sheet, sheet_text, Sheet};
+pub use trace::{reading, Reading, Trace};
 pub use writer::{append, start};

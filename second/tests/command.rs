@@ -126,6 +126,48 @@ fn long_texts_are_not_cut_short() {
     assert_eq!(run(&["unhex"], &[0; 2_000_000]).stdout, b"R\t21\t1\n");
 }
 
+/// The trace out of a file or from standard input; a table that is refused, and files that are not there.
+#[test]
+fn runs_a_trace_through_a_table() {
+    let folder = std::env::temp_dir().join(format!("second-trace-{}", std::process::id()));
+    std::fs::create_dir_all(&folder).unwrap();
+    let file = |name: &str, bytes: &[u8]| {
+        let path = folder.join(name);
+        std::fs::write(&path, bytes).unwrap();
+        path.to_str().unwrap().to_string()
+    };
+    let table = file(
+        "table",
+        &raw::table(&[raw::zone(1, 0), raw::current(1, 0x24)]),
+    );
+    let lines = b"0\t1\t1023\n1\t1\t1024\n2\t1\t0";
+    let trace = file("trace", lines);
+    let wanted = b"300\nR\t18\t2\n0\n0\t0\t0\t0\t0\t0\n1\t0\t300\t2\t0\t0\n";
+    let missing = format!("{trace}s");
+    let folder_name = folder.to_str().unwrap();
+    for (words, input, output) in [
+        (&[&table[..], &trace][..], &b""[..], &wanted[..]),
+        (&[&table], lines, wanted),
+        (&["--chip", "320", &table, &trace], lines, wanted),
+        (&["--chip", "321", &table, &trace], lines, b"R\t10\t46\n"),
+        (&[&trace, &trace], lines, b"R\t2\t0\n"),
+        (&[&missing, &trace], lines, b"X\t1\n"),
+        (&[&table, &missing], lines, b"X\t2\n"),
+        (&[&table, folder_name], lines, b"X\t2\n"),
+    ] {
+        let ran = run(&[&["trace"], words].concat(), input);
+        assert!(ran.status.success());
+        assert_eq!(ran.stdout, output, "{words:?}");
+    }
+    let lines = ["lines", "--seed", "3", "--count", "40", &table];
+    let made = run(&lines, &[]).stdout;
+    assert!(made.iter().filter(|&&byte| byte == b'\n').count() >= 39);
+    assert_eq!(run(&lines, &[]).stdout, made);
+    let on_321 = [&lines[..1], &["--chip", "321"], &lines[1..]].concat();
+    assert_eq!(run(&on_321, &[]).status.code(), Some(1));
+    std::fs::remove_dir_all(&folder).unwrap();
+}
+
 #[test]
 fn holds_two_files_side_by_side() {
     let folder = std::env::temp_dir().join(format!("second-diff-{}", std::process::id()));
@@ -258,7 +300,7 @@ fn holds_itself_against_itself() {
 
 #[test]
 fn misuse_is_told_and_gives_status_2() {
-    let misuses: [&[&str]; 55] = [
+    let misuses: [&[&str]; 60] = [
         &[],
         &["dance"],
         &["list", "extra"],
@@ -313,6 +355,11 @@ fn misuse_is_told_and_gives_status_2() {
         &["diff", "one"],
         &["diff", "one", "two", "three"],
         &["diff", "--archive", "one", "two"],
+        &["trace"],
+        &["trace", "one", "two", "three"],
+        &["trace", "--archive", "one"],
+        &["lines", "--seed", "1", "one"],
+        &["lines", "--seed", "1", "--count", "2"],
         &[
             "rows", "--seed", "1", "--count", "1", "--max", "1", "--chip", "321",
         ],

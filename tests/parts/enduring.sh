@@ -4,7 +4,7 @@
 
 # The commands that write OUT, and those that only read.
 writers='rewrite remove hex unhex pins'
-readers='check list label fan pins receive diff'
+readers='check list label fan pins receive diff trace'
 
 # The words of a command that reads FILE and writes OUT; without OUT it only reads. (No name here has a blank.)
 words_of() { # COMMAND FILE [OUT]

@@ -41,9 +41,9 @@ pub enum Rule {
     NoRoom = 16,
     /// There is no such element; in a part no such block or pair; place 0.
     PastTheLast = 17,
-    /// A trace: the element has no conversion, or its count none.
-    NoConversion = 18,
-    /// A trace: a line that is malformed, too late, too far or has too many pulses.
+    /// A trace: the element has no reading for the count; its place is the number of the line.
+    NoReading = 18,
+    /// A trace: a line that is malformed, past 1,000,000, or has too many pulses; its place is the number of the line.
     TraceLine = 19,
     /// Receiving: a piece or an end after the end; place 0.
     AfterTheEnd = 20,
@@ -79,7 +79,7 @@ impl Rule {
         Rule::Clash,
         Rule::NoRoom,
         Rule::PastTheLast,
-        Rule::NoConversion,
+        Rule::NoReading,
         Rule::TraceLine,
         Rule::AfterTheEnd,
         Rule::Hex,
@@ -135,8 +135,8 @@ impl Rule {
             Rule::Clash => "a pin is claimed a second time",
             Rule::NoRoom => "no room for it",
             Rule::PastTheLast => "there is no such element, block or pair",
-            Rule::NoConversion => "the element or its count has no conversion",
-            Rule::TraceLine => "a line of the trace is malformed, or past a bound",
+            Rule::NoReading => "the element has no reading for this count",
+            Rule::TraceLine => "a line of a trace that is malformed, past 1,000,000, or has too many pulses",
             Rule::AfterTheEnd => "the end has been called, and nothing more is received",
             Rule::Hex => "a line that is not Intel HEX as it is taken here",
             Rule::StillNamed => "something still names it",

@@ -32,6 +32,7 @@
 //! | read inside a variable part | [`block`], [`pair`], [`entries`], [`entry`], [`colours`], [`colour`] |
 //! | see which pins are free | [`sheet`], [`sheet_forward`], [`sheet_text`] |
 //! | hold two tables side by side | [`diff`] |
+//! | run counts from the bench through one | [`reading`] of one count, [`Trace`] of a recording |
 //! | write one | [`start`], [`append`], [`rewrite`], [`remove`] |
 //! | move one to Intel HEX and back | [`hex`], [`unhex`] |
 
@@ -50,7 +51,6 @@ mod receiving;
 mod salvaging;
 mod settings;
 mod sheets;
-#[cfg(feature = "trace")]
 mod tracing;
 mod writing;
 
@@ -66,7 +66,6 @@ pub use receiving::Receiving;
 pub use salvaging::{salvage, Saved};
 pub use settings::{Chip, Rules, Settings};
 pub use sheets::{sheet, sheet_forward, sheet_text, Claimant, Sheet};
-#[cfg(feature = "trace")]
 pub use tracing::{reading, Reading, Trace};
 pub use writing::{append, remove, rewrite, start};
 

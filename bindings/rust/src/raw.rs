@@ -14,6 +14,7 @@ extern "C" {
     pub fn esa_label(table: *const u8, length: usize, k: usize, settings: u64, name: *const u8, name_length: usize) -> u64;
     pub fn esa_fan(table: *const u8, length: usize, zone: u8, settings: u64) -> u64;
     pub fn esa_list(table: *const u8, length: usize, settings: u64, out: *mut u8) -> usize;
+    pub fn esa_reading(table: *const u8, length: usize, k: usize, count: u64, settings: u64) -> u64;
 
     pub fn esa_block(part: *const u8, length: usize, j: usize) -> u64;
     pub fn esa_pair(part: *const u8, length: usize, j: usize, i: usize) -> u64;
@@ -50,6 +51,24 @@ extern "C" {
         zone_places: *const u16,
         string_places: *const u16,
     ) -> u64;
+
+    pub fn esa_tracing_start(
+        numbers: *mut u64,
+        sensors: *mut u16,
+        tallies: *mut u32,
+        table: *const u8,
+        length: usize,
+        settings: u64,
+    ) -> u64;
+    pub fn esa_tracing_piece(
+        numbers: *mut u64,
+        sensors: *const u16,
+        tallies: *mut u32,
+        piece: *const u8,
+        length: usize,
+        out: *mut u8,
+    ) -> usize;
+    pub fn esa_tracing_end(numbers: *const u64, sensors: *const u16, tallies: *const u32, out: *mut u8) -> usize;
 
     pub fn esa_diff(one: *const u8, one_length: usize, two: *const u8, two_length: usize, settings: u64, out: *mut u8) -> u64;
 

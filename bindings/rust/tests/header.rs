@@ -142,4 +142,6 @@ fn the_bounds_are_the_same() {
     assert_eq!(number(&header, "ESA_LISTING"), 4096);
     assert_eq!(number(&header, "ESA_SHEET_TEXT"), 275);
     assert_eq!(number(&header, "ESA_DIFF"), 65536);
+    assert_eq!(number(&header, "ESA_TRACE_PIECE"), 2048);
+    assert_eq!(number(&header, "ESA_TRACE_TEXT"), 65536);
 }

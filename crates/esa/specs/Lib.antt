@@ -9,3 +9,4 @@ pub mod Writing
 pub mod Sheets
 pub mod Hex
 pub mod Differences
+pub mod Traces

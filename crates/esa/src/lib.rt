@@ -14,6 +14,9 @@ ghost use Rattle.states.specs.Numbers.{settingsOf as settledOf};
 ghost use Rattle.ending.specs.Stands.{lent};
 ghost use Rattle.receiving.specs.Receiving.{PieceIs};
 ghost use Rattle.reports.specs.Face.{StartedFor as BegunFor, EndedFor};
+ghost use Rattle.metering.specs.Face.{ReadingFor};
+ghost use Rattle.tracing.specs.Calls.{PieceIs as TracePiece, EndIs as TraceEnd};
+ghost use Rattle.esa.specs.Traces.{TraceStartFor};
 ghost use Rattle.esa.specs.Settled.{chipOf, rulesOf, settingsOf};
 ghost use Rattle.esa.specs.Face.{Checked, AskedFor, PartFor};
 ghost use Rattle.esa.specs.Fields.{DescribedFor, FieldsFor};
@@ -139,6 +142,15 @@ pub extern "C" fn esa_fan(table: &[u8], zone: u8, settings: u64) -> u64
     packing::zoned(fans::in_zone(table, zone, settings_of(settings)))
 }
 
+// What a count, or of a fan or a pump the pulses in one second, means at element k. Beside 0 stands four times the reading, or 1 for under 0,
+// 2 for over 100; beside a refusal its place.
+#[no_mangle]
+pub extern "C" fn esa_reading(table: &[u8], k: usize, count: u64, settings: u64) -> u64
+    ensures { λ r. ⌜ ReadingFor (settingsOf settings) (now (table .entry)) k count r ⌝ }
+{
+    metering::packed_reading(table, k, count, settings_of(settings))
+}
+
 // A table that comes in pieces, over a state that is lent part by part: begins with no byte. 0.
 #[no_mangle]
 pub extern "C" fn esa_receiving_start(
@@ -186,6 +198,48 @@ pub extern "C" fn esa_receiving_end(
     ensures { λ r. ⌜ EndedFor (now (n .entry)) (now (first .entry)) (flags (now (zs .entry)) (now (ss .entry)) (now (zu .entry)) (now (su .entry))) (now (zp .entry)) (now (sp .entry)) r (now (n .exit)) ⌝ }
 {
     reports::end(n, first, zs, ss, zu, su, zp, sp)
+}
+
+// A trace, over a state that is lent part by part: begins, for a table by the ordinary rules. Beside 0 stands the number of elements, beside a
+// refusal its place.
+#[no_mangle]
+pub extern "C" fn esa_tracing_start(
+    n: &mut [u64; 7],
+    sensors: &mut [u16; 576],
+    tallies: &mut [u32; 480],
+    table: &[u8],
+    settings: u64,
+) -> u64
+    ensures { λ r. ⌜ TraceStartFor (chipOf settings) (now (table .entry)) (now (n .entry)) (now (sensors .entry)) (now (tallies .entry)) r (now (n .exit)) (now (sensors .exit)) (now (tallies .exit)) ⌝ }
+{
+    packing::answer(readying::start(n, sensors, tallies, table, chip_of(settings)))
+}
+
+// The next bytes, at most 2,048 of them: the length of the text.
+#[no_mangle]
+pub extern "C" fn esa_tracing_piece(
+    n: &mut [u64; 7],
+    sensors: &[u16; 576],
+    tallies: &mut [u32; 480],
+    piece: &[u8],
+    out: &mut [u8; 65536],
+) -> usize
+    ensures { λ r. ⌜ TracePiece (now (n .entry)) (now (sensors .entry)) (now (tallies .entry)) (now (piece .entry)) (now (out .entry)) r (now (n .exit)) (now (tallies .exit)) (now (out .exit)) ⌝ }
+{
+    tracing::piece(n, sensors, tallies, piece, out)
+}
+
+// No more comes: the length of the text.
+#[no_mangle]
+pub extern "C" fn esa_tracing_end(
+    n: &[u64; 7],
+    sensors: &[u16; 576],
+    tallies: &[u32; 480],
+    out: &mut [u8; 65536],
+) -> usize
+    ensures { λ r. ⌜ TraceEnd (now (n .entry)) (now (sensors .entry)) (now (tallies .entry)) (now (out .entry)) r (now (out .exit)) ⌝ }
+{
+    tracing::end(n, sensors, tallies, out)
 }
 
 // 09h: SPEED and ENTRIES of speed block j of a part.

@@ -99,7 +99,7 @@ pub fn diff(chip: Chip, files: &[String]) -> End {
 }
 
 /// 4,097 bytes are enough: a longer table answers 2 or 3 by its first byte alone, and so do these.
-fn read_table(file: &str) -> std::io::Result<Vec<u8>> {
+pub fn read_table(file: &str) -> std::io::Result<Vec<u8>> {
     let mut table = Vec::new();
     std::fs::File::open(file)?
         .take(4097)

@@ -6,6 +6,7 @@ mod options;
 mod own;
 mod rows;
 mod stream;
+mod traces;
 
 use second::{Rules, Settings};
 use std::process::ExitCode;
@@ -22,6 +23,8 @@ use: second COMMAND [--chip 320|321] [--archive] ...
   receive [BYTES]                            check the table on standard input in reports of so many bytes, 64 if
                                              it is not said
   diff ONE TWO                               the fields in which two tables differ, one line each
+  trace TABLE [TRACE]                        the counts of a trace, or of standard input, run through a table
+  lines --seed S --count N TABLE             a trace of so many lines for a table, good ones and others
   check FILE...                              number, place or count, and file, one line each
   rows --seed S --count N --max BYTES        tables in hex with their answers
   make KIND --seed S --count N DIR           tables as files; KIND is valid, mixed, controllers,
@@ -29,8 +32,8 @@ use: second COMMAND [--chip 320|321] [--archive] ...
   self --seed S --count N                    hold the program's own parts against each other
   bench                                      time the reader
 The chip is the 320 if none is named, and the rules are the ordinary ones without --archive. Tables are
-made, read and written for them; rewrite, fan, remove and pins have the ordinary rules alone, hex, unhex
-and diff the archive's.
+made, read and written for them; rewrite, fan, remove, pins, trace and lines have the ordinary rules
+alone, hex, unhex and diff the archive's.
 ";
 
 /// A command's end: good, a failure already told, or a misuse to be told with the usage.
@@ -62,13 +65,17 @@ pub fn run(arguments: &[String]) -> ExitCode {
 fn dispatch(command: &str, settings: Settings, rest: &[String]) -> End {
     match command {
         "list" => stream::list(settings, rest),
-        "rewrite" | "fan" | "remove" | "pins" if settings.rules == Rules::Archive => {
+        "rewrite" | "fan" | "remove" | "pins" | "trace" | "lines"
+            if settings.rules == Rules::Archive =>
+        {
             End::Misused(format!("'{command}' has the ordinary rules alone"))
         }
         "hex" | "unhex" | "diff" if settings.rules == Rules::Archive => {
             End::Misused(format!("'{command}' has the archive's rules always"))
         }
         "diff" => files::diff(settings.chip, rest),
+        "trace" => traces::trace(settings.chip, rest),
+        "lines" => traces::lines(settings.chip, rest),
         "rewrite" => stream::rewrite(settings.chip, rest),
         "fan" => stream::fan(settings.chip, rest),
         "remove" => stream::remove(settings.chip, rest),

@@ -21,8 +21,10 @@ pub fn own(settings: Settings, arguments: &[String]) -> End {
         let other = generator::beside(&mut random, &table, settings);
         let verdict = second::check(&table, settings);
         histogram.add(verdict.number());
-        let compared = compare(&table, settings, verdict);
-        if let Err(what) = compared.and_then(|()| side_by_side(&table, &other, settings.chip)) {
+        let compared = compare(&table, settings, verdict)
+            .and_then(|()| side_by_side(&table, &other, settings.chip))
+            .and_then(|()| traced(&mut random, &table, settings.chip));
+        if let Err(what) = compared {
             differences += 1;
             eprintln!("second: {what}: {table:02X?}");
         }
@@ -126,6 +128,19 @@ fn side_by_side(one: &[u8], two: &[u8], chip: Chip) -> Result<(), &'static str> 
         return Err("the lines and the tables without reserved places disagree");
     }
     Ok(())
+}
+
+/// A trace by numbers in pieces, and by lists and fractions in one.
+fn traced(random: &mut Random, table: &[u8], chip: Chip) -> Result<(), &'static str> {
+    let good = second::check(table, Settings::from(chip)).number() == 0;
+    let trace = match good {
+        true => generator::trace(random, table, 30),
+        false => Vec::new(),
+    };
+    match second::trace::output(table, &trace, chip) == plain::trace(table, &trace, chip) {
+        true => Ok(()),
+        false => Err("the fast and the plain trace differ"),
+    }
 }
 
 /// Each element taken out by who names it, against put together without it; and one past the last.

@@ -14,6 +14,7 @@ mod retired;
 mod sides;
 mod targeted;
 mod texts;
+mod traces;
 mod valid;
 
 use crate::random::Random;
@@ -29,6 +30,7 @@ pub use retired::{has_block_mode, only_in_the_archive};
 pub use sides::{altered, beside, Altered};
 pub use targeted::{targeted, Case};
 pub use texts::{spoil, text, texts};
+pub use traces::{edge_counts, pieces, trace};
 pub use valid::{controllers, mixed, mixed_of, valid, valid_parts};
 
 /// A table of any sort; those that are good, or were good once, are so with these settings.

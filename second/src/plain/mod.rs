@@ -12,6 +12,7 @@ mod label;
 mod listing;
 mod receiver;
 mod remove;
+mod trace;
 
 use crate::answer::{
     number, Refusal, Verdict, DESCRIPTION_LENGTH, LARGEST_TABLE, MOST_ELEMENTS, MOST_ZONES,
@@ -31,6 +32,7 @@ pub use label::label;
 pub use listing::listing;
 pub use receiver::Receiver;
 pub use remove::remove;
+pub use trace::{converted, trace};
 
 /// One element as found: where it starts, its record and its variable part.
 #[derive(Clone, Debug)]

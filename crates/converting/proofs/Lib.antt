@@ -1,0 +1,5 @@
+pub mod Rounding
+pub mod Walking
+pub mod Interval
+pub mod Only
+pub mod Rising

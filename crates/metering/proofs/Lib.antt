@@ -1,0 +1,3 @@
+pub mod Shortening
+pub mod Placing
+pub mod Only

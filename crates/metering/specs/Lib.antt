@@ -1,0 +1,2 @@
+pub mod Meters
+pub mod Face
