@@ -267,6 +267,24 @@ static void side_by_side(uint8_t *other, size_t length)
     printf("with no zone 3: table %u is refused, %u at %zu\n", esa_diff_table(answer), esa_number(answer), esa_place(answer));
 }
 
+/* A recording from the bench, cut in two: pulses of the fan twice, an element that is not there, the zone, which has no reading, and what is
+   no line. The last line has no line feed, so it is answered at the end. */
+static void recorded(void)
+{
+    static const char trace[] = "0\t0\t40\n0\t9\t1\n1\t1\t3\nno line\n2\t0\t25";
+    static struct esa_trace state;
+    static uint8_t text[ESA_TRACE_TEXT];
+    const uint8_t *bytes = (const uint8_t *)trace;
+    if (!told("a trace begins", esa_trace_start(&state, own_table, sizeof own_table, CHIP), "elements"))
+        return;
+    size_t length = esa_trace_piece(&state, bytes, 10, text);
+    printf("%.*s", (int)length, (const char *)text);
+    length = esa_trace_piece(&state, bytes + 10, sizeof trace - 11, text);
+    printf("%.*s", (int)length, (const char *)text);
+    length = esa_trace_end(&state, text);
+    printf("%.*s", (int)length, (const char *)text);
+}
+
 int main(int count, char **arguments)
 {
     uint8_t table[ESA_LONGEST + 1];
@@ -321,5 +339,8 @@ int main(int count, char **arguments)
     printf("\ntwo tables side by side\n");
     memcpy(buffer, own_table, sizeof own_table);
     side_by_side(buffer, sizeof own_table);
+
+    printf("\na recording from the bench\n");
+    recorded();
     return good ? 0 : 1;
 }

@@ -116,6 +116,28 @@ mod esa {
                 out: *mut u8,
                 room: usize,
             ) -> u64;
+            pub fn esa_tracing_start(
+                numbers: &mut [u64; 7],
+                sensors: &mut [u16; 576],
+                tallies: &mut [u32; 480],
+                table: *const u8,
+                length: usize,
+                settings: u64,
+            ) -> u64;
+            pub fn esa_tracing_piece(
+                numbers: &mut [u64; 7],
+                sensors: &[u16; 576],
+                tallies: &mut [u32; 480],
+                piece: *const u8,
+                length: usize,
+                out: &mut [u8; 65536],
+            ) -> usize;
+            pub fn esa_tracing_end(
+                numbers: &[u64; 7],
+                sensors: &[u16; 576],
+                tallies: &[u32; 480],
+                out: &mut [u8; 65536],
+            ) -> usize;
             pub fn esa_diff(
                 one: *const u8,
                 one_length: usize,
@@ -306,6 +328,49 @@ mod esa {
         match number {
             0 => Ok(text[..place].iter().map(|&byte| char::from(byte)).collect()),
             _ => Err(((answer >> 24 & 3) as u8, Refusal { number, place })),
+        }
+    }
+
+    /// A trace of raw counts, run through a table: a line for each of its lines, and then the tallies of each element.
+    pub struct Trace {
+        numbers: [u64; 7],
+        sensors: [u16; 576],
+        tallies: [u32; 480],
+    }
+
+    impl Trace {
+        /// Begins, with the number of elements beside it; or the table's refusal.
+        pub fn start(table: &[u8], chip: Chip) -> Result<(Trace, usize), Refusal> {
+            let (mut numbers, mut sensors, mut tallies) = ([0; 7], [0; 576], [0; 480]);
+            let (at, length) = (table.as_ptr(), table.len());
+            let answer = unsafe {
+                c::esa_tracing_start(&mut numbers, &mut sensors, &mut tallies, at, length, chip as u64)
+            };
+            let trace = Trace { numbers, sensors, tallies };
+            unpacked(answer).map(|elements| (trace, elements))
+        }
+
+        /// The next bytes, cut anywhere, in pieces that the library takes.
+        pub fn piece(&mut self, bytes: &[u8]) -> String {
+            bytes.chunks(2048).map(|piece| self.short_piece(piece)).collect()
+        }
+
+        fn short_piece(&mut self, piece: &[u8]) -> String {
+            let mut text = [0; 65536];
+            let (numbers, tallies) = (&mut self.numbers, &mut self.tallies);
+            let length = unsafe {
+                c::esa_tracing_piece(numbers, &self.sensors, tallies, piece.as_ptr(), piece.len(), &mut text)
+            };
+            text[..length].iter().map(|&byte| char::from(byte)).collect()
+        }
+
+        /// What is left when no more comes.
+        pub fn end(&self) -> String {
+            let mut text = [0; 65536];
+            let length = unsafe {
+                c::esa_tracing_end(&self.numbers, &self.sensors, &self.tallies, &mut text)
+            };
+            text[..length].iter().map(|&byte| char::from(byte)).collect()
         }
     }
 
@@ -586,6 +651,17 @@ fn side_by_side(other: &mut [u8]) {
     }
 }
 
+/// A recording from the bench, cut in two: pulses of the fan twice, an element that is not there, the zone, which has no reading, and what is
+/// no line. The last line has no line feed, so it is answered at the end.
+fn recorded() -> Result<(), esa::Refusal> {
+    let bytes = b"0\t0\t40\n0\t9\t1\n1\t1\t3\nno line\n2\t0\t25";
+    let (mut trace, elements) = esa::Trace::start(&own_table(), CHIP)?;
+    println!("a trace begins: good, {elements} elements");
+    print!("{}{}", trace.piece(&bytes[..10]), trace.piece(&bytes[10..]));
+    print!("{}", trace.end());
+    Ok(())
+}
+
 /// Writes a table again: the same table, but for its reserved places, which become zero.
 fn again(table: &[u8]) -> Result<(), esa::Refusal> {
     let mut out = [0; esa::LONGEST];
@@ -674,6 +750,9 @@ fn tour(table: &[u8]) -> Result<bool, esa::Refusal> {
 
     println!("\ntwo tables side by side");
     side_by_side(&mut own_table());
+
+    println!("\na recording from the bench");
+    recorded()?;
     Ok(answer.is_ok())
 }
 
