@@ -40,7 +40,11 @@ as_the_text_says() { # COMMAND NAME STATUS
     [ -s "$work/wanted" ] && [ "$status" = "$3" ] && cmp -s "$work/seen.out" "$work/wanted" || show
 }
 
+# The names of the samples that were tried.
+sampled=''
+
 sample() { # NAME STATUS
+    sampled="$sampled$1 "
     try "$1.txt has the bytes of $1.esa" same_bytes "$1"
     try "./esa check of $1 is as its text says" as_the_text_says check "$1" "$2"
     try "./esa list of $1 is as its text says" as_the_text_says list "$1" "$2"
@@ -53,7 +57,13 @@ sample_with() { # NAME STATUS OPTION STATUS
     try "./esa list $3 of $1 is as its text says" as_the_text_says "list $3" "$1" "$4"
 }
 
-fourteen_samples() {
+# Each sample is tried and has a text; and beside them stand the quiet box in Intel HEX, and a trace of it.
+every_sample() {
+    for name in $sampled; do echo "$name.esa" && echo "$name.txt"; done | cat - "$work/beside" | sort >"$work/wanted"
+    ls "$tables" | sort | cmp -s - "$work/wanted" || { ls "$tables" | sort | diff - "$work/wanted" | sed 's/^/  /'; return 1; }
+}
+
+samples() {
     [ "$(find "$tables" -type f | wc -l)" -eq 29 ]
 }
 
@@ -74,5 +84,6 @@ samples() {
     sample twice 1
     sample_with larger-chip 0 '--chip 321' 1
     sample_with old-box 1 --archive 0
-    try "fourteen sample tables with a text each, one of them as Intel HEX too, and nothing else" fourteen_samples
+    printf 'quiet-box.hex\nquiet-box.trace\n' >"$work/beside"
+    try "every sample table is tried and has a text, and nothing else stands there but the quiet box's HEX and trace" every_sample
 }
