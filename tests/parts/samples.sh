@@ -1,5 +1,5 @@
 # Part of tests/esa: the sample tables, held to the texts beside them.
-# shellcheck shell=sh disable=SC2015,SC2154
+# shellcheck shell=sh disable=SC2012,SC2015,SC2154
 
 hex_of() { # FILE
     od -An -v -tx1 "$1" | tr -d ' \n' | tr a-f A-F
