@@ -63,11 +63,23 @@ static void text(const uint8_t *table, size_t place, size_t length)
     printf("'\n");
 }
 
+/* What a count of 40 means there: of a fan the pulses in one second. Most elements have no reading. */
+static void reading(uint64_t answer)
+{
+    if (esa_number(answer) != ESA_GOOD)
+        return;
+    if (esa_reading_kind(answer) == ESA_READING)
+        printf("  a count of 40 reads %lu\n", (unsigned long)esa_reading_value(answer));
+    else
+        printf("  a count of 40 reads %s\n", esa_reading_kind(answer) == ESA_UNDER_0 ? "under 0" : "over 100");
+}
+
 static void element(const uint8_t *table, size_t length, size_t k, unsigned id)
 {
     size_t place = esa_place(esa_part(table, length, k, CHIP));
     size_t part_length = esa_part_length(table, length, k, CHIP);
     printf("element %zu, %s: a part of %zu bytes\n", k, esa_kind(id), part_length);
+    reading(esa_reading(table, length, k, 40, CHIP));
     if (id == ESA_PWM_CONTROLLER)
         speeds(table + place, part_length);
     else if (id == ESA_TACHOMETER)
@@ -106,7 +118,7 @@ static int inside(const uint8_t *table, size_t length)
     return 0;
 }
 
-/* A case with an external controller and its tachometer, a zone and a name. Gives 1 where the writer refuses. */
+/* A case with a fan, an external controller and its tachometer, a zone and a name. Gives 1 where the writer refuses. */
 static int build(uint8_t *buffer, size_t length)
 {
     static const uint8_t name[] = {1, 9, 4, 'Y', 0, 'a', 0, 'r', 0, 'd', 0};
@@ -121,8 +133,14 @@ static int build(uint8_t *buffer, size_t length)
         return 1;
     memset(numbers, 0, sizeof numbers);
     memset(numbers + 1, 0xFF, 3); /* the position is unknown */
-    numbers[4] = 1;               /* zone 1, on I2C */
-    numbers[7] = 0x20;            /* the bus address */
+    numbers[4] = 1;               /* zone 1 */
+    numbers[5] = esa_pin(0, 5);
+    numbers[6] = esa_pin(0, 6);
+    numbers[7] = 2; /* pulses a turn */
+    if (refused(esa_append(buffer, length, ESA_PWM_FAN, CHIP, numbers, NULL, 0)))
+        return 1;
+    numbers[5] = numbers[6] = 0; /* on I2C */
+    numbers[7] = 0x20;           /* the bus address */
     return refused(esa_append(buffer, length, ESA_PWM_CONTROLLER, CHIP, numbers, speed_blocks, sizeof speed_blocks)) ||
            refused(esa_append(buffer, length, ESA_TACHOMETER, CHIP, numbers, two_blocks, sizeof two_blocks)) ||
            refused(esa_append(buffer, length, ESA_ZONE, CHIP, numbers, zone, sizeof zone)) ||

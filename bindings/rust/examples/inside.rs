@@ -2,8 +2,8 @@
 //! has a pin. examples/inside/inside.c says the same from C.
 //! inside [FILE]      without FILE it looks at a table that it writes itself.
 
-use esa::{append, block, check, describe, element, entries, entry, label, pair, part, pin, sheet, start, text};
-use esa::{Chip, Claimant, Kind, Numbers, Pair, Refusal, Settings, Sheet, UNUSED_PIN};
+use esa::{append, block, check, describe, element, entries, entry, label, pair, part, pin, reading, sheet, start, text};
+use esa::{Chip, Claimant, Kind, Numbers, Pair, Reading, Refusal, Settings, Sheet, UNUSED_PIN};
 use std::process::ExitCode;
 
 /// The chip that this board carries.
@@ -49,6 +49,13 @@ fn shown(table: &[u8], k: usize) -> Result<(), Refusal> {
     let kind = element(table, k, READ)?;
     let lent = &table[part(table, k, READ)?];
     println!("element {k}, {kind}: a part of {} bytes", lent.len());
+    // What a count of 40 means there: of a fan the pulses in one second. Most elements have no reading.
+    match reading(table, k, 40, READ) {
+        Ok(Reading::Value(value)) => println!("  a count of 40 reads {value}"),
+        Ok(Reading::Under0) => println!("  a count of 40 reads under 0"),
+        Ok(Reading::Over100) => println!("  a count of 40 reads over 100"),
+        Err(_) => {}
+    }
     match kind {
         Kind::PwmController => speeds(lent)?,
         Kind::Tachometer => tachometer(lent)?,
@@ -82,13 +89,15 @@ fn inside(table: &[u8]) -> Result<(), Refusal> {
     Ok(())
 }
 
-/// A case with an external controller and its tachometer, a zone and a name.
+/// A case with a fan, an external controller and its tachometer, a zone and a name.
 fn build() -> Result<Vec<u8>, Refusal> {
     let mut buffer = vec![0; esa::LONGEST];
     let case = Numbers::new().bytes(0, [2, 1]).four(2, 41).byte(7, 25).bytes(8, [pin(3, 0), UNUSED_PIN, UNUSED_PIN]);
     start(&mut buffer, CHIP, &case)?;
-    // The position is unknown; zone 1, on I2C, and the bus address.
-    let device = Numbers::new().bytes(0, [0, 0xFF, 0xFF, 0xFF, 1]).byte(7, 0x20);
+    // The position is unknown; zone 1. A fan with two pulses a turn, and devices on I2C at one bus address.
+    let placed = Numbers::new().bytes(0, [0, 0xFF, 0xFF, 0xFF, 1]);
+    append(&mut buffer, Kind::Fan, CHIP, &placed.bytes(5, [pin(0, 5), pin(0, 6), 2]), &[])?;
+    let device = placed.byte(7, 0x20);
     append(&mut buffer, Kind::PwmController, CHIP, &device, &[5, 1, 7, 0, 12, 0, 12, 2, 7, 0, 40, 0, 8, 0, 1, 0])?;
     append(&mut buffer, Kind::Tachometer, CHIP, &device, &[1, 3, 0, 255, 0, 1, 9, 0, 4, 0])?;
     let mut zone = [0; 27];
