@@ -1,7 +1,7 @@
 # completion/esa.bash: what may stand next in a command of ./esa, for bash. Source it, as from ~/.bashrc; it serves 'esa' and './esa'.
 # tests/parts/agreeing.sh holds its commands and options to those of './esa help' and the manual page.
 
-_esa_commands='check list rewrite label fan remove pins hex unhex receive diff trace why help'
+_esa_commands='check list rewrite label fan remove pins hex unhex receive diff trace salvage why help'
 
 # The options of a command.
 _esa_options() { # COMMAND
@@ -10,7 +10,7 @@ _esa_options() { # COMMAND
     rewrite | label | fan | remove | hex | unhex | trace) echo '--chip' ;;
     pins) echo '--chip --picture' ;;
     receive) echo '--chip --report' ;;
-    diff) echo '--chip --words' ;;
+    diff | salvage) echo '--chip --words' ;;
     esac
 }
 
@@ -18,7 +18,7 @@ _esa_options() { # COMMAND
 _esa_place() { # COMMAND PLACE
     case $1,$2 in
     check,* | list,1 | rewrite,[12] | label,1 | fan,1 | remove,[13] | pins,1) echo file ;;
-    hex,[12] | unhex,[12] | receive,1 | diff,[12] | trace,[12]) echo file ;;
+    hex,[12] | unhex,[12] | receive,1 | diff,[12] | trace,[12] | salvage,[12]) echo file ;;
     why,1) echo number ;;
     esac
 }
@@ -61,7 +61,7 @@ _esa_offer() {
         else
             case $(_esa_place "$command" "$place") in
             file) _esa_files ;;
-            number) _esa_words "$(echo {0..23} 25)" ;;
+            number) _esa_words "$(echo {0..25})" ;;
             esac
         fi
         ;;

@@ -1,7 +1,7 @@
 //! A tour of the library from Rust: is a file a table, what stands in it, is there a fan in a zone, how a new one is written,
 //! which pins are taken, how it is written again and moved to Intel HEX and back; a lamp that one of the two chips has no pin for; an
 //! old sensor that the archive's rules alone take; a lamp of three colours on a chip of its own; what an element is called; how a
-//! part is taken out; and what was altered in a table.
+//! part is taken out; what was altered in a table; and what can be saved of a damaged one.
 //! tour [FILE]      without FILE it looks at a table of its own. On x86-64:
 //! rt staticlib esa && rustc --edition 2021 -L target/staticlib -l static=esa examples/rust/tour.rs
 
@@ -145,6 +145,14 @@ mod esa {
                 two_length: usize,
                 settings: u64,
                 out: &mut [u8; 65536],
+            ) -> u64;
+            pub fn esa_salvage(
+                file: *const u8,
+                length: usize,
+                settings: u64,
+                out: *mut u8,
+                room: usize,
+                lines: &mut [u8; 32768],
             ) -> u64;
             pub fn esa_remove(table: *mut u8, length: usize, k: usize, settings: u64) -> u64;
             pub fn esa_hex(
@@ -374,6 +382,21 @@ mod esa {
         }
     }
 
+    /// What can be saved of a damaged table, and a line for each change.
+    pub fn salvage(file: &[u8], chip: Chip) -> Result<(Vec<u8>, String), Refusal> {
+        let (mut out, mut lines) = ([0; LONGEST], [0; 32768]);
+        let (at, length) = (file.as_ptr(), file.len());
+        let answer = unsafe {
+            c::esa_salvage(at, length, chip as u64, out.as_mut_ptr(), out.len(), &mut lines)
+        };
+        let (number, place) = (answer as u8, (answer >> 8 & 0xFFFF) as usize);
+        let text = &lines[..(answer >> 24) as usize];
+        match number {
+            0 => Ok((out[..place].to_vec(), text.iter().map(|&byte| char::from(byte)).collect())),
+            _ => Err(Refusal { number, place }),
+        }
+    }
+
     /// The listing: a line for the table and one for each element, or the refusal.
     pub fn list(table: &[u8], settings: Settings) -> String {
         let mut text = [0; 4096];
@@ -429,6 +452,7 @@ fn words(number: u8) -> &'static str {
         21 => "a line that is not Intel HEX as it is taken here",
         22 => "something still names it",
         23 => "a bus type that is retired",
+        24 => "the description itself cannot be saved",
         25 => "a number is too large for its field",
         _ => "a number that no call gives",
     }
@@ -662,6 +686,18 @@ fn recorded() -> Result<(), esa::Refusal> {
     Ok(())
 }
 
+/// A damaged table: the zone's identifier is lost, and with it the zone of the fan; then the device type too, and nothing can be saved.
+fn damaged(table: &mut [u8]) {
+    table[32] = 0x4B;
+    if let Ok((saved, lines)) = esa::salvage(table, CHIP) {
+        println!("what is left: {} bytes", saved.len());
+        print!("{lines}");
+    }
+    table[3] = 9;
+    let left = esa::salvage(table, CHIP).map(|(saved, _)| saved.len());
+    let _ = told("with device type 9", left, "bytes");
+}
+
 /// Writes a table again: the same table, but for its reserved places, which become zero.
 fn again(table: &[u8]) -> Result<(), esa::Refusal> {
     let mut out = [0; esa::LONGEST];
@@ -753,6 +789,8 @@ fn tour(table: &[u8]) -> Result<bool, esa::Refusal> {
 
     println!("\na recording from the bench");
     recorded()?;
+    println!("\na damaged table");
+    damaged(&mut own_table());
     Ok(answer.is_ok())
 }
 

@@ -111,7 +111,7 @@ completed() {
     try "a picture" offers 'good.esa' esa pins --picture go
     try "an option behind the picture" offers '--chip' esa pins --picture new.svg -
     try "the bytes of a report" offers '64' esa receive --report ''
-    try "numbers that begin so" offers '2 20 21 22 23 25' esa why 2
+    try "numbers that begin so" offers '2 20 21 22 23 24 25' esa why 2
     try "one number" offers '' esa why 13 ''
     try "nothing behind help" offers '' esa help ''
     try "bash has it for esa" eval 'bash -c ". \"$completion\" && complete -p esa" | grep -q -- "-F _esa esa"'

@@ -3,7 +3,7 @@
 # shellcheck shell=sh disable=SC2015,SC2016,SC2046,SC2086,SC2154
 
 # The commands that write OUT, and those that only read.
-writers='rewrite remove hex unhex pins'
+writers='rewrite remove hex unhex pins salvage'
 readers='check list label fan pins receive diff trace'
 
 # The words of a command that reads FILE and writes OUT; without OUT it only reads. (No name here has a blank.)

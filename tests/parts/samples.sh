@@ -64,10 +64,6 @@ every_sample() {
 }
 
 samples() {
-    [ "$(find "$tables" -type f | wc -l)" -eq 29 ]
-}
-
-samples() {
     sample quiet-box 0
     sample every-kind 0
     sample water-kit 0
@@ -82,6 +78,7 @@ samples() {
     sample blank 1
     sample lamp 1
     sample twice 1
+    sample damaged 1
     sample_with larger-chip 0 '--chip 321' 1
     sample_with old-box 1 --archive 0
     printf 'quiet-box.hex\nquiet-box.trace\n' >"$work/beside"

@@ -32,6 +32,7 @@
 //! | read inside a variable part | [`block`], [`pair`], [`entries`], [`entry`], [`colours`], [`colour`] |
 //! | see which pins are free | [`sheet`], [`sheet_forward`], [`sheet_text`] |
 //! | hold two tables side by side | [`diff`] |
+//! | save what can be saved of a damaged one | [`salvage`] |
 //! | run counts from the bench through one | [`reading`] of one count, [`Trace`] of a recording |
 //! | write one | [`start`], [`append`], [`rewrite`], [`remove`] |
 //! | move one to Intel HEX and back | [`hex`], [`unhex`] |
@@ -47,7 +48,6 @@ mod numbers;
 mod raw;
 mod reading;
 mod receiving;
-#[cfg(feature = "salvage")]
 mod salvaging;
 mod settings;
 mod sheets;
@@ -62,7 +62,6 @@ pub use moving::{hex, unhex, LONGEST_TEXT};
 pub use numbers::{pin, Numbers, UNUSED_PIN};
 pub use reading::{check, describe, element, fan, fields, label, list, part, part_length, text, Fan, Label};
 pub use receiving::Receiving;
-#[cfg(feature = "salvage")]
 pub use salvaging::{salvage, Saved};
 pub use settings::{Chip, Rules, Settings};
 pub use sheets::{sheet, sheet_forward, sheet_text, Claimant, Sheet};

@@ -72,6 +72,8 @@ extern "C" {
 
     pub fn esa_diff(one: *const u8, one_length: usize, two: *const u8, two_length: usize, settings: u64, out: *mut u8) -> u64;
 
+    pub fn esa_salvage(file: *const u8, length: usize, settings: u64, out: *mut u8, room: usize, lines: *mut u8) -> u64;
+
     pub fn esa_start(buffer: *mut u8, length: usize, settings: u64, numbers: *const u8) -> u64;
     pub fn esa_append(
         buffer: *mut u8,

@@ -18,6 +18,15 @@ pub struct Saved {
 /// Saves what can be saved of any bytes, of which the first 4,096 count: the front of `out` is then a table that is accepted. Or 24
 /// at 0 when the description itself cannot be saved; or 16 at 0 when `out` is shorter than the new table. With a refusal no byte of
 /// `out` alters.
+///
+/// ```
+/// let damaged = std::fs::read("../../tables/damaged.esa")?;
+/// let mut out = [0; esa::LONGEST];
+/// let saved = esa::salvage(&damaged, Default::default(), &mut out).unwrap();
+/// assert!(esa::check(&out[..saved.length], Default::default()).is_ok());
+/// assert!(saved.lines.starts_with("102\t7\tleft out\n"));
+/// # Ok::<(), std::io::Error>(())
+/// ```
 pub fn salvage(file: &[u8], chip: Chip, out: &mut [u8]) -> Result<Saved, Refusal> {
     let mut text = vec![0; LINES];
     let (at, room, lines) = (out.as_mut_ptr(), out.len(), text.as_mut_ptr());

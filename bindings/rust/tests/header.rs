@@ -144,4 +144,5 @@ fn the_bounds_are_the_same() {
     assert_eq!(number(&header, "ESA_DIFF"), 65536);
     assert_eq!(number(&header, "ESA_TRACE_PIECE"), 2048);
     assert_eq!(number(&header, "ESA_TRACE_TEXT"), 65536);
+    assert_eq!(number(&header, "ESA_SALVAGE_LINES"), 32768);
 }

@@ -1,0 +1,14 @@
+pub mod Rows
+pub mod Sifting
+pub mod Clearing
+pub mod Alike
+pub mod Standing
+pub mod Reading
+pub mod Choosing
+pub mod Mending
+pub mod Bounds
+pub mod Texts
+pub mod Keeping
+pub mod Whole
+pub mod Kept
+pub mod Theorems
