@@ -16,11 +16,15 @@ use Rattle.format.specs.ZonesAndStrings.{Role, role, zoneDeclared, stringDeclar
 use Rattle.format.specs.Table.{elementBreaks, PassKept}
 use Rattle.format.specs.declared.settings.Settings.{Settings}
 use Rattle.format.proofs.Slots.{roomy-split, roomy-join}
-use Rattle.saving.proofs.Clearing.{Alike}
+use Rattle.saving.proofs.Clearing.{Alike, alike-same}
 
 pub data EachAlike : List Record → List Record → Type 0 where
   no-more : EachAlike [] []
   one-more : {s r : Record} {ss rs : List Record} → Alike s r → EachAlike ss rs → EachAlike (s ∷ ss) (r ∷ rs)
+
+pub alike-all : (rs : List Record) → EachAlike rs rs
+alike-all [] = no-more
+alike-all (r ∷ rs) = one-more (alike-same r) (alike-all rs)
 
 pub alike-append : {ss rs ss′ rs′ : List Record} → EachAlike ss rs → EachAlike ss′ rs′ → EachAlike (ss ++ ss′) (rs ++ rs′)
 alike-append no-more q = q

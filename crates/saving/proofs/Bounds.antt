@@ -85,10 +85,11 @@ first-one declared d =
 pub zoned-lines : (σ : Settings) (b : List ℕ) → count (inZones σ b) ≤ length (elements b)
 zoned-lines σ b =
     let s = passed σ b in
+    let zs = zones (records (s .kept)) in
     omega (
       arith,
       sift-count (byPass σ) (plain-pass σ) (saved [] []) (elements b),
-      sift-count (byZone (zones (records (s .kept)))) (λ kept r. plain-chosen (inZone (zones (records (s .kept))) kept r) r 13) (saved [] (s .lines)) (s .kept),
+      sift-count (byZone zs) (λ kept r. plain-chosen (inZone zs kept r) r 13) (saved [] (s .lines)) (s .kept),
     )
 
 -- 14 and 15: at most two lines for each that is kept, or it is left

@@ -1,7 +1,7 @@
 -- Leaving out by a test against those kept so far, as 13 and 15 do: what is left is a part, and has what the test brings.
 -- Assumes nothing.
 use Prim.Native.Nat.{ℕ}
-use mathlib.Core.Path.{_≡_, refl, sym, _∙_, ap}
+use mathlib.Core.Path.{_≡_, refl, sym, _∙_}
 use mathlib.Core.Bool.{Bool, true, false, cond}
 use mathlib.Core.List.{List, [], _∷_, _++_, append-nil, append-assoc}
 use lib.Seq.{append-snoc}
@@ -17,7 +17,7 @@ use Rattle.saving.proofs.Sifting.{by-test, sift-through}
 use Rattle.saving.proofs.Reading.{records-append}
 
 -- one more
-record-snoc : (ks : List (At Record)) (k : At Record) → records (ks ++ k ∷ []) ≡ records ks ++ k .what ∷ []
+pub record-snoc : (ks : List (At Record)) (k : At Record) → records (ks ++ k ∷ []) ≡ records ks ++ k .what ∷ []
 record-snoc ks k = records-append ks (k ∷ [])
 
 module _ (test : List Record → Record → Bool) (number : ℕ) where
@@ -46,7 +46,10 @@ module _ (test : List Record → Record → Bool) (number : ℕ) where
 
   -- what each record that is kept brings along
   module _ (P : List Record → Type 0) (step : (kept : List Record) (r : Record) → P kept → test kept r ≡ true → P (kept ++ r ∷ [])) where
-    step-at : (s : Saved) (x : At Record) → P (records (s .kept)) → P (records (settled s (x .place) (chosen (records (s .kept)) (x .what)) .kept))
+    step-at :
+        (s : Saved) (x : At Record)
+        → P (records (s .kept))
+        → P (records (settled s (x .place) (chosen (records (s .kept)) (x .what)) .kept))
     step-at s x p =
         chosen-cases (λ t. P (records (t .kept))) s x (λ e. rw (record-snoc (s .kept) x) (step (records (s .kept)) (x .what) p e)) (λ e. p)
 
@@ -54,7 +57,8 @@ module _ (test : List Record → Record → Bool) (number : ℕ) where
     choose-holds ls xs p = sift-through chosen (λ s ys. P (records (s .kept))) (λ s y ys q. step-at s y q) (saved [] ls) xs p
 
     -- numbers that nothing left out has are all there
-    module _ (numbers : Role → List ℕ) (bare : (kept : List Record) (r : Record) → P kept → test kept r ≡ false → numbers (role r) ≡ []) where
+    module _ (numbers : Role → List ℕ)
+        (bare : (kept : List Record) (r : Record) → P kept → test kept r ≡ false → numbers (role r) ≡ []) where
       abbrev gathers : Saved → List (At Record) → List ℕ
       gathers s ys = gathered numbers (records (s .kept)) ++ gathered numbers (records ys)
 

@@ -4,12 +4,12 @@
 use Prim.Native.Nat.{ℕ, zero, suc}
 use mathlib.Core.Path.{_≡_, refl, sym, _∙_, ap}
 use mathlib.Core.Bool.{true, false≢true}
-use mathlib.Core.List.{List, [], _∷_, _++_, map}
+use mathlib.Core.List.{List, [], _∷_, map}
 use lib.ListN.{length, set, length-set}
 use Rattle.format.specs.Slots.{Slot, whole, roomy, allRoomy}
 use Rattle.format.specs.Records.{Record, digital, analogue, fan, led, water, pump, voltage, current, controller, tachometer, zone, string, external, rgb, zoneNumber, zoneString}
 use Rattle.format.specs.Layout.{layout}
-use Rattle.format.specs.Rules.{Rule, ownRules}
+use Rattle.format.specs.Rules.{ownRules}
 use Rattle.format.specs.FanList.{fanPins}
 use Rattle.format.specs.Claims.{claimsOf}
 use Rattle.format.specs.ZonesAndStrings.{Role, placed, zoning, naming, role, zoneDeclared, stringDeclared, zoneNamed, stringNamed}

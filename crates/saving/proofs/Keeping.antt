@@ -3,11 +3,11 @@
 use Prim.Native.Nat.{ℕ, _+_, _≤_}
 use native.Mathlib.Omega.{arith}
 use mathlib.Core.Path.{_≡_, refl, sym, _∙_, ap}
-use mathlib.Core.Bool.{Bool, true, false, false≢true, true≢false}
-use mathlib.Core.List.{List, [], _∷_, _++_, append-nil, map}
+use mathlib.Core.Bool.{true, false, false≢true, true≢false}
+use mathlib.Core.List.{List, [], _∷_, _++_, append-nil}
 use mathlib.Core.Logic.{_⊎_, inl, inr, ⊎-elim}
 use mathlib.Core.Option.{Option, none, some}
-use lib.ListN.{length, drop, length-drop}
+use lib.ListN.{length, length-drop}
 use Rattle.format.specs.Slots.{allRoomy, Bytes}
 use Rattle.format.specs.Records.{Record, digital, analogue, fan, led, water, pump, voltage, current, controller, tachometer, zone, string, external, rgb}
 use Rattle.format.specs.Layout.{opening, layouts}
@@ -26,23 +26,23 @@ use Rattle.removal.proofs.Parts.{part-length, part-slots, part-numbers, part-ro
 use Rattle.removal.proofs.Among.{In, Within, in-one, in-cases, all-within, part-within}
 use Rattle.removal.proofs.Passing.{part-passed}
 use Rattle.removal.proofs.Naming.{zoned-exactly, named-exactly}
-use Rattle.saving.specs.Saving.{At, isNone, Saved, records, zoned, stringIndexes, mendedDescription, firstLine, named, unclashed, passed, inZones, ending}
+use Rattle.saving.specs.Saving.{isNone, Saved, records, zoned, stringIndexes, mendedDescription, firstLine, named, unclashed, passed, inZones, ending}
 use Rattle.saving.proofs.Alike.{EachAlike, no-more, alike-gathered, alike-length, alike-roomy, alike-passed}
-use Rattle.saving.proofs.Reading.{PassSaved, pass-saved}
+use Rattle.saving.proofs.Reading.{pass-saved}
 use Rattle.saving.proofs.Choosing.{choose-holds, choose-gathered, part-records, inZone, clashless, zoned-part, unclashed-part}
-use Rattle.saving.proofs.Mending.{mendedAt, mended-kept, each-alike, all-named, mended-described, mended-claims, mended-opening, mended-string}
+use Rattle.saving.proofs.Mending.{mended-kept, each-alike, all-named, mended-described, mended-claims, mended-opening, mended-string}
 
 pub none-is : (o : Option ℕ) → isNone o ≡ true → o ≡ none
 none-is none h = refl
 none-is (some k) h = absurd (false≢true h)
 
 -- 13: what has no declared zone declares none, so that all that were declared still are
-bare-zone : (declared : List ℕ) (p : Role) → allAmong (zoneNamed p) declared ≡ false → zoneDeclared p ≡ []
+pub bare-zone : (declared : List ℕ) (p : Role) → allAmong (zoneNamed p) declared ≡ false → zoneDeclared p ≡ []
 bare-zone declared (placed p) e = refl
 bare-zone declared (zoning bytes) e = absurd (true≢false e)
 bare-zone declared (naming bytes) e = refl
 
-within-snoc :
+pub within-snoc :
     (numbers : Role → List ℕ) (kept : List Record) (r : Record) (ys : List ℕ)
     → Within (gathered numbers kept) ys
     → Within (numbers (role r)) ys
@@ -54,14 +54,19 @@ pub zones-declared : (s : Saved) → Within (zonesNamed (records (zoned s .kept)
 zones-declared s =
     let zs = zones (records (s .kept)) in
     let same : zones (records (zoned s .kept)) ≡ zs =
-    choose-gathered (inZone zs) 13 (λ kept. Unit {0}) (λ kept r k e. tt) zoneDeclared (λ kept r k e. bare-zone zs (role r) e) (s .lines) (s .kept) tt in
+    choose-gathered (inZone zs) 13 (λ kept. Unit {0}) (λ kept r k e. tt) zoneDeclared (λ kept r k e. bare-zone zs (role r) e)
+    (s .lines) (s .kept) tt in
     rw same
     (choose-holds (inZone zs) 13 (λ kept. Within (zonesNamed kept) zs)
     (λ kept r w e. within-snoc zoneNamed kept r zs w (all-within (zoneNamed (role r)) zs e))
     (s .lines) (s .kept) (λ x i. absurd (false≢true i)))
 
 -- 15: what is in no zone claims no pin, so that zone descriptors and strings all stay
-unclaiming : (numbers : Role → List ℕ) → ((p : Placement) → numbers (placed p) ≡ []) → (r : Record) → (numbers (role r) ≡ []) ⊎ (claimsOf r ≡ [])
+unclaiming :
+    (numbers : Role → List ℕ)
+    → ((p : Placement) → numbers (placed p) ≡ [])
+    → (r : Record)
+    → (numbers (role r) ≡ []) ⊎ (claimsOf r ≡ [])
 unclaiming numbers bare (digital d) = inl (bare (d .placement))
 unclaiming numbers bare (analogue a) = inl (bare (a .placement))
 unclaiming numbers bare (fan f) = inl (bare (f .placement))
@@ -85,7 +90,18 @@ module _ (d : Description) where
 
   pub clear-kept : (s : Saved) → contested d [] ≡ none → contested d (records (unclashed d s .kept)) ≡ none
   clear-kept s h =
-      choose-holds (clashless d) 15 (λ kept. contested d kept ≡ none) (λ kept r k e. none-is (contested d (kept ++ r ∷ [])) e) (s .lines) (s .kept) h
+      choose-holds (clashless d) 15 (λ kept. contested d kept ≡ none) (λ kept r k e. none-is (contested d (kept ++ r ∷ [])) e)
+      (s .lines) (s .kept) h
+
+  pub clashing-bare :
+      (numbers : Role → List ℕ)
+      → ((p : Placement) → numbers (placed p) ≡ [])
+      → (kept : List Record) (r : Record)
+      → contested d kept ≡ none
+      → clashless d kept r ≡ false
+      → numbers (role r) ≡ []
+  clashing-bare numbers bare kept r k e =
+      ⊎-elim (λ n. n) (λ c. absurd (true≢false (sym (ap isNone (clear-snoc kept r c ∙ k)) ∙ e))) (unclaiming numbers bare r)
 
   pub clear-gathered :
       (numbers : Role → List ℕ)
@@ -95,12 +111,10 @@ module _ (d : Description) where
       → gathered numbers (records (unclashed d s .kept)) ≡ gathered numbers (records (s .kept))
   clear-gathered numbers bare s h =
       choose-gathered (clashless d) 15 (λ kept. contested d kept ≡ none) (λ kept r k e. none-is (contested d (kept ++ r ∷ [])) e) numbers
-      (λ kept r k e.
-      ⊎-elim (λ n. n) (λ c. absurd (true≢false (sym (ap isNone (clear-snoc kept r c ∙ k)) ∙ e))) (unclaiming numbers bare r))
-      (s .lines) (s .kept) h
+      (λ kept r k e. clashing-bare numbers bare kept r k e) (s .lines) (s .kept) h
 
 -- 14: the description's index and the elements'
-named-within :
+pub named-within :
     (e : Description) (declared : List ℕ) {out mid : List Record}
     → Part Record out mid
     → In (e .string) (0 ∷ declared)

@@ -1,25 +1,24 @@
 -- What is kept is a part of what stood there, in order, each record as it was or with its string index cleared.
 -- Assumes nothing.
 use Prim.Native.Nat.{ℕ, zero, suc, _+_}
-use mathlib.Core.Path.{_≡_, refl, sym, _∙_, ap, subst}
+use mathlib.Core.Path.{_≡_, refl, _∙_, ap, subst}
 use mathlib.Core.List.{List, [], _∷_, _++_, map}
 use mathlib.Core.Logic.{_⊎_, inl, inr}
 use lib.ListN.{length, drop}
 use lib.Seq.{drop-drop}
-use Rattle.format.specs.Slots.{Bytes, byte}
+use Rattle.format.specs.Slots.{Bytes}
 use Rattle.format.specs.Records.{Record}
 use Rattle.format.specs.ZonesAndStrings.{role, stringNamed, allAmong}
 use Rattle.format.specs.Verdict.{stated, framed, Stands}
-use Rattle.format.specs.Writing.{writing}
 use Rattle.format.specs.declared.pins.Chip.{Chip}
 use Rattle.format.specs.declared.records.Description.{Description}
 use Rattle.format.specs.declared.settings.Settings.{Settings}
 use Rattle.removal.specs.Parts.{Part, done, keep, leave}
-use Rattle.saving.specs.Saving.{At, standing, elements, Saved, records, unindexed, stringIndexes, firstLine, passed, zoned, named, inZones, ending}
+use Rattle.saving.specs.Saving.{At, standing, elements, unindexed, stringIndexes, firstLine, passed, named, inZones, ending}
 use Rattle.saving.proofs.Sifting.{All, by-test}
 use Rattle.saving.proofs.Reading.{Reads, nothing, reads, passes-over, pass-saved}
 use Rattle.saving.proofs.Choosing.{zoned-part, unclashed-part}
-use Rattle.saving.proofs.Mending.{mended, mendedAt, mended-kept}
+use Rattle.saving.proofs.Mending.{mendedAt, mended-kept}
 
 -- the elements are the table's bytes from their places on
 pub elements-there : (b : List ℕ) → All (λ x. x .what ≡ drop (x .place) b) (elements b)
@@ -55,8 +54,9 @@ together :
 together c is nothing done done = no-more
 together c is (passes-over r) q p = left (together c is r q p)
 together c is (reads {k = k} e s r) (keep q) (keep p) =
-    kept (k .what) s e
-    (by-test (λ m. (m ≡ k .what) ⊎ (m ≡ unindexed (k .what))) (allAmong (stringNamed (role (k .what))) is) (k .what) (unindexed (k .what)) (λ t. inl refl) (λ t. inr refl))
+    let a = k .what in
+    kept a s e
+    (by-test (λ m. (m ≡ a) ⊎ (m ≡ unindexed a)) (allAmong (stringNamed (role a)) is) a (unindexed a) (λ t. inl refl) (λ t. inr refl))
     (together c is r q p)
 together c is (reads e s r) (keep q) (leave p) = left (together c is r q p)
 together c is (reads e s r) (leave q) p = left (together c is r q p)
@@ -68,4 +68,6 @@ kept-part σ b d small =
     let z = inZones σ b in
     let is = stringIndexes z in
     together (σ .chip) is (pass-saved σ b small .there) (zoned-part s)
-    (subst (λ (l : List (At Record)). Part (At Record) (ending d z .kept) l) (mended-kept is (z .lines ++ firstLine is d) (z .kept)) (unclashed-part d (named d z)))
+    (subst (λ (l : List (At Record)). Part (At Record) (ending d z .kept) l)
+    (mended-kept is (z .lines ++ firstLine is d) (z .kept))
+    (unclashed-part d (named d z)))

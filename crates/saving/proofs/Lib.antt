@@ -1,4 +1,4 @@
-pub mod Rows
+pub mod Answers
 pub mod Sifting
 pub mod Clearing
 pub mod Alike
@@ -11,4 +11,8 @@ pub mod Texts
 pub mod Keeping
 pub mod Whole
 pub mod Kept
+pub mod First
+pub mod Stages
+pub mod Passing
+pub mod Repaired
 pub mod Theorems

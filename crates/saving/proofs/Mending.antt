@@ -2,7 +2,7 @@
 -- Assumes nothing.
 use Prim.Native.Nat.{ℕ, _+_, _≤_}
 use native.Mathlib.Omega.{arith}
-use mathlib.Core.Path.{_≡_, refl, sym, _∙_}
+use mathlib.Core.Path.{_≡_, refl}
 use mathlib.Core.Bool.{Bool, true, false, cond, false≢true}
 use mathlib.Core.List.{List, [], _∷_, _++_, append-nil, map}
 use mathlib.Core.Logic.{⊎-elim}
@@ -32,7 +32,9 @@ module _ (declared : List ℕ) where
   mendedAt k = atPlace (k .place) (mended (k .what))
 
   -- what `named` keeps
-  kept-one : (s : Saved) (p : ℕ) (t : Bool) (r q : Record) → settled s p (cond t (stays r) (mends q)) .kept ≡ s .kept ++ atPlace p (cond t r q) ∷ []
+  kept-one :
+      (s : Saved) (p : ℕ) (t : Bool) (r q : Record)
+      → settled s p (cond t (stays r) (mends q)) .kept ≡ s .kept ++ atPlace p (cond t r q) ∷ []
   kept-one s p true r q = refl
   kept-one s p false r q = refl
 
@@ -46,11 +48,15 @@ module _ (declared : List ℕ) where
       rw append-nil at h
 
   -- .. with at most a line each
-  lines-one : (s : Saved) (p : ℕ) (t : Bool) (r q : Record) → length (settled s p (cond t (stays r) (mends q)) .lines) ≤ length (s .lines) + 1
+  lines-one :
+      (s : Saved) (p : ℕ) (t : Bool) (r q : Record)
+      → length (settled s p (cond t (stays r) (mends q)) .lines) ≤ length (s .lines) + 1
   lines-one s p true r q = omega arith
   lines-one s p false r q = omega (arith, length-append (s .lines) (line p 14 cleared ∷ []))
 
-  pub mended-lines : (ls : List Line) (xs : List (At Record)) → length (sift (byString declared) (saved [] ls) xs .lines) ≤ length ls + length xs
+  pub mended-lines :
+      (ls : List Line) (xs : List (At Record))
+      → length (sift (byString declared) (saved [] ls) xs .lines) ≤ length ls + length xs
   mended-lines ls xs =
       let h =
       sift-through (byString declared) (λ s ys. length (s .lines) + length ys ≤ length ls + length xs)
@@ -96,15 +102,17 @@ pub all-named :
     (declared : List ℕ) (xs : List (At Record)) → Within (gathered stringNamed (records (map (mendedAt (0 ∷ declared)) xs))) (0 ∷ declared)
 all-named declared [] x i = absurd (false≢true i)
 all-named declared (k ∷ ks) x i =
+    let here = stringNamed (role (mended (0 ∷ declared) (k .what))) in
     ⊎-elim (mended-named declared (k .what) x) (all-named declared ks x)
-    (in-cases x (stringNamed (role (mended (0 ∷ declared) (k .what)))) (gathered stringNamed (records (map (mendedAt (0 ∷ declared)) ks))) i)
+    (in-cases x here (gathered stringNamed (records (map (mendedAt (0 ∷ declared)) ks))) i)
 
 -- the description, with its index as it was or 0: its rules, its claims and its room stay
 module _ (declared : List ℕ) (d : Description) where
   pub mended-described : (c : Chip) → descriptionBreaks c (mendedDescription declared d) ≡ descriptionBreaks c d
   unfolding descriptionRules
   mended-described c =
-      by-test (λ e. descriptionBreaks c e ≡ descriptionBreaks c d) (among (d .string) declared) d (unindexedDescription d) (λ e. refl) (λ e. refl)
+      by-test (λ e. descriptionBreaks c e ≡ descriptionBreaks c d) (among (d .string) declared) d (unindexedDescription d)
+      (λ e. refl) (λ e. refl)
 
   pub mended-claims : (rs : List Record) → contested (mendedDescription declared d) rs ≡ contested d rs
   mended-claims rs =

@@ -1,18 +1,17 @@
 -- What the pass keeps: records that stand there, in order, no 97th, which break none of its rules against those kept before.
 -- Assumes nothing.
-use Prim.Native.Nat.{ℕ, zero, suc, _+_, _≤_, _<_}
+use Prim.Native.Nat.{ℕ, zero, suc, _+_, _≤_}
 use native.Mathlib.Omega.{arith}
 use mathlib.Core.Path.{_≡_, refl, sym, _∙_, ap}
 use mathlib.Core.Bool.{Bool, true, false, cond}
 use mathlib.Core.List.{List, [], _∷_, _++_, append-nil}
-use mathlib.Core.Option.{none}
 use lib.ListN.{length, drop, length-append, length-drop}
 use lib.Seq.{append-snoc}
 use lib.Dec.{ltb}
-use Rattle.format.specs.Slots.{Starts, Bytes, allRoomy}
+use Rattle.format.specs.Slots.{Bytes, allRoomy}
 use Rattle.format.specs.Records.{Record}
 use Rattle.format.specs.Layout.{layout, layouts}
-use Rattle.format.specs.Table.{elementBreaks, PassKept}
+use Rattle.format.specs.Table.{PassKept}
 use Rattle.format.specs.Verdict.{stated, framed, Stands}
 use Rattle.format.specs.Reader.{Outcome, took, stop, step}
 use Rattle.format.specs.declared.pins.Chip.{Chip}

@@ -7,7 +7,7 @@ use mathlib.Core.Bool.{Bool, true, false, cond}
 use mathlib.Core.List.{List, [], _∷_, _++_}
 use lib.ListN.{length, length-append}
 use Rattle.format.specs.Records.{Record}
-use Rattle.saving.specs.Saving.{At, Line, line, left-out, Saved, records, Fate, stays, leaves, mends, unseen, settled, sift}
+use Rattle.saving.specs.Saving.{At, line, left-out, Saved, records, Fate, stays, leaves, mends, unseen, settled, sift}
 
 -- what holds of the choice that a test makes
 pub by-test : {A : Type 0} (Q : A → Type 0) (t : Bool) (a b : A) → (t ≡ true → Q a) → (t ≡ false → Q b) → Q (cond t a b)

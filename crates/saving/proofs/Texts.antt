@@ -2,7 +2,7 @@
 -- Assumes nothing.
 use Prim.Native.Nat.{ℕ, _+_, _*_, _/_, _≤_, _<_}
 use native.Mathlib.Omega.{arith}
-use mathlib.Core.Path.{_≡_, refl, ap}
+use mathlib.Core.Path.{_≡_, refl}
 use mathlib.Core.Bool.{Bool, true, false, cond}
 use mathlib.Core.List.{List, [], _∷_, _++_, append-nil}
 use mathlib.Core.Option.{Option, none, some}
@@ -16,14 +16,14 @@ use Rattle.format.specs.Rules.{Rule, unlessKept, firstBroken, ownRules}
 use Rattle.format.specs.ZonesAndStrings.{role, zones, stringNamed, allAmong, rulesAgainst}
 use Rattle.format.specs.Verdict.{framed, known}
 use Rattle.format.specs.Decode.{readDescription, decode, content}
-use Rattle.format.specs.Reader.{Outcome, took, stop, orStop, unlessBroken, judge, step}
+use Rattle.format.specs.Reader.{Outcome, orStop, unlessBroken, judge, step}
 use Rattle.format.specs.Writing.{writing}
 use Rattle.format.specs.declared.pins.Chip.{Chip}
 use Rattle.format.specs.declared.settings.Settings.{Settings}
 use Rattle.format.specs.declared.records.Description.{Description}
 use Rattle.format.proofs.Slots.{bytes-take}
 use Rattle.spelling.specs.Spelling.{digit, digitAt, decimal}
-use Rattle.saving.specs.Saving.{taken, At, atPlace, elements, Change, left-out, cleared, Line, line, Saved, saved, records, Fate, stays, leaves, mends, unseen, settled, sift, answered, byPass, passed, byZone, zoned, unindexed, stringIndexes, firstLine, byString, named, byClaim, unclashed, inZones, ending}
+use Rattle.saving.specs.Saving.{taken, At, atPlace, elements, Change, left-out, cleared, Line, line, Saved, saved, records, Fate, stays, leaves, mends, unseen, settled, sift, answered, byPass, passed, byZone, unindexed, stringIndexes, firstLine, byString, named, byClaim, inZones, ending}
 use Rattle.saving.specs.Lines.{changeText, lineText, textOf, newText}
 use Rattle.saving.proofs.Sifting.{All, all-snoc, by-test, sift-through}
 use Rattle.saving.proofs.Standing.{Before, standing-before}
@@ -67,7 +67,8 @@ small-broken r (q ∷ rs) h = go (q .kept) (small-broken r rs (h .1))
 small-judged : (σ : Settings) (kept : List Record) (o : Option Record) → SmallFate (answered (judge σ kept o))
 small-judged σ kept none = omega arith
 small-judged σ kept (some r) =
-    small-broken r (ownRules σ r ++ rulesAgainst kept r) (small-append (ownRules σ r) (rulesAgainst kept r) (own-small σ r) (against-small kept r))
+    small-broken r (ownRules σ r ++ rulesAgainst kept r)
+    (small-append (ownRules σ r) (rulesAgainst kept r) (own-small σ r) (against-small kept r))
 
 small-or : (t : Bool) (k : ℕ) (o : Outcome) → k < 100 → SmallFate (answered o) → SmallFate (answered (orStop t k o))
 small-or true k o h f = f
@@ -117,7 +118,9 @@ fine-sift :
     → Fine (sift fate s xs)
 fine-sift fate small s xs h g =
     sift-through fate (λ t ys. All (Before 4096) ys × Fine t)
-    (λ t y ys p. (p .0 .1, fine-settled t (y .place) (fate (records (t .kept)) (y .what)) (p .0 .0) (small (records (t .kept)) (y .what)) (p .1)))
+    (λ t y ys p.
+    let ks = records (t .kept) in
+    (p .0 .1, fine-settled t (y .place) (fate ks (y .what)) (p .0 .0) (small ks (y .what)) (p .1)))
     s xs (h, g) .1
 
 first-fine : (declared : List ℕ) (d : Description) (ls : List Line) → All Lined ls → All Lined (ls ++ firstLine declared d)
@@ -133,15 +136,18 @@ lines-fine σ b d top =
     let n = named d z in
     let n0 = length (drop 16 b) in
     let q : n0 ≤ 4080 = omega (arith, length-drop 16 b) in
-    let f = fine-sift (byPass σ) (small-pass σ) (saved [] []) (elements b) (standing-before n0 16 4096 (drop 16 b) (omega arith)) (tt, tt) in
+    let f =
+    fine-sift (byPass σ) (small-pass σ) (saved [] []) (elements b) (standing-before n0 16 4096 (drop 16 b) (omega arith)) (tt, tt) in
     let zs = zones (records (s .kept)) in
     let g =
-    fine-sift (byZone zs) (λ kept r. small-chosen (inZone zs kept r) r 13 (omega arith)) (saved [] (s .lines)) (s .kept) (f .0) (tt, f .1) in
+    fine-sift (byZone zs) (λ kept r. small-chosen (inZone zs kept r) r 13 (omega arith)) (saved [] (s .lines)) (s .kept)
+    (f .0) (tt, f .1) in
     let is = stringIndexes z in
     let m =
-    fine-sift (byString is) (λ kept r. small-mended (allAmong (stringNamed (role r)) is) r (unindexed r)) (saved [] (z .lines ++ firstLine is d))
-    (z .kept) (g .0) (tt, first-fine is d (z .lines) (g .1)) in
-    fine-sift (byClaim d) (λ kept r. small-chosen (clashless d kept r) r 15 (omega arith)) (saved [] (n .lines)) (n .kept) (m .0) (tt, m .1) .1
+    fine-sift (byString is) (λ kept r. small-mended (allAmong (stringNamed (role r)) is) r (unindexed r))
+    (saved [] (z .lines ++ firstLine is d)) (z .kept) (g .0) (tt, first-fine is d (z .lines) (g .1)) in
+    fine-sift (byClaim d) (λ kept r. small-chosen (clashless d kept r) r 15 (omega arith)) (saved [] (n .lines)) (n .kept)
+    (m .0) (tt, m .1) .1
 
 -- decimals: a digit at a power of ten is only where the number reaches it
 digit-count : (p n : ℕ) → (length (digitAt p n) ≤ 1) × (length (digitAt p n) * p ≤ n)

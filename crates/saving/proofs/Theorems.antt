@@ -1,18 +1,18 @@
--- THE THEOREMS of salvage, of its bytes: the output is always accepted, an accepted table comes out as it is written, and 24 is given
--- exactly where document 02 says.
+-- THE THEOREMS of salvage, of its bytes: the output is always accepted, an accepted table comes out as it is written, and 24 and 16 are
+-- given exactly where document 02 says.
 -- Assumes nothing.
-use Prim.Native.Nat.{ℕ, _+_, _≤_, _<_}
+use Prim.Native.Nat.{ℕ, _≤_, _<_}
 use native.Mathlib.Omega.{arith}
-use mathlib.Core.Path.{_≡_, refl, sym, _∙_, ap, subst}
+use mathlib.Core.Path.{_≡_, refl, sym, _∙_, ap}
 use mathlib.Core.Bool.{Bool, true, false, _&&_, cond, false≢true}
-use mathlib.Core.List.{List, [], _∷_, _++_}
+use mathlib.Core.List.{List, []}
 use mathlib.Core.Logic.{_↔_, _⊎_, inl, inr, ⊎-elim}
 use mathlib.Core.Option.{Option, none, some}
-use lib.ListN.{length, take, drop, length-take}
+use lib.ListN.{length, drop, length-take, length-drop}
 use lib.Seq.{take-all}
 use lib.Dec.{eqb, leb}
-use borrow.Author.Tests.{leb-true, leb-false, le-leb, eqb-true, eqb-false, eq-eqb}
-use Rattle.format.specs.Slots.{byte, written, Bytes, allRoomy}
+use borrow.Author.Tests.{leb-true, leb-false, le-leb, lt-leb, eqb-true, eqb-false, eq-eqb}
+use Rattle.format.specs.Slots.{byte, written, Bytes}
 use Rattle.format.specs.Records.{Record}
 use Rattle.format.specs.Layout.{opening, table}
 use Rattle.format.specs.Pins.{among}
@@ -32,13 +32,17 @@ use Rattle.format.proofs.EachKind.{description-fits}
 use Rattle.format.proofs.Lengths.{fits-length}
 use Rattle.format.proofs.Opening.{table-split, opened-only, opened-facts}
 use Rattle.format.proofs.Written.{written-accepted, written-again, length-written}
+use Rattle.removal.proofs.Among.{not-so}
 use Rattle.removal.proofs.Claims.{part-uncontested}
 use Rattle.removal.proofs.Parts.{part-none}
 use Rattle.removal.proofs.Keeping.{opening-roomy}
-use Rattle.saving.specs.Saving.{taken, isNone, sound, salvageable, At, Saved, saved, records, elements, passed, zoned, stringIndexes, mendedDescription, named, unclashed, inZones, ending}
+use Rattle.saving.specs.Saving.{taken, isNone, sound, salvageable, Saved, saved, records, elements, passed, zoned, stringIndexes, mendedDescription, named, unclashed, inZones, ending}
 use Rattle.saving.specs.Lines.{textOf, tableOf, newTable, newText, answer}
 use Rattle.saving.specs.declared.Salvaged.the-variants.{Done, Refused}
+use Rattle.saving.proofs.Bounds.{table-short}
 use Rattle.saving.proofs.Keeping.{none-is, Sound, in-zones, ending-keeps}
+use Rattle.saving.specs.Repairing.{RepairsPass}
+use Rattle.saving.proofs.Repaired.{repaired}
 use Rattle.saving.proofs.Whole.{pass-whole, zoned-whole, named-whole, unclashed-whole}
 
 -- what no 24 says of the bytes
@@ -77,9 +81,15 @@ sound-start c b small s =
       clear = s .clear;
     }
 
--- the records of the new table
+-- what is kept and the lines, and the records of the new table with their description
+abbrev pub ended : Chip → List ℕ → Saved
+ended c file = ending (readDescription c (byte (taken file))) (inZones (writing c) (taken file))
+
 abbrev pub kept : Chip → List ℕ → List Record
-kept c file = records (ending (readDescription c (byte (taken file))) (inZones (writing c) (taken file)) .kept)
+kept c file = records (ended c file .kept)
+
+abbrev pub newDescription : Chip → List ℕ → Description
+newDescription c file = mendedDescription (stringIndexes (inZones (writing c) (taken file))) (readDescription c (byte (taken file)))
 
 -- 'The output is always accepted', by the ordinary reader with the chip
 pub saved-accepted :
@@ -94,7 +104,21 @@ saved-accepted c file small h =
     let z = inZones (writing c) b in
     let s = bytes-take 4096 file small in
     written-accepted (writing c) (mendedDescription (stringIndexes z) d) (kept c file)
-    (ending-keeps (writing c) d z (sound-start c b s (salvageable-says c b .0 h)) (in-zones (writing c) b s (omega (arith, length-take 4096 file))))
+    (ending-keeps (writing c) d z (sound-start c b s (salvageable-says c b .0 h))
+    (in-zones (writing c) b s (omega (arith, length-take 4096 file))))
+
+-- putting right what the reader names first, again and again, gives the same table and the same lines
+pub put-right :
+    (c : Chip) (file : List ℕ)
+    → Bytes file
+    → salvageable c (taken file) ≡ true
+    → RepairsPass (writing c) (readDescription c (byte (taken file))) (newDescription c file) (ended c file .kept)
+    [] 16 (drop 16 (taken file)) (ended c file .lines)
+put-right c file small h =
+    let b = taken file in
+    let s = bytes-take 4096 file small in
+    let o = salvageable-says c b .0 h in
+    repaired (writing c) b (readDescription c (byte b)) s (o .long) (omega (arith, length-take 4096 file)) (sound-start c b s o)
 
 -- 'An accepted table comes out with reserved places at zero and no lines'
 whole-ending :
@@ -129,7 +153,8 @@ module _ (c : Chip) (file : List ℕ) (d : Description) (rs : List Record) (smal
       let o = opened-only c file d (m .rest) (m .opened) in
       let f = opened-facts c file d (m .rest) (m .opened) in
       let p =
-      pass-whole (writing c) rs (length (drop 16 file)) 16 (drop 16 file) (saved [] []) (omega arith) (rw (o .1) at (m .fits)) (k .passed) in
+      pass-whole (writing c) rs (length (drop 16 file)) 16 (drop 16 file) (saved [] []) (omega arith)
+      (rw (o .1) at (m .fits)) (k .passed) in
       record {
         all = take-all 4096 file top;
         opens =
@@ -144,8 +169,8 @@ module _ (c : Chip) (file : List ℕ) (d : Description) (rs : List Record) (smal
         no-lines = p .1;
       }
 
-  ended : (ending d (inZones (writing c) file) .lines ≡ []) × (tableOf d (inZones (writing c) file) ≡ written (table d rs))
-  ended =
+  end-same : (ending d (inZones (writing c) file) .lines ≡ []) × (tableOf d (inZones (writing c) file) ≡ written (table d rs))
+  end-same =
       let t = seen in
       let s = passed (writing c) file in
       let k = a .keeps in
@@ -160,7 +185,7 @@ module _ (c : Chip) (file : List ℕ) (d : Description) (rs : List Record) (smal
       let t = seen in
       ap (λ (b : List ℕ). tableOf (readDescription c (byte b)) (inZones (writing c) b)) (t .all)
       ∙ ap (λ (e : Description). tableOf e (inZones (writing c) file)) (t .description)
-      ∙ ended .1
+      ∙ end-same .1
 
   pub unchanged-text : newText c file ≡ []
   unfolding newText
@@ -168,7 +193,7 @@ module _ (c : Chip) (file : List ℕ) (d : Description) (rs : List Record) (smal
       let t = seen in
       ap (λ (b : List ℕ). textOf (ending (readDescription c (byte b)) (inZones (writing c) b) .lines)) (t .all)
       ∙ ap (λ (e : Description). textOf (ending e (inZones (writing c) file) .lines)) (t .description)
-      ∙ ap textOf (ended .0)
+      ∙ ap textOf (end-same .0)
 
   -- the table with its reserved places at zero, in as many bytes, and no text; or 16
   pub accepted-unchanged : (newTable c file ≡ cleared file (table d rs)) × (newText c file ≡ [])
@@ -192,7 +217,9 @@ pub data Damaged (c : Chip) (b : List ℕ) : Type 0 where
 
 -- one of the two
 damaged-or : (c : Chip) (b : List ℕ) → Damaged c b ⊎ Salvageable c b
-damaged-or c b = go (leb 16 (length b)) refl (eqb (byte b 0) 1) refl (descriptionBreaks c (readDescription c (byte b))) refl (contested (readDescription c (byte b)) []) refl
+damaged-or c b =
+    go (leb 16 (length b)) refl (eqb (byte b 0) 1) refl (descriptionBreaks c (readDescription c (byte b))) refl
+    (contested (readDescription c (byte b)) []) refl
   where
     go :
         (t : Bool)
@@ -217,10 +244,6 @@ not-both c b (unrevised n) s = n (s .revised)
 not-both c b (misdescribed {k = k} e) s = let d : none ≡ some k = sym (s .described) ∙ e in let z : _≡_ {A = ℕ} 0 1 = cc in omega arith
 not-both c b (clashing {p = p} e) s = let d : none ≡ some p = sym (s .clear) ∙ e in let z : _≡_ {A = ℕ} 0 1 = cc in omega arith
 
-not-so : (t : Bool) → (t ≡ true → ⊥) → t ≡ false
-not-so true n = absurd (n refl)
-not-so false n = refl
-
 -- the answer by its two tests
 of-24 : (t u : Bool) (n m : ℕ) → cond t (cond u (Done n m) (Refused 16 0)) (Refused 24 0) ≡ Refused 24 0 → t ≡ false
 of-24 true true n m e = let z : _≡_ {A = ℕ} 0 1 = cc in absurd (omega arith)
@@ -233,8 +256,36 @@ damaged-exactly c file room = (to, from)
   where
     to : answer c file room ≡ Refused 24 0 → Damaged c (taken file)
     to e =
-        let f = of-24 (salvageable c (taken file)) (leb (length (newTable c file)) room) (length (newTable c file)) (length (newText c file)) e in
+        let n = length (newTable c file) in
+        let f = of-24 (salvageable c (taken file)) (leb n room) n (length (newText c file)) e in
         ⊎-elim (λ d. d) (λ s. absurd (false≢true (sym f ∙ salvageable-says c (taken file) .1 s))) (damaged-or c (taken file))
 
     from : Damaged c (taken file) → answer c file room ≡ Refused 24 0
     from d = rw (not-so (salvageable c (taken file)) (λ e. not-both c (taken file) d (salvageable-says c (taken file) .0 e))) refl
+
+-- 'then 16': there is a new table, and the buffer has no room for it
+of-16 : (t u : Bool) (n m : ℕ) → cond t (cond u (Done n m) (Refused 16 0)) (Refused 24 0) ≡ Refused 16 0 → (t ≡ true) × (u ≡ false)
+of-16 true true n m e = let z : _≡_ {A = ℕ} 0 1 = cc in absurd (omega arith)
+of-16 true false n m e = (refl, refl)
+of-16 false u n m e = let z : _≡_ {A = ℕ} 24 16 = cc in absurd (omega (arith, z))
+
+pub no-room-exactly :
+    (c : Chip) (file : List ℕ) (room : ℕ)
+    → (answer c file room ≡ Refused 16 0) ↔ ((salvageable c (taken file) ≡ true) × (room < length (newTable c file)))
+unfolding answer
+no-room-exactly c file room = (to, from)
+  where
+    to : answer c file room ≡ Refused 16 0 → (salvageable c (taken file) ≡ true) × (room < length (newTable c file))
+    to e =
+        let n = length (newTable c file) in
+        let f = of-16 (salvageable c (taken file)) (leb n room) n (length (newText c file)) e in
+        (f .0, leb-false n room (f .1))
+
+    from : (salvageable c (taken file) ≡ true) × (room < length (newTable c file)) → answer c file room ≡ Refused 16 0
+    from h = rw (h .0, lt-leb (length (newTable c file)) room (h .1)) refl
+
+-- and a buffer of the file's length has
+pub table-within :
+    (c : Chip) (file : List ℕ) → Bytes file → salvageable c (taken file) ≡ true → length (newTable c file) ≤ length (taken file)
+table-within c file small h =
+    omega (arith, table-short c file small, salvageable-says c (taken file) .0 h .long, length-drop 16 (taken file))

@@ -1,15 +1,15 @@
 -- 'An accepted table comes out with reserved places at zero and no lines': nothing is left out and nothing is cleared.
 -- Assumes nothing.
-use Prim.Native.Nat.{ℕ, zero, suc, _+_, _≤_, _<_}
+use Prim.Native.Nat.{ℕ, zero, suc, _+_, _≤_}
 use native.Mathlib.Omega.{arith}
 use mathlib.Core.Path.{_≡_, refl, sym, _∙_, ap}
-use mathlib.Core.Bool.{Bool, true, cond}
+use mathlib.Core.Bool.{Bool, cond}
 use mathlib.Core.List.{List, [], _∷_, _++_, append-nil}
 use mathlib.Core.Option.{none}
 use lib.ListN.{length, drop, length-drop}
 use lib.Seq.{append-snoc}
 use borrow.Author.Tests.{lt-ltb}
-use Rattle.format.specs.Slots.{Starts, Fits}
+use Rattle.format.specs.Slots.{Fits}
 use Rattle.format.specs.Records.{Record}
 use Rattle.format.specs.Layout.{layout, layouts}
 use Rattle.format.specs.ZonesAndStrings.{role, gathered, zoneNamed, stringNamed, zones, zoneless, nameless}
@@ -26,7 +26,7 @@ use Rattle.removal.proofs.Parts.{part-none, part-same, part-append}
 use Rattle.removal.proofs.Among.{Within, in-here, in-left, in-right, within-all}
 use Rattle.removal.proofs.Naming.{zoned-exactly, named-exactly}
 use Rattle.removal.proofs.Claims.{part-uncontested}
-use Rattle.saving.specs.Saving.{At, atPlace, isNone, Line, Saved, saved, records, Fate, stays, settled, standing, sift, byPass, zoned, stringIndexes, named, unclashed}
+use Rattle.saving.specs.Saving.{atPlace, isNone, Saved, saved, records, Fate, stays, settled, standing, sift, byPass, zoned, stringIndexes, named, unclashed}
 use Rattle.saving.proofs.Reading.{records-append}
 use Rattle.saving.proofs.Choosing.{choose-all, inZone, clashless}
 use Rattle.saving.proofs.Mending.{mended-all}

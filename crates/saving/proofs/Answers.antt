@@ -4,7 +4,6 @@ use Prim.Native.Nat.{ℕ}
 use mathlib.Core.Path.{_≡_, refl}
 use mathlib.Core.Bool.{Bool, true, false, _&&_, not}
 use mathlib.Core.List.{List, [], _∷_, _++_}
-use lib.ListN.{length}
 use lib.Dec.{eqb}
 use borrow.Author.Tests.{eqb-true, not-true}
 use Rattle.format.specs.Rules.{descriptionRules, ownRules}
@@ -18,7 +17,7 @@ use Rattle.spelling.specs.Spelling.{decimal}
 use Rattle.saving.specs.Saving.{taken, salvageable}
 use Rattle.saving.specs.Lines.{textOf, newTable, newText, answer}
 use Rattle.saving.specs.Known.{Row, salvages, byChip, lost, full}
-use Rattle.saving.specs.declared.Salvaged.the-variants.{Done, Refused}
+use Rattle.saving.specs.declared.Salvaged.the-variants.{Refused}
 
 -- the test that is computed
 abbrev same : List ℕ → List ℕ → Bool
@@ -41,7 +40,8 @@ module _ (c : Chip) where
   abbrev right : List Row → Bool
   right [] = true
   right (r ∷ rs) =
-      salvageable c (taken (r .file)) && (same (newTable c (r .file)) (r .table) && (same (newText c (r .file)) (textOf (r .lines)) && right rs))
+      salvageable c (taken (r .file))
+      && (same (newTable c (r .file)) (r .table) && (same (newText c (r .file)) (textOf (r .lines)) && right rs))
 
   -- what it shows: of each row's bytes its table and its lines are made
   abbrev pub Each : List Row → Type 0
@@ -56,8 +56,12 @@ module _ (c : Chip) where
       let u = same (newText c (r .file)) (textOf (r .lines)) in
       let p = and-true (salvageable c (taken (r .file))) (t && (u && right rs)) h in
       let q = and-true t (u && right rs) (p .1) in
-      let w = and-true u (right rs) (q .1) in
-      (p .0, same-is (newTable c (r .file)) (r .table) (q .0), same-is (newText c (r .file)) (textOf (r .lines)) (w .0), right-each rs (w .1))
+      let w = and-true u (right rs) (q .1) in (
+        p .0,
+        same-is (newTable c (r .file)) (r .table) (q .0),
+        same-is (newText c (r .file)) (textOf (r .lines)) (w .0),
+        right-each rs (w .1),
+      )
 
   abbrev allLost : List (List ℕ) → Bool
   allLost [] = true
