@@ -355,6 +355,7 @@ int main(int count, char **arguments)
 
     printf("\na recording from the bench\n");
     recorded();
+
     printf("\na damaged table\n");
     memcpy(buffer, own_table, sizeof own_table);
     damaged(buffer, sizeof own_table);

@@ -789,6 +789,7 @@ fn tour(table: &[u8]) -> Result<bool, esa::Refusal> {
 
     println!("\na recording from the bench");
     recorded()?;
+
     println!("\na damaged table");
     damaged(&mut own_table());
     Ok(answer.is_ok())
