@@ -35,5 +35,5 @@ toured() { # PAGE LEAST
 }
 
 tour() {
-    toured README.md 18
+    toured README.md 17
 }
