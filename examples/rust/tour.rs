@@ -194,8 +194,8 @@ fn side_by_side(other: &mut [u8]) {
     }
 }
 
-/// A recording from the bench, cut in two: pulses of the fan twice, an element that is not there, the zone, which has no reading, and what is
-/// no line. The last line has no line feed, so it is answered at the end.
+/// A recording from the bench, cut in two: pulses of the fan twice, an element that is not there, the zone, which has no reading, and
+/// what is no line. The last line has no line feed, so it is answered at the end.
 fn recorded() -> Answer<()> {
     let bytes = b"0\t0\t40\n0\t9\t1\n1\t1\t3\nno line\n2\t0\t25";
     let table = own_table();
