@@ -267,8 +267,8 @@ static void side_by_side(uint8_t *other, size_t length)
     printf("with no zone 3: table %u is refused, %u at %zu\n", esa_diff_table(answer), esa_number(answer), esa_place(answer));
 }
 
-/* A recording from the bench, cut in two: pulses of the fan twice, an element that is not there, the zone, which has no reading, and what is
-   no line. The last line has no line feed, so it is answered at the end. */
+/* A recording from the bench, cut in two: pulses of the fan twice, an element that is not there, the zone, which has no reading, and
+   what is no line. The last line has no line feed, so it is answered at the end. */
 static void recorded(void)
 {
     static const char trace[] = "0\t0\t40\n0\t9\t1\n1\t1\t3\nno line\n2\t0\t25";

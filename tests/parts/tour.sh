@@ -35,5 +35,5 @@ toured() { # PAGE LEAST
 }
 
 tour() {
-    toured README.md 14
+    toured README.md 17
 }

@@ -111,8 +111,13 @@ fn placed(answer: u64) -> Result<Range<usize>, Refusal> {
 /// What an element is called: a part of the table, or the name that was lent. No byte is copied.
 #[derive(Clone, Copy, Debug, PartialEq, Eq)]
 pub enum Label<'a> {
-    /// A text of the table, well-formed UTF-16 with the low byte first.
-    Text(&'a [u8]),
+    /// A text of the table, well-formed UTF-16 with the low byte first, and where it starts there.
+    Text {
+        /// Its offset in the table.
+        place: usize,
+        /// Its bytes.
+        bytes: &'a [u8],
+    },
     /// The lent name, whole and as it is.
     Lent(&'a [u8]),
 }
@@ -120,7 +125,7 @@ pub enum Label<'a> {
 impl Label<'_> {
     /// A text of the table as a string of Rust; `None` for the lent name, whose encoding the caller knows.
     pub fn read(&self) -> Option<String> {
-        let Label::Text(bytes) = self else { return None };
+        let Label::Text { bytes, .. } = self else { return None };
         let units: Vec<u16> = bytes.chunks_exact(2).map(|two| u16::from_le_bytes([two[0], two[1]])).collect();
         Some(String::from_utf16(&units).expect("a text of an accepted table is well-formed"))
     }
@@ -144,7 +149,7 @@ pub fn label<'a>(table: &'a [u8], k: usize, settings: Settings, name: &'a [u8]) 
         return Ok(Label::Lent(name)); // it is the whole name, however long
     }
     let (place, length) = ((beside >> 8 & 0xFF_FFFF) as usize, (beside >> 32) as usize);
-    Ok(Label::Text(&table[place..place + length]))
+    Ok(Label::Text { place, bytes: &table[place..place + length] })
 }
 
 /// Whether there is a fan or a pump, and how many elements were visited to find out.

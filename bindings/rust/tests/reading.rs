@@ -57,7 +57,7 @@ fn names_are_texts_of_the_table_or_the_lent_one() {
     let table = common::table("quiet-box");
     let string = first(&table, Kind::String);
     let own = text(&table, string, READ).unwrap();
-    assert_eq!(label(&table, string, READ, b""), Ok(Label::Text(&table[own])));
+    assert_eq!(label(&table, string, READ, b""), Ok(Label::Text { place: own.start, bytes: &table[own] }));
     assert!(text(&table, 0, READ).unwrap().is_empty(), "a fan is no string");
     let boxes = label(&table, string, READ, b"").unwrap().read();
     assert_eq!(boxes.as_deref(), Some("Quiet box"));
