@@ -12,8 +12,8 @@ void *memset(void *to, int value, number count);
 int memcmp(const void *one, const void *other, number count);
 void _exit(int status);
 
-/* Settings are one number: bit 0 set is the 321, bit 1 the archive's rules; start, append, rewrite, remove, diff and the
-   calls on sheets ignore bit 1. */
+/* Settings are one number: bit 0 set is the 321, bit 1 the archive's rules; start, append, rewrite, remove, diff, salvage and
+   the calls on sheets, on HEX and on traces ignore bit 1. */
 number esa_check(const byte *table, number length, number settings);
 /* Weak, so that an archive without them links too: their modes then answer NO_SUCH_CALL. */
 __attribute__((weak)) number esa_element(const byte *table, number length, number k, number settings);
@@ -64,6 +64,7 @@ __attribute__((weak)) number trace_piece(byte *state, const byte *piece, number 
 __attribute__((weak)) number trace_end(const byte *state, byte *out);
 __attribute__((weak)) number esa_reading(const byte *table, number length, number k, number count, number settings);
 __attribute__((weak)) number esa_diff(const byte *one, number one_length, const byte *two, number two_length, number settings, byte *out);
+__attribute__((weak)) number esa_salvage(const byte *file, number length, number settings, byte *out, number room, byte *lines);
 
 static number esa_receive_start(byte *state, number settings)
 {
@@ -99,16 +100,19 @@ enum { STEP = 9, MOST_STEPS = 1 << 16, REPORT = 64 };
 enum { PAIR = 15, DIFF = 65536 };
 enum { TRACE = 30, COUNTS = 31, TRACE_PIECE = 2048, TRACE_TEXT = DIFF, LONGEST_TRACE = 1 << 18, LONGEST_TRACE_STATE = 1 << 16 };
 enum { GATHERED = 1 << 23, COUNT_ASKED = 16, MOST_COUNTS = 1 << 16 }; /* a byte of trace gives at most 32 of text */
+enum { SALVAGE = 14, LINES = 32768 };
 #define NO_SUCH_CALL (~0UL)
 #define STATE_CHANGED (~1UL) /* by a call that was to keep it */
-#define OUT_CHANGED (~2UL)   /* behind the text */
+#define OUT_CHANGED (~2UL)   /* behind the text of a trace */
+#define NOT_THE_SAME (~2UL)  /* what was saved, when it is saved once more */
 
 static byte input[1 << 21];
 static byte output[1 << 16];
 static number waiting; /* bytes of output */
-static byte *table_end, *numbers_end, *part_end, *text_end, *name_end, *state_end, *lines_end, *tracing_end; /* of guarded places */
+/* Of nine guarded places; the last three: the lines of a pair or of a trace, a trace's state, the lines of what is saved. */
+static byte *table_end, *numbers_end, *part_end, *text_end, *name_end, *state_end, *lines_end, *tracing_end, *told_end;
 static byte front[FRONT];
-/* What the buffer of a listing or of a pair's lines, and the numbers of a reading, hold before the call: no byte of a text, no zero. */
+/* What the buffer of a listing or of lines, and the numbers of a reading, hold before the call: no byte of a text, no zero. */
 static union {
     byte bytes[DIFF];
     number words[DIFF / 8];
@@ -614,6 +618,45 @@ static void answer_counts(const byte *body, number length, number count, number 
     if (memcmp(table, body, length)) _exit(TOUCHED);
 }
 
+/* Saves a file once more that was saved already: its answer, if it comes out as it is and without a line. */
+static number saved_again(const byte *file, number length, number settings)
+{
+    byte *out = table_end - length, *lines = told_end - LINES;
+    memset(out, UNWRITTEN, length);
+    number value = esa_salvage(file, length, settings, out, length, lines);
+    number count = altered(lines, LINES, 0);
+    memcpy(lines, pattern.bytes, count);
+    return count || memcmp(out, file, length) ? NOT_THE_SAME : value;
+}
+
+/* What can be saved of a file, into a buffer of 'room' bytes. The answer goes out, and then the buffer, whole; then the number of
+   bytes that altered tells of the lines, and these bytes; then, with 0, what esa_check says of the new table by the ordinary
+   rules, and what comes when it is saved once more. The lines are the pattern again for the next call. */
+static void answer_salvage(const byte *body, number length, number room, number settings)
+{
+    byte *file = part_end - length, *out = table_end - room, *lines = told_end - LINES;
+    memcpy(out - FRONT, front, FRONT);
+    memset(out, UNWRITTEN, room);
+    memcpy(file, body, length);
+    number value = esa_salvage ? esa_salvage(file, length, settings, out, room, lines) : NO_SUCH_CALL;
+    if (memcmp(out - FRONT, front, FRONT) || memcmp(lines - FRONT, front, FRONT) || memcmp(file, body, length)) _exit(TOUCHED);
+    number good = (value & 0xFF) == 0, saved = value >> 8 & 0xFFFF, checked = 0, again = 0;
+    number count = altered(lines, LINES, good ? value >> 24 : 0);
+    put(&value, 8);
+    put(out, room);
+    put(&count, 8);
+    put(lines, count);
+    memcpy(lines, pattern.bytes, count);
+    if (good && saved <= room) {
+        file = part_end - saved;
+        memcpy(file, out, saved);
+        checked = esa_check(file, saved, settings & ~2UL);
+        again = saved_again(file, saved, settings);
+    }
+    put(&checked, 8);
+    put(&again, 8);
+}
+
 /* Answers the whole requests among the bytes held, and gives the number of bytes that they took. */
 static number answer_all(number held)
 {
@@ -633,6 +676,7 @@ static number answer_all(number held)
         number sheets = mode == SHEETS ? k : 0, steps = mode == RECEIVE ? k : mode == TRACE ? k >> 32 : 0;
         number two_length = mode == PAIR ? k : 0, trace_length = mode == TRACE ? k & 0xFFFFFFFF : 0, counts = mode == COUNTS ? k : 0;
         if (length > (moves ? LONGEST_TEXT : LONGEST) || (moves && k > LONGEST_TEXT)) _exit(BROKEN_REQUEST);
+        if (mode == SALVAGE && k > LONGEST) _exit(BROKEN_REQUEST);
         if (part_length > LONGEST || two_length > LONGEST || readings > MOST_READINGS || zones > MOST_ZONES) _exit(BROKEN_REQUEST);
         if (removals > MOST_REMOVALS || sheets > MOST_SHEETS || steps > MOST_STEPS) _exit(BROKEN_REQUEST);
         if (trace_length > LONGEST_TRACE || counts > MOST_COUNTS) _exit(BROKEN_REQUEST);
@@ -651,6 +695,7 @@ static number answer_all(number held)
         else if (mode == PAIR) answer_pair(request + HEADER, length, two_length, settings);
         else if (mode == TRACE) answer_trace(request + HEADER, length, trace_length, steps, settings);
         else if (mode == COUNTS) answer_counts(request + HEADER, length, counts, settings);
+        else if (mode == SALVAGE) answer_salvage(request + HEADER, length, k, settings);
         else answer_reader(mode, request + HEADER, length, k, settings);
         used += size;
     }
@@ -674,6 +719,9 @@ int main(void)
     lines_end = guarded_end();
     memcpy(lines_end - DIFF - FRONT, front, FRONT);
     memcpy(lines_end - DIFF, pattern.bytes, DIFF);
+    told_end = guarded_end();
+    memcpy(told_end - LINES - FRONT, front, FRONT);
+    memcpy(told_end - LINES, pattern.bytes, LINES);
     number held = 0;
     for (;;) {
         long got = read(0, input + held, sizeof input - held);

@@ -29,7 +29,7 @@ function array(of,    size, kind) {
     kind = of
     sub(/.*\[/, "", kind)
     sub(/;.*/, "", kind)
-    if (kind == "u8" && size != 30) return sized(of, kind, size, "NUMBERS LISTING SHEET_TEXT DIFF TRACE_TEXT")
+    if (kind == "u8" && size != 30) return sized(of, kind, size, "NUMBERS LISTING SHEET_TEXT DIFF TRACE_TEXT SALVAGE_LINES")
     if (kind == "u64") return part(of, kind, size, "trace", "numbers")
     if (kind == "u32") return part(of, kind, size, "trace", "tallies")
     if (kind == "u16" && size == 576) return part(of, kind, size, "trace", "sensors")

@@ -3,10 +3,10 @@
    docs/CALLS.md has the theorem to each.
 
    WHAT A CALLER OWES. Nothing proves the C around the library, so these three are yours to keep:
-   - Each pointer and the length behind it are memory that may be read, and of 'buffer', 'out', 'numbers', 'table' and 'sheet' that is
-     not const also written, until the call returns; so is '*state'. 'numbers' is 32 bytes, 'sheet' 25 numbers of two bytes, the 'out' of
-     esa_list 4,096 bytes, that of esa_sheet_text 275 and that of esa_diff 65,536. A bool is 0 or 1. With a length of 0 the pointer is not
-     followed: NULL will do.
+   - Each pointer and the length behind it are memory that may be read, and of 'buffer', 'out', 'lines', 'numbers', 'table' and
+     'sheet' that is not const also written, until the call returns; so is '*state'. 'numbers' is 32 bytes, 'sheet' 25 numbers of two
+     bytes, the 'out' of esa_list 4,096 bytes, that of esa_sheet_text 275, that of esa_diff 65,536 and the 'lines' of esa_salvage
+     32,768. A bool is 0 or 1. With a length of 0 the pointer is not followed: NULL will do.
    - The places lent to one call do not overlap.
    - Nobody else writes to them before the call returns.
    No other condition is asked: any bytes, any lengths and any numbers have an answer. As the code stands (this is no theorem)
@@ -61,8 +61,8 @@ enum esa_numbers {
     ESA_NO_ZONE = 13,          /* the zone of an element has no descriptor; element */
     ESA_NO_STRING = 14,        /* a string index that is not 0 and has no string; element, or 0 */
     ESA_CLASH = 15,            /* a pin is claimed twice; element of the later claim, or 0 */
-    ESA_NO_ROOM = 16,          /* writer: the new length passes the buffer or 4,096; 0. Of hex and unhex: what is to be written
-                                  passes the buffer; 0 */
+    ESA_NO_ROOM = 16,          /* writer: the new length passes the buffer or 4,096; 0. Of hex, unhex and salvage: what is to be
+                                  written passes the buffer; 0 */
     ESA_PAST_THE_LAST = 17,    /* there is no element k; in a part, no such block or pair; 0 */
     ESA_NO_READING = 18,       /* the element has no reading for the count; 0, of a trace the line's number, from 1 */
     ESA_TRACE_LINE = 19,       /* pulses over 65,535; 0. Of a trace also a malformed line or one past 1,000,000; the line's number, from 1 */
@@ -70,6 +70,7 @@ enum esa_numbers {
     ESA_HEX = 21,              /* a line that is not Intel HEX as it is taken here; the line's number, from 1 */
     ESA_STILL_NAMED = 22,      /* remove: something still names the zone or string that was to go; element */
     ESA_RETIRED = 23,          /* bus type 2, SMBus block mode, by the ordinary rules; element. It stands between 9 and 10 */
+    ESA_DESCRIPTION = 24,      /* salvage: the description itself breaks 1, 2, 4, 5 or 10, or its pins clash; 0 */
     ESA_TOO_LARGE = 25         /* writer: a number is too large for its field; 0 */
 };
 
@@ -101,6 +102,7 @@ static inline const char *esa_words(unsigned number)
     case ESA_HEX: return "a line that is not Intel HEX as it is taken here";
     case ESA_STILL_NAMED: return "something still names it";
     case ESA_RETIRED: return "a bus type that is retired";
+    case ESA_DESCRIPTION: return "the description itself cannot be saved";
     case ESA_TOO_LARGE: return "a number is too large for its field";
     default: return "a number that no call gives";
     }
@@ -422,6 +424,22 @@ static inline unsigned esa_diff_table(uint64_t answer)
 {
     return esa_number(answer) == ESA_GOOD ? 0 : (unsigned)(answer >> 24 & 3);
 }
+
+/* SALVAGE. What can be saved of a damaged table, for the chip of the settings and by the ordinary rules (bit 1 is ignored). Only
+   the first 4,096 bytes of 'file' are looked at; what bytes 1-2 say is not. Elements are kept in order, up to where esa_check would
+   say 6 or until 96 are kept; each that breaks 7 to 12 or 23, against those kept so far, is left out. Then elements with an
+   undeclared zone are left out (13), missing string indexes set to 0, the description's first (14), and elements whose pins clash
+   with those still kept left out (15).
+   0, and beside it the length of the new table, which esa_place takes out, and that of the text of the lines, which esa_length
+   does: the table stands at the front of 'out', the text at the front of 'lines', and the bytes behind both are as they were. The
+   table is always accepted; one that is accepted already comes out with its reserved places at zero, and no lines. A line for each
+   change, in the order made: the offset in 'file' (of the description 0), the number of the rule, 'left out' or 'cleared', parted
+   by tabs and ended by a line feed.
+   Or 24 at 0, where nothing can be saved; or 16 at 0 where 'room' is under the new table's length. With a refusal no byte of 'out'
+   or 'lines' alters. No table needs more room than 4,096 bytes; every text fits into 'lines', and none is ended by a zero. */
+enum { ESA_SALVAGE_LINES = 32768 };
+uint64_t esa_salvage(const uint8_t *file, size_t length, uint64_t settings, uint8_t *out, size_t room,
+                     uint8_t lines[ESA_SALVAGE_LINES]);
 
 /* WRITING. A table is started in a buffer and each element appended to it; bytes 1-2 of the buffer hold the length so far.
    With a refusal no byte of the buffer alters. A table that is still being written may break rules over the whole of it (11

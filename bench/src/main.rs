@@ -7,6 +7,7 @@ mod growth;
 mod putting;
 mod receiving;
 mod rounds;
+mod saving;
 mod sides;
 #[cfg(traces)]
 mod traces;
@@ -25,6 +26,7 @@ const PARTS: &[(&str, fn() -> usize)] = &[
     ("fan", fans::report),
     #[cfg(traces)]
     ("trace", traces::report),
+    ("saving", saving::report),
 ];
 
 fn main() -> ExitCode {

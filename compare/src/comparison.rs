@@ -13,6 +13,7 @@ use crate::pairs::Pairs;
 use crate::question::{Origin, Question};
 use crate::receiving::Receiving;
 use crate::removals::Removals;
+use crate::salvage::Salvage;
 use crate::settings;
 use crate::sheets::Sheets;
 use crate::tally::Tally;
@@ -44,6 +45,8 @@ pub struct Comparison {
     pairs: Option<Pairs>,
     /// Run traces through tables too.
     traces: Option<Traces>,
+    /// Save what can be saved too, also of files that are no tables.
+    salvage: Option<Salvage>,
 }
 
 /// Numbers that no table has, and that are small ones in their low bits.
@@ -101,6 +104,10 @@ impl Comparison {
                 true => Some(Traces::start(options)?),
                 false => None,
             },
+            salvage: match options.salvage {
+                true => Some(Salvage::start(options)?),
+                false => None,
+            },
             elements: options.elements,
             listing: options.listing,
         })
@@ -110,6 +117,9 @@ impl Comparison {
     pub fn seeded(&mut self, random: &mut Random, seed: u64, at: u64) -> Result<(), String> {
         let made_for = Settings::ALL[at as usize % 4];
         self.table(Origin::Seeded { seed, at }, made_for, any(random, made_for))?;
+        if let Some(salvage) = &mut self.salvage {
+            salvage.wrecked(seed, at)?;
+        }
         match &mut self.sheets {
             Some(sheets) if at.is_multiple_of(BUILT) => {
                 sheets.build(Origin::Built { seed, at }, at / BUILT)
@@ -140,7 +150,8 @@ impl Comparison {
         self.removals(origin, turn, &table)?;
         self.hex(origin, &all, turn, &table)?;
         self.pairs(origin, turn, made_for, &table)?;
-        self.traces(origin, turn, made_for, &table)
+        self.traces(origin, turn, made_for, &table)?;
+        self.salvage(origin, turn, made_for.chip, &table)
     }
 
     fn calls(&mut self, origin: Origin, settings: u64, table: &Rc<[u8]>) -> Result<(), String> {
@@ -186,7 +197,8 @@ impl Comparison {
         self.hex(origin, &[row.settings], turn, &table)?;
         self.receive(origin, settings, &table)?;
         self.pairs(origin, turn, row.settings, &table)?;
-        self.traces(origin, turn, row.settings, &table)
+        self.traces(origin, turn, row.settings, &table)?;
+        self.salvage(origin, turn, row.settings.chip, &table)
     }
 
     /// Holds both sides to the papers' answers of fans, if they are asked for.
@@ -212,6 +224,11 @@ impl Comparison {
     /// The same of tables side by side.
     pub fn known_pairs(&mut self) -> Result<(), String> {
         self.pairs.as_mut().map_or(Ok(()), Pairs::known)
+    }
+
+    /// The same of what can be saved.
+    pub fn known_salvages(&mut self) -> Result<(), String> {
+        self.salvage.as_mut().map_or(Ok(()), Salvage::known)
     }
 
     /// Compares the calls on parts at their edges.
@@ -316,6 +333,19 @@ impl Comparison {
         traces.table(origin, turn, made_for, table)
     }
 
+    fn salvage(
+        &mut self,
+        origin: Origin,
+        turn: u64,
+        chip: Chip,
+        table: &Rc<[u8]>,
+    ) -> Result<(), String> {
+        let Some(salvage) = &mut self.salvage else {
+            return Ok(());
+        };
+        salvage.table(origin, turn, chip, table)
+    }
+
     fn listing(&mut self, origin: Origin, settings: u64, table: &Rc<[u8]>) -> Result<(), String> {
         if !self.listing {
             return Ok(());
@@ -352,7 +382,9 @@ impl Comparison {
         let receiving = self.receiving.as_ref().map_or(0, Receiving::differences);
         let pairs = self.pairs.as_ref().map_or(0, Pairs::differences);
         let traces = self.traces.as_ref().map_or(0, Traces::differences);
-        let asked_of_tables = fields + fans + removals + sheets + hex + receiving + pairs + traces;
+        let salvage = self.salvage.as_ref().map_or(0, Salvage::differences);
+        let asked_of_tables = fields + fans + removals + sheets + hex + receiving + pairs;
+        let asked_of_tables = asked_of_tables + traces + salvage;
         self.exchange.tally.all_differences() + asked_of_tables
     }
 
@@ -366,6 +398,7 @@ impl Comparison {
         tally.receiving = self.receiving.map(Receiving::finish).transpose()?;
         tally.pairs = self.pairs.map(Pairs::finish).transpose()?;
         tally.traces = self.traces.map(Traces::finish).transpose()?;
+        tally.salvage = self.salvage.map(Salvage::finish).transpose()?;
         Ok(tally)
     }
 }

@@ -10,6 +10,7 @@ use crate::pairs;
 use crate::question::Origin;
 use crate::receiving;
 use crate::removals;
+use crate::salvage;
 use crate::sheets;
 use crate::tally::Tally;
 use crate::texts;
@@ -31,6 +32,7 @@ pub fn gate(options: &Options) -> Result<bool, String> {
     comparison.known_sheets()?;
     comparison.hex_texts()?;
     comparison.known_pairs()?;
+    comparison.known_salvages()?;
     // Two and two, as many cases come in pairs.
     for (at, (name, table)) in generator::targeted().iter().enumerate() {
         let made_for = Settings::ALL[at / 2 % 4];
@@ -87,6 +89,7 @@ fn judged(tally: &Tally, elements: bool) -> bool {
     good &= receiving.is_none_or(receiving::Tally::all_came);
     good &= tally.pairs.as_ref().is_none_or(pairs::Tally::all_came);
     good &= tally.traces.as_ref().is_none_or(traces::Tally::all_came);
+    good &= tally.salvage.as_ref().is_none_or(salvage::Tally::all_came);
     tally.print_sum();
     good && tally.all_differences() == 0
 }

@@ -20,6 +20,7 @@ mod progress;
 mod question;
 mod receiving;
 mod removals;
+mod salvage;
 mod settings;
 mod sheets;
 mod stand_in;
@@ -32,10 +33,11 @@ use options::{Command, Options};
 use std::process::ExitCode;
 
 const USAGE: &str = "\
-use: compare gate [--elements] [--listing] [--fields] [--fans] [--removals] [--sheets] [--hex] [--receive] [--pairs] [--traces] [--writer] [--first] --driver COMMAND...
-     compare long --seed S --count N [--elements] [--listing] [--fields] [--fans] [--removals] [--sheets] [--hex] [--receive] [--pairs] [--traces] --driver COMMAND...
+use: compare gate [WHAT...] [--writer] [--first] --driver COMMAND...
+     compare long --seed S --count N [WHAT...] --driver COMMAND...
      compare writer --seed S --count N --driver COMMAND...
      compare stand-in
+WHAT is --elements, --listing, --fields, --fans, --removals, --sheets, --hex, --receive, --pairs, --traces, --salvage.
 ";
 
 fn main() -> ExitCode {

@@ -28,6 +28,7 @@ pub struct Options {
     pub receive: bool,
     pub pairs: bool,
     pub traces: bool,
+    pub salvage: bool,
     /// The gate: the writer's calls too.
     pub writer: bool,
     /// The gate: it ends at the first difference.
@@ -51,6 +52,7 @@ struct Given {
     receive: bool,
     pairs: bool,
     traces: bool,
+    salvage: bool,
     writer: bool,
     first: bool,
     driver: Vec<String>,
@@ -81,6 +83,7 @@ impl Given {
                 "--receive" => given.receive = true,
                 "--pairs" => given.pairs = true,
                 "--traces" => given.traces = true,
+                "--salvage" => given.salvage = true,
                 "--writer" => given.writer = true,
                 "--first" => given.first = true,
                 "--driver" => given.driver = words.by_ref().cloned().collect(),
@@ -109,7 +112,7 @@ impl Options {
         }
         let of_tables = given.elements || given.listing || given.fields || given.fans;
         let of_tables = of_tables || given.removals || given.sheets || given.hex;
-        let of_tables = of_tables || given.receive || given.pairs || given.traces;
+        let of_tables = of_tables || given.receive || given.pairs || given.traces || given.salvage;
         if of_tables && matches!(command, Command::Writer { .. }) {
             return Err("the writer's calls take '--seed' and '--count' alone".into());
         }
@@ -128,6 +131,7 @@ impl Options {
             receive: given.receive,
             pairs: given.pairs,
             traces: given.traces,
+            salvage: given.salvage,
             writer: given.writer,
             first: given.first,
             driver: given.driver,

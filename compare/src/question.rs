@@ -14,6 +14,7 @@ pub enum Origin {
     Case(&'static str),
     Seeded { seed: u64, at: u64 },
     Built { seed: u64, at: u64 },
+    Wrecked { seed: u64, at: u64 },
 }
 
 impl fmt::Display for Origin {
@@ -23,6 +24,9 @@ impl fmt::Display for Origin {
             Origin::Case(name) => write!(to, "case '{name}'"),
             Origin::Seeded { seed, at } => write!(to, "seed {seed}, table {at}"),
             Origin::Built { seed, at } => write!(to, "built beside seed {seed}, table {at}"),
+            Origin::Wrecked { seed, at } => {
+                write!(to, "damaged file beside seed {seed}, table {at}")
+            }
         }
     }
 }

@@ -10,6 +10,7 @@ use crate::pairs::{self, Pair};
 use crate::question::Origin;
 use crate::receiving::{Conversation, Step};
 use crate::removals::{self, Removal};
+use crate::salvage::{self, Salvaging};
 use crate::sheets::{Asking, SheetCall};
 use crate::traces::{self, Traced};
 use crate::writer::{Does, WriterCall};
@@ -58,6 +59,7 @@ fn answer(from: &mut impl Read) -> io::Result<Vec<u8>> {
         None if mode == Pair::MODE => of_pair(k, settings, &lent, from),
         None if mode == Traced::TRACE => of_trace(k, settings, &lent, from),
         None if mode == Traced::COUNTS => of_counts(k, settings, &lent, from),
+        None if mode == Salvaging::MODE => Ok(salvage::second(&lent, settings, k as usize).bytes()),
         None => of_readings(k, settings, &lent, from),
     }
 }
@@ -299,7 +301,7 @@ mod tests {
     /// A sheet made afresh, brought forward and as text, in one request.
     fn sheets(table: &[u8], requests: &mut Vec<u8>, wanted: &mut Vec<u8>) {
         let call = |which| {
-            let numbers = (0..50).map(|at| 7 * at);
+            let numbers = (0..50).map(|at: u8| at.wrapping_mul(7));
             SheetCall::of(&[which].into_iter().chain(numbers).collect::<Vec<u8>>())
         };
         let asking = Asking {
@@ -352,6 +354,20 @@ mod tests {
         }
     }
 
+    /// What can be saved of a table, with some room.
+    fn salvages(table: &Rc<[u8]>, requests: &mut Vec<u8>, wanted: &mut Vec<u8>) {
+        for room in [0, 40, table.len()] {
+            let salvaging = Salvaging {
+                origin: Origin::Known("any"),
+                settings: 2,
+                file: table.clone(),
+                room,
+            };
+            salvaging.request(requests);
+            wanted.extend(salvaging.second().bytes());
+        }
+    }
+
     /// Every request is taken in whole, and answered as the second program answers.
     #[test]
     fn requests_end_to_end_are_answered_one_by_one() {
@@ -367,6 +383,7 @@ mod tests {
             let lent: Rc<[u8]> = table.clone().into();
             zones_and_removals(&lent, &mut requests, &mut wanted);
             steps(&lent, &mut requests, &mut wanted);
+            salvages(&lent, &mut requests, &mut wanted);
             sheets(&table, &mut requests, &mut wanted);
             traced(&lent, &mut requests, &mut wanted);
             write.request(&mut requests);

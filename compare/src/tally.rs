@@ -11,6 +11,7 @@ use crate::pairs;
 use crate::question::Question;
 use crate::receiving;
 use crate::removals;
+use crate::salvage;
 use crate::sheets;
 use crate::traces;
 use second::Settings;
@@ -40,6 +41,8 @@ pub struct Tally {
     pub pairs: Option<pairs::Tally>,
     /// And of traces run through tables.
     pub traces: Option<traces::Tally>,
+    /// And of what was saved.
+    pub salvage: Option<salvage::Tally>,
     /// By mode: how often each number came, both sides agreeing.
     answers: [Answers; 3],
 }
@@ -94,6 +97,9 @@ impl Tally {
         if let Some(traces) = &self.traces {
             traces.print_answers();
         }
+        if let Some(salvage) = &self.salvage {
+            salvage.print_answers();
+        }
     }
 
     /// Prints the answers of this mode that should have come and did not, those to a whole table and these
@@ -119,7 +125,9 @@ impl Tally {
         let receiving = self.receiving.as_ref().map_or(0, |them| them.differences.0);
         let pairs = self.pairs.as_ref().map_or(0, |them| them.differences.0);
         let traces = self.traces.as_ref().map_or(0, |them| them.differences.0);
-        let asked_of_tables = fields + fans + removals + sheets + hex + receiving + pairs + traces;
+        let salvage = self.salvage.as_ref().map_or(0, |them| them.differences.0);
+        let asked_of_tables = fields + fans + removals + sheets + hex + receiving + pairs;
+        let asked_of_tables = asked_of_tables + traces + salvage;
         self.differences.0 + self.listing_differences.0 + asked_of_tables
     }
 
@@ -153,6 +161,9 @@ impl Tally {
         }
         if let Some(traces) = &self.traces {
             traces.print_sum();
+        }
+        if let Some(salvage) = &self.salvage {
+            salvage.print_sum();
         }
     }
 }

@@ -1,7 +1,7 @@
 /* A tour of the library from C: is a file a table, what stands in it, is there a fan in a zone, how a new one is written,
    which pins are taken, how it is written again and moved to Intel HEX and back; a lamp that one of the two chips has no pin for; an
    old sensor that the archive's rules alone take; a lamp of three colours on a chip of its own; what an element is called; how a
-   part is taken out; and what was altered in a table.
+   part is taken out; what was altered in a table; and what can be saved of a damaged one.
    tour [FILE]      without FILE it looks at a table of its own. On x86-64:
    rt staticlib esa && cc -std=c99 -I include examples/c/tour.c target/staticlib/libesa.a -o tour */
 #include <stdio.h>
@@ -267,8 +267,8 @@ static void side_by_side(uint8_t *other, size_t length)
     printf("with no zone 3: table %u is refused, %u at %zu\n", esa_diff_table(answer), esa_number(answer), esa_place(answer));
 }
 
-/* A recording from the bench, cut in two: pulses of the fan twice, an element that is not there, the zone, which has no reading, and what is
-   no line. The last line has no line feed, so it is answered at the end. */
+/* A recording from the bench, cut in two: pulses of the fan twice, an element that is not there, the zone, which has no reading, and
+   what is no line. The last line has no line feed, so it is answered at the end. */
 static void recorded(void)
 {
     static const char trace[] = "0\t0\t40\n0\t9\t1\n1\t1\t3\nno line\n2\t0\t25";
@@ -283,6 +283,19 @@ static void recorded(void)
     printf("%.*s", (int)length, (const char *)text);
     length = esa_trace_end(&state, text);
     printf("%.*s", (int)length, (const char *)text);
+}
+
+/* A damaged table: the zone's identifier is lost, and with it the zone of the fan; then the device type too, and nothing can be saved. */
+static void damaged(uint8_t *table, size_t length)
+{
+    static uint8_t lines[ESA_SALVAGE_LINES];
+    uint8_t out[ESA_LONGEST];
+    table[32] = 0x4B;
+    uint64_t answer = esa_salvage(table, length, CHIP, out, sizeof out, lines);
+    if (esa_number(answer) == ESA_GOOD)
+        printf("what is left: %zu bytes\n%.*s", esa_place(answer), (int)esa_length(answer), (const char *)lines);
+    table[3] = 9;
+    told("with device type 9", esa_salvage(table, length, CHIP, out, sizeof out, lines), "bytes");
 }
 
 int main(int count, char **arguments)
@@ -342,5 +355,9 @@ int main(int count, char **arguments)
 
     printf("\na recording from the bench\n");
     recorded();
+
+    printf("\na damaged table\n");
+    memcpy(buffer, own_table, sizeof own_table);
+    damaged(buffer, sizeof own_table);
     return good ? 0 : 1;
 }

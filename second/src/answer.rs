@@ -27,6 +27,7 @@ pub mod number {
     pub const HEX: u8 = 21;
     pub const STILL_NAMED: u8 = 22;
     pub const RETIRED: u8 = 23;
+    pub const NO_DESCRIPTION: u8 = 24;
     pub const TOO_LARGE: u8 = 25;
 
     /// Every answer that a reader has to a whole table.

@@ -47,7 +47,8 @@ pub fn cleared(table: &[u8]) -> Vec<u8> {
     bytes
 }
 
-fn clear(table: &mut [u8]) {
+/// The same in its own place.
+pub(crate) fn clear(table: &mut [u8]) {
     table[12..16].fill(0);
     let mut place = 16;
     // A kind with reserved places has 14 bytes or more, and none of them behind byte 11.

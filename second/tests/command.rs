@@ -61,6 +61,39 @@ fn takes_an_element_out() {
     assert_eq!(refused.stdout, b"R\t10\t16\n");
 }
 
+/// The table on standard output and the lines on standard error; or the `R` line alone. The first 4,096 bytes count.
+#[test]
+fn saves_what_can_be_saved() {
+    let mut file = raw::table(&[
+        raw::current(1, 0x24),
+        raw::fan(2, 0x05, 0xFF),
+        raw::zone(1, 7),
+    ]);
+    file.extend([0x0F, 3, 0, 0xFF]);
+    let wanted = raw::table(&[raw::current(1, 0x24), raw::zone(1, 0)]);
+    let out = run(&["salvage"], &file);
+    assert!(out.status.success());
+    assert_eq!(out.stdout, wanted);
+    let lines = b"76\t7\tleft out\n30\t13\tleft out\n46\t14\tcleared\n";
+    assert_eq!(out.stderr, lines);
+    let out = run(&["salvage", "--chip", "321"], &file);
+    assert_eq!(out.stdout, raw::table(&[raw::zone(1, 0)]));
+    let lines = b"16\t10\tleft out\n76\t7\tleft out\n30\t13\tleft out\n46\t14\tcleared\n";
+    assert_eq!(out.stderr, lines);
+    let lost = run(&["salvage"], &TABLE_A[..15]);
+    assert!(lost.status.success());
+    assert_eq!(
+        (&lost.stdout[..], &lost.stderr[..]),
+        (&b"R\t24\t0\n"[..], &[][..])
+    );
+    let long = [&TABLE_A[..], &[0x0F, 3, 0].repeat(30_000)].concat();
+    let out = run(&["salvage"], &long);
+    assert_eq!(out.stdout, TABLE_A);
+    assert!(out
+        .stderr
+        .ends_with(b"4090\t7\tleft out\n4093\t7\tleft out\n"));
+}
+
 #[test]
 fn prints_the_pin_sheet() {
     let table = raw::table(&[raw::zone(1, 0), raw::current(1, 0x24)]);
@@ -300,7 +333,7 @@ fn holds_itself_against_itself() {
 
 #[test]
 fn misuse_is_told_and_gives_status_2() {
-    let misuses: [&[&str]; 60] = [
+    let misuses: [&[&str]; 63] = [
         &[],
         &["dance"],
         &["list", "extra"],
@@ -352,6 +385,9 @@ fn misuse_is_told_and_gives_status_2() {
         &["unhex", "extra"],
         &["unhex", "--archive"],
         &["unhex", "--chip", "322"],
+        &["salvage", "extra"],
+        &["salvage", "--archive"],
+        &["salvage", "--chip", "322"],
         &["diff", "one"],
         &["diff", "one", "two", "three"],
         &["diff", "--archive", "one", "two"],

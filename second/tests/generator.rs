@@ -200,6 +200,44 @@ fn the_same_seed_gives_the_same_tables() {
     assert_eq!(found, [0x6053_E038_8C8F_C0FA, 0x71D5_648B_8493_5545]);
 }
 
+/// Damaged files of every sort: what is left of them, and what is wrong with them.
+#[test]
+fn damaged_files_are_of_every_sort() {
+    for chip in Chip::BOTH {
+        let mut random = Random::new(14);
+        let mut met: HashSet<&str> = HashSet::new();
+        let mut meets = |sort, met_here: bool| met_here.then(|| met.insert(sort));
+        for _ in 0..4_000 {
+            let file = generator::wrecked(&mut random, chip.into());
+            let taken = &file[..file.len().min(4_096)];
+            meets("just 4,096 bytes", file.len() == 4_096);
+            meets("just 4,097 bytes", file.len() == 4_097);
+            let Ok((table, lines)) = second::saved(&file, chip) else {
+                meets("lost", true);
+                continue;
+            };
+            let lines = lines.iter().filter(|&&byte| byte == b'\n').count();
+            let (before, left) = (generator::raw::cut(taken).count(), walk(&table).count());
+            meets(
+                "96 kept, and more behind",
+                left == 96 && lines + 96 < before,
+            );
+            meets("a table as it was", lines == 0 && table == file);
+            meets(
+                "reserved places alone",
+                lines == 0 && table.len() == file.len() && table != file,
+            );
+            meets("all lost but the description", left == 0 && lines > 0);
+            meets("as many lines as there can be", lines == 1_360);
+            meets(
+                "more than half saved of much",
+                left > 20 && lines < left / 2 && lines > 2,
+            );
+        }
+        assert_eq!(met.len(), 9, "{chip:?}: {met:?}");
+    }
+}
+
 #[test]
 fn mixed_tables_have_as_many_elements_as_asked_for() {
     let mut random = Random::new(17);

@@ -1,5 +1,5 @@
 # Part of tests/esa: the sample tables, held to the texts beside them.
-# shellcheck shell=sh disable=SC2015,SC2154
+# shellcheck shell=sh disable=SC2012,SC2015,SC2154
 
 hex_of() { # FILE
     od -An -v -tx1 "$1" | tr -d ' \n' | tr a-f A-F
@@ -40,7 +40,11 @@ as_the_text_says() { # COMMAND NAME STATUS
     [ -s "$work/wanted" ] && [ "$status" = "$3" ] && cmp -s "$work/seen.out" "$work/wanted" || show
 }
 
+# The names of the samples that were tried.
+sampled=''
+
 sample() { # NAME STATUS
+    sampled="$sampled$1 "
     try "$1.txt has the bytes of $1.esa" same_bytes "$1"
     try "./esa check of $1 is as its text says" as_the_text_says check "$1" "$2"
     try "./esa list of $1 is as its text says" as_the_text_says list "$1" "$2"
@@ -53,8 +57,10 @@ sample_with() { # NAME STATUS OPTION STATUS
     try "./esa list $3 of $1 is as its text says" as_the_text_says "list $3" "$1" "$4"
 }
 
-fourteen_samples() {
-    [ "$(find "$tables" -type f | wc -l)" -eq 29 ]
+# Each sample is tried and has a text; and beside them stand the quiet box in Intel HEX, and a trace of it.
+every_sample() {
+    for name in $sampled; do echo "$name.esa" && echo "$name.txt"; done | cat - "$work/beside" | sort >"$work/wanted"
+    ls "$tables" | sort | cmp -s - "$work/wanted" || { ls "$tables" | sort | diff - "$work/wanted" | sed 's/^/  /'; return 1; }
 }
 
 samples() {
@@ -72,7 +78,9 @@ samples() {
     sample blank 1
     sample lamp 1
     sample twice 1
+    sample damaged 1
     sample_with larger-chip 0 '--chip 321' 1
     sample_with old-box 1 --archive 0
-    try "fourteen sample tables with a text each, one of them as Intel HEX too, and nothing else" fourteen_samples
+    printf 'quiet-box.hex\nquiet-box.trace\n' >"$work/beside"
+    try "every sample table is tried and has a text, and nothing else stands there but the quiet box's HEX and trace" every_sample
 }

@@ -63,6 +63,8 @@ of_a_long_trace() {
     try "line 1,000,000" [ "$(sed -n 1000000p seen.out)" = 60 ]
     try "the lines past it" [ "$(sed -n '1000001,1000002p' seen.out)" = "R	19	1000001${newline}R	19	1000002" ]
     try "its tallies" [ "$(sed -n 1000003p seen.out)" = "0	60	60	1000000	0	0" ]
+    { "$esa" trace good long 2>seen.err || echo $? >seen.status; } | head -n 1 >seen.out
+    try "a reader that goes early" [ "$(cat seen.out seen.err) $(cat seen.status)" = "60 141" ]
     rm -f long
 }
 

@@ -10,3 +10,4 @@ pub mod Sheets
 pub mod Hex
 pub mod Differences
 pub mod Traces
+pub mod Salvage

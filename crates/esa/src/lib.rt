@@ -29,6 +29,7 @@ ghost use Rattle.esa.specs.Blocks.{packedBlock, packedPair, packedEntrie
 ghost use Rattle.esa.specs.Writing.{StartedFor, AppendedFor, RewrittenFor, RemovedFor};
 ghost use Rattle.esa.specs.Sheets.{SheetFor};
 ghost use Rattle.esa.specs.Hex.{HexFor, UnhexFor};
+ghost use Rattle.esa.specs.Salvage.{SalvagedFor};
 use format::answers::Asked;
 use format::answers::Described;
 use format::pins::Chip;
@@ -341,6 +342,20 @@ pub extern "C" fn esa_remove(table: &mut [u8], k: usize, settings: u64) -> u64
     ensures { λ r. ⌜ RemovedFor (chipOf settings) (now (table .entry)) k r (now (table .exit)) ⌝ }
 {
     packing::written(removing::remove(table, k, chip_of(settings)))
+}
+
+// What can be saved of a damaged table, at the front of the buffer, and its lines at the front of the other, by the writer's rules. Beside 0
+// stand both lengths, beside a refusal its place.
+#[no_mangle]
+pub extern "C" fn esa_salvage(
+    file: &[u8],
+    settings: u64,
+    out: &mut [u8],
+    lines: &mut [u8; 32768],
+) -> u64
+    ensures { λ r. ⌜ SalvagedFor (chipOf settings) (now (file .entry)) (now (out .entry)) (now (lines .entry)) r (now (out .exit)) (now (lines .exit)) ⌝ }
+{
+    packing::salvaged(salvaging::salvage(file, out, lines, chip_of(settings)))
 }
 
 // The text in Intel HEX of a table that the archive's rules accept, at the front of the buffer. Beside 0 stands its length, beside a

@@ -9,6 +9,7 @@ ghost use Rattle.esa.specs.Fans.{oneIf, packedZoned, Bounded};
 ghost use Rattle.esa.specs.Differences.{packedOutcome, Fitted};
 ghost use Rattle.esa.specs.Blocks.{packedBlock, packedPair, packedEntries};
 ghost use Rattle.esa.specs.Writing.{packedWritten};
+ghost use Rattle.esa.specs.Salvage.{packedSalvaged, SalvageFits};
 use comparing::Outcome;
 use fans::Zoned;
 use format::answers::Answer;
@@ -18,6 +19,7 @@ use labels::Source;
 use parts::MaybeBlock;
 use parts::MaybeEntries;
 use parts::MaybePair;
+use saving::Salvaged;
 
 // Of a check: beside 0 the number of elements.
 pub fn answer(a: Answer) -> u64
@@ -120,6 +122,17 @@ pub fn outcome(o: Outcome) -> u64
     match o {
         Outcome::Text(n) => pack(0, n),
         Outcome::Refused(w, k, p) => pack(k, p + 65536 * words::wide(w)),
+    }
+}
+
+// Of salvage: beside 0 the length of the new table and that of the text of the lines.
+pub fn salvaged(s: Salvaged) -> u64
+    requires { ⌜ SalvageFits s ⌝ }
+    ensures { λ r. ⌜ r ≡ packedSalvaged s ⌝ }
+{
+    match s {
+        Salvaged::Done(n, m) => pack(0, n + 65536 * m),
+        Salvaged::Refused(k, p) => pack(k, p),
     }
 }
 

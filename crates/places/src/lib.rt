@@ -44,7 +44,7 @@ fn string_marked(t: &[u8], at: usize, marks: &[bool; 256]) -> bool
 }
 
 // The zone, or the string.
-fn marked(t: &[u8], at: usize, marks: &[bool; 256], zone: bool) -> bool
+pub fn marked(t: &[u8], at: usize, marks: &[bool; 256], zone: bool) -> bool
     requires { ⌜ ((x : Role) × RoleBytes (now t) at x) ⌝ }
     ensures { λ r. ⌜ ((x : Role) (ns : List ℕ) → RoleBytes (now (t .entry)) at x → Marks (now (marks .entry)) ns → r ≡ allAmong (namesOf zone x) ns) ⌝ }
 {

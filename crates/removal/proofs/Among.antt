@@ -34,7 +34,7 @@ or-map : (a : Bool) {b c : Bool} → (b ≡ true → c ≡ true) → a || b ≡ 
 or-map true f h = refl
 or-map false f h = f h
 
-not-so : (t : Bool) → (t ≡ true → ⊥) → t ≡ false
+pub not-so : (t : Bool) → (t ≡ true → ⊥) → t ≡ false
 not-so true n = absurd (n refl)
 not-so false n = refl
 

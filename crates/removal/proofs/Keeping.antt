@@ -23,7 +23,7 @@ use Rattle.removal.proofs.Passing.{part-passed}
 use Rattle.removal.proofs.Claims.{part-uncontested}
 
 -- 25, of the description: another table length that is within the limit fits its field too
-opening-roomy : (d : Description) (m n : ℕ) → n ≤ 4096 → allRoomy (opening d m) ≡ true → allRoomy (opening d n) ≡ true
+pub opening-roomy : (d : Description) (m n : ℕ) → n ≤ 4096 → allRoomy (opening d m) ≡ true → allRoomy (opening d n) ≡ true
 opening-roomy d m n top h =
     let a = and-true (roomy (whole (m % 256))) _ h in
     let b = and-true (roomy (whole (m / 256))) _ (a .1) in

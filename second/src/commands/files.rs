@@ -38,6 +38,7 @@ fn maker(kind: &str) -> Result<Make, String> {
         "controllers" => Ok(generator::controllers),
         "texts" => Ok(generator::texts),
         "damaged" => Ok(generator::damaged),
+        "wrecked" => Ok(generator::wrecked),
         "any" => Ok(generator::any),
         _ => Err(format!("there is no kind '{kind}'")),
     }

@@ -22,18 +22,20 @@ use: second COMMAND [--chip 320|321] [--archive] ...
   unhex                                      the table of the Intel HEX on standard input
   receive [BYTES]                            check the table on standard input in reports of so many bytes, 64 if
                                              it is not said
+  salvage                                    what can be saved of the file on standard input; its lines go to
+                                             standard error
   diff ONE TWO                               the fields in which two tables differ, one line each
   trace TABLE [TRACE]                        the counts of a trace, or of standard input, run through a table
   lines --seed S --count N TABLE             a trace of so many lines for a table, good ones and others
   check FILE...                              number, place or count, and file, one line each
   rows --seed S --count N --max BYTES        tables in hex with their answers
   make KIND --seed S --count N DIR           tables as files; KIND is valid, mixed, controllers,
-                                             texts, damaged or any
+                                             texts, damaged, wrecked or any
   self --seed S --count N                    hold the program's own parts against each other
   bench                                      time the reader
 The chip is the 320 if none is named, and the rules are the ordinary ones without --archive. Tables are
-made, read and written for them; rewrite, fan, remove, pins, trace and lines have the ordinary rules
-alone, hex, unhex and diff the archive's.
+made, read and written for them; rewrite, fan, remove, pins, trace, lines and salvage have the ordinary
+rules alone, hex, unhex and diff the archive's.
 ";
 
 /// A command's end: good, a failure already told, or a misuse to be told with the usage.
@@ -65,7 +67,7 @@ pub fn run(arguments: &[String]) -> ExitCode {
 fn dispatch(command: &str, settings: Settings, rest: &[String]) -> End {
     match command {
         "list" => stream::list(settings, rest),
-        "rewrite" | "fan" | "remove" | "pins" | "trace" | "lines"
+        "rewrite" | "fan" | "remove" | "pins" | "trace" | "lines" | "salvage"
             if settings.rules == Rules::Archive =>
         {
             End::Misused(format!("'{command}' has the ordinary rules alone"))
@@ -82,6 +84,7 @@ fn dispatch(command: &str, settings: Settings, rest: &[String]) -> End {
         "pins" => stream::pins(settings.chip, rest),
         "hex" => stream::hex(settings.chip, rest),
         "unhex" => stream::unhex(settings.chip, rest),
+        "salvage" => stream::salvage(settings.chip, rest),
         "receive" => stream::receive(settings, rest),
         "check" => files::check(settings, rest),
         "rows" => rows::rows(settings, rest),

@@ -6,6 +6,7 @@ use second::answer::number;
 use second::generator;
 use second::histogram::Histogram;
 use second::random::Random;
+use second::salvage::Line;
 use second::{plain, Chip, Receiver, Rules, Settings, Verdict};
 
 pub fn own(settings: Settings, arguments: &[String]) -> End {
@@ -21,12 +22,15 @@ pub fn own(settings: Settings, arguments: &[String]) -> End {
         let other = generator::beside(&mut random, &table, settings);
         let verdict = second::check(&table, settings);
         histogram.add(verdict.number());
+        let wreck = generator::wrecked(&mut random, settings);
         let compared = compare(&table, settings, verdict)
             .and_then(|()| side_by_side(&table, &other, settings.chip))
-            .and_then(|()| traced(&mut random, &table, settings.chip));
+            .and_then(|()| traced(&mut random, &table, settings.chip))
+            .and_then(|()| saved(&table, settings.chip))
+            .and_then(|()| saved(&wreck, settings.chip));
         if let Err(what) = compared {
             differences += 1;
-            eprintln!("second: {what}: {table:02X?}");
+            eprintln!("second: {what}: {table:02X?}, {wreck:02X?}");
         }
     }
     print!("{}", histogram.lines());
@@ -140,6 +144,28 @@ fn traced(random: &mut Random, table: &[u8], chip: Chip) -> Result<(), &'static 
     match second::trace::output(table, &trace, chip) == plain::trace(table, &trace, chip) {
         true => Ok(()),
         false => Err("the fast and the plain trace differ"),
+    }
+}
+
+/// What can be saved, by sets and by asking the reader again and again; it is accepted, and saved once more it is the same.
+fn saved(file: &[u8], chip: Chip) -> Result<(), &'static str> {
+    let saved = second::saved(file, chip);
+    let plain = plain::salvage(file, chip).map(|(table, lines)| {
+        let text: String = lines.iter().map(Line::to_string).collect();
+        (table, text.into_bytes())
+    });
+    if saved != plain {
+        return Err("saved by sets and by asking the reader differ");
+    }
+    let Ok((table, _)) = saved else {
+        return Ok(());
+    };
+    if second::check(&table, chip.into()).number() != 0 {
+        return Err("what was saved is refused");
+    }
+    match second::saved(&table, chip) == Ok((table, Vec::new())) {
+        true => Ok(()),
+        false => Err("saving twice changes something"),
     }
 }
 

@@ -1,6 +1,7 @@
-//! `list`, `rewrite`, `fan`, `remove`, `pins`, `hex`, `unhex` and `receive`: a table, or its text, from standard input.
+//! `list`, `rewrite`, `fan`, `remove`, `pins`, `hex`, `unhex`, `receive` and `salvage`: a table, or its text, from standard input.
 
 use super::End;
+use second::answer::LARGEST_TABLE;
 use second::sheet::FREE;
 use second::{Chip, Receiver, Refusal, Settings};
 use std::io::{Read, Write};
@@ -118,6 +119,21 @@ pub fn unhex(chip: Chip, arguments: &[String]) -> End {
         let mut out = vec![0; text.len()];
         written(second::unhex(text, chip, &mut out), out)
     })
+}
+
+/// The new table, and its lines on standard error; or the `R` line. The first 4,096 bytes count.
+pub fn salvage(chip: Chip, arguments: &[String]) -> End {
+    transform_most(
+        LARGEST_TABLE as u64,
+        arguments,
+        |file| match second::saved(file, chip) {
+            Ok((table, lines)) => {
+                eprint!("{}", String::from_utf8_lossy(&lines));
+                table
+            }
+            Err(refusal) => refusal_line(refusal),
+        },
+    )
 }
 
 fn written(answer: Result<usize, Refusal>, mut out: Vec<u8>) -> Vec<u8> {

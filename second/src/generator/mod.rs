@@ -16,6 +16,7 @@ mod targeted;
 mod texts;
 mod traces;
 mod valid;
+mod wrecked;
 
 use crate::random::Random;
 use crate::settings::Settings;
@@ -32,6 +33,7 @@ pub use targeted::{targeted, Case};
 pub use texts::{spoil, text, texts};
 pub use traces::{edge_counts, pieces, trace};
 pub use valid::{controllers, mixed, mixed_of, valid, valid_parts};
+pub use wrecked::wrecked;
 
 /// A table of any sort; those that are good, or were good once, are so with these settings.
 pub fn any(random: &mut Random, settings: Settings) -> Vec<u8> {

@@ -37,7 +37,7 @@ pub fn structured(random: &mut Random) -> Vec<u8> {
 }
 
 /// An element whose bytes are drawn from those that mean something somewhere.
-fn likely(random: &mut Random) -> Vec<u8> {
+pub(super) fn likely(random: &mut Random) -> Vec<u8> {
     let identifier = *random.pick(&id::ALL);
     let length = match identifier {
         id::ZONE => 30,

@@ -12,6 +12,7 @@ mod label;
 mod listing;
 mod receiver;
 mod remove;
+mod salvage;
 mod trace;
 
 use crate::answer::{
@@ -32,6 +33,7 @@ pub use label::label;
 pub use listing::listing;
 pub use receiver::Receiver;
 pub use remove::remove;
+pub use salvage::salvage;
 pub use trace::{converted, trace};
 
 /// One element as found: where it starts, its record and its variable part.

@@ -6,7 +6,7 @@
 
 mod blocks;
 pub(crate) mod kinds;
-mod places;
+pub(crate) mod places;
 pub(crate) mod seen;
 pub(crate) mod sets;
 mod text;
@@ -119,7 +119,7 @@ fn with_elements(table: &[u8], head: &[u8; 16], chosen: Chosen) -> Verdict {
 
 /// Identifier and length of the element at the front; `None` where rule 6 is broken.
 #[inline(always)]
-fn header(rest: &[u8]) -> Option<(u8, usize)> {
+pub(crate) fn header(rest: &[u8]) -> Option<(u8, usize)> {
     let &[identifier, low, high] = rest.first_chunk()?;
     let length = usize::from(u16::from_le_bytes([low, high]));
     (3..=rest.len())

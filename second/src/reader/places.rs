@@ -45,28 +45,12 @@ pub fn string(table: &[u8], declared: &NumberSet) -> usize {
 /// 15: the place of the first claim, in claim order, that clashes with an earlier one.
 #[cold]
 pub fn clash(table: &[u8]) -> usize {
-    let mut claims = Claims {
-        shared: 0,
-        select: 0,
-        alone: FAULT_LED,
-    };
+    let mut claims = Claims::new();
     if claims.alone([table[9], table[10], table[11]]) {
         return 0;
     }
     walk(table)
-        .find(|(_, e)| match e[0] {
-            id::DIGITAL_SENSOR | id::CONTROLLER | id::TACHOMETER | id::EXTERNAL_RGB => {
-                claims.device(e[8], e[9])
-            }
-            id::ANALOGUE_SENSOR => claims.shared(REFERENCE) || claims.alone([e[9]]),
-            id::WATER_LEVEL | id::VOLTAGE | id::CURRENT => {
-                claims.shared(REFERENCE) || claims.alone([e[8]])
-            }
-            id::FAN | id::PUMP => claims.alone([e[8], e[9]]),
-            id::RGB_LED => claims.alone([e[8], e[9], e[10]]),
-            id::STATUS_LED => claims.alone([e[8], e[10], e[12]]),
-            _ => false,
-        })
+        .find(|(_, e)| claims.element(e))
         .map_or(0, |(place, _)| place)
 }
 
@@ -76,13 +60,40 @@ fn bit(pin: u8) -> PinSet {
 }
 
 /// The claims so far. Each call answers whether the new ones clash with an earlier one.
-struct Claims {
+#[derive(Clone, Copy)]
+pub struct Claims {
     shared: PinSet,
     select: PinSet,
     alone: PinSet,
 }
 
 impl Claims {
+    /// The fault LED's.
+    pub fn new() -> Claims {
+        Claims {
+            shared: 0,
+            select: 0,
+            alone: FAULT_LED,
+        }
+    }
+
+    /// Those of an element that the pass has found good.
+    pub fn element(&mut self, e: &[u8]) -> bool {
+        match e[0] {
+            id::DIGITAL_SENSOR | id::CONTROLLER | id::TACHOMETER | id::EXTERNAL_RGB => {
+                self.device(e[8], e[9])
+            }
+            id::ANALOGUE_SENSOR => self.shared(REFERENCE) || self.alone([e[9]]),
+            id::WATER_LEVEL | id::VOLTAGE | id::CURRENT => {
+                self.shared(REFERENCE) || self.alone([e[8]])
+            }
+            id::FAN | id::PUMP => self.alone([e[8], e[9]]),
+            id::RGB_LED => self.alone([e[8], e[9], e[10]]),
+            id::STATUS_LED => self.alone([e[8], e[10], e[12]]),
+            _ => false,
+        }
+    }
+
     fn shared(&mut self, pins: PinSet) -> bool {
         self.shared |= pins;
         pins & (self.select | self.alone) != 0
@@ -97,7 +108,7 @@ impl Claims {
         self.shared(SPI_BUS) || select & (self.shared | self.alone) != 0
     }
 
-    fn alone<const N: usize>(&mut self, pins: [u8; N]) -> bool {
+    pub fn alone<const N: usize>(&mut self, pins: [u8; N]) -> bool {
         pins.into_iter().any(|pin| {
             let pin = bit(pin);
             let taken = pin & (self.shared | self.select | self.alone) != 0;

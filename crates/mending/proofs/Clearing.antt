@@ -1,0 +1,125 @@
+-- A record with its string index at 0 is laid out as the record with one byte at 0: byte 3, of a zone descriptor byte 4.
+-- Assumes nothing.
+use Prim.Native.Nat.{ℕ, zero, suc, _+_, _≤_, _<_}
+use native.Mathlib.Omega.{arith}
+use mathlib.Core.Path.{_≡_, refl, sym, _∙_, ap}
+use mathlib.Core.Bool.{Bool, true, false, cond}
+use mathlib.Core.List.{List, [], _∷_, _++_, map}
+use lib.ListN.{length, take, drop, set, length-set, length-map, length-append}
+use lib.Seq.{length-take-le, set-append-left}
+use lib.Dec.{eqb}
+use borrow.Author.Tests.{eq-eqb, ne-eqb, eqb-true, leb-true}
+use Rattle.format.specs.Slots.{Slot, whole, written, byteOf, byte}
+use Rattle.format.specs.Records.{Record, digital, analogue, fan, led, water, pump, voltage, current, controller, tachometer, zone, string, external, rgb}
+use Rattle.format.specs.Layout.{layout}
+use Rattle.format.specs.Rules.{shaped}
+use Rattle.format.specs.ZonesAndStrings.{Role, placed, zoning, naming, role}
+use Rattle.format.specs.Writing.{overwritten}
+use Rattle.format.proofs.Written.{length-written}
+use Rattle.places.specs.Walks.{RoleBytes}
+use Rattle.saving.specs.Saving.{unindexed}
+use Rattle.mending.specs.Laid.{clearedAt}
+
+-- by what the element is to the others
+abbrev clearedSlots : Role → List Slot → List Slot
+clearedSlots (placed p) ss = set ss 3 (whole 0)
+clearedSlots (zoning bytes) ss = set ss 4 (whole 0)
+clearedSlots (naming bytes) ss = ss
+
+map-set : (bytes : List ℕ) (k : ℕ) → map whole (set bytes k 0) ≡ set (map whole bytes) k (whole 0)
+map-set [] k = refl
+map-set (b ∷ bytes) zero = refl
+map-set (b ∷ bytes) (suc k) = ap (λ (l : List Slot). whole b ∷ l) (map-set bytes k)
+
+cleared-layout : (r : Record) → layout (unindexed r) ≡ clearedSlots (role r) (layout r)
+cleared-layout (digital d) = refl
+cleared-layout (analogue a) = refl
+cleared-layout (fan f) = refl
+cleared-layout (led l) = refl
+cleared-layout (water w) = refl
+cleared-layout (pump f) = refl
+cleared-layout (voltage v) = refl
+cleared-layout (current c) = refl
+cleared-layout (controller d bs) = refl
+cleared-layout (tachometer d a b) = refl
+cleared-layout (zone bytes) = rw (map-set bytes 1, length-set (map whole bytes) 1 (whole 0)) refl
+cleared-layout (string bytes) = refl
+cleared-layout (external x r g b) = refl
+cleared-layout (rgb r) = refl
+
+-- an element has room for its index
+pub long-enough : (r : Record) → shaped r ≡ true → 5 ≤ length (layout r)
+long-enough (digital d) h = omega arith
+long-enough (analogue a) h = omega arith
+long-enough (fan f) h = omega arith
+long-enough (led l) h = omega arith
+long-enough (water w) h = omega arith
+long-enough (pump f) h = omega arith
+long-enough (voltage v) h = omega arith
+long-enough (current c) h = omega arith
+long-enough (controller d bs) h = omega arith
+long-enough (tachometer d a b) h = omega arith
+long-enough (zone bytes) h = omega (arith, eqb-true (3 + length bytes) 30 h, length-map bytes whole)
+long-enough (string bytes) h = omega (arith, leb-true 6 (3 + length bytes) h, length-map bytes whole)
+long-enough (external x r g b) h = omega arith
+long-enough (rgb r) h = omega arith
+
+-- a byte set in what was laid out
+written-set : (ss : List Slot) (k : ℕ) → written (set ss k (whole 0)) ≡ set (written ss) k 0
+written-set [] k = refl
+written-set (s ∷ ss) zero = refl
+written-set (s ∷ ss) (suc k) = ap (λ (l : List ℕ). byteOf s ∷ l) (written-set ss k)
+
+set-behind : (xs ys : List ℕ) (k v : ℕ) → set (xs ++ ys) (length xs + k) v ≡ xs ++ set ys k v
+set-behind [] ys k v = let e : 0 + k ≡ k = omega arith in rw e refl
+set-behind (x ∷ xs) ys k v =
+    let e : suc (length xs) + k ≡ suc (length xs + k) = omega arith in
+    rw e (ap (λ (l : List ℕ). x ∷ l) (set-behind xs ys k v))
+
+set-over :
+    (at k : ℕ) (new b : List ℕ)
+    → at ≤ length b
+    → k < length new
+    → set (overwritten at new b) (at + k) 0 ≡ overwritten at (set new k 0) b
+set-over at k new b h l =
+    let e : length (take at b) ≡ at = length-take-le at b h in
+    let n : at + length (set new k 0) ≡ at + length new = ap (λ (m : ℕ). at + m) (length-set new k 0) in
+    set-append-left (take at b ++ new) (drop (at + length new) b) (at + k) 0 (omega (arith, e, l, length-append (take at b) new))
+    ∙ ap (λ (x : List ℕ). x ++ drop (at + length new) b)
+    (ap (λ (m : ℕ). set (take at b ++ new) (m + k) 0) (sym e) ∙ set-behind (take at b) new k 0)
+    ∙ ap (λ (m : ℕ). take at b ++ set new k 0 ++ drop m b) (sym n)
+
+over-cleared :
+    (at k : ℕ) (ss : List Slot) (b : List ℕ)
+    → at ≤ length b
+    → k < length ss
+    → set (overwritten at (written ss) b) (at + k) 0 ≡ overwritten at (written (set ss k (whole 0))) b
+over-cleared at k ss b h l =
+    set-over at k (written ss) b h (omega (arith, l, length-written ss)) ∙ ap (λ (x : List ℕ). overwritten at x b) (sym (written-set ss k))
+
+-- the index of the element at a place is cleared, by its identifier
+pub cleared-over :
+    (r : Record) (t : List ℕ) (from at : ℕ) (b : List ℕ)
+    → RoleBytes t from (role r)
+    → shaped r ≡ true
+    → at ≤ length b
+    → clearedAt (byte t from) at (overwritten at (written (layout r)) b) ≡ overwritten at (written (layout (unindexed r))) b
+cleared-over r t from at b h s l =
+    go (role r) h (cleared-layout r)
+  where
+    long : 5 ≤ length (layout r)
+    long = long-enough r s
+
+    laid : {ss : List Slot} → layout (unindexed r) ≡ ss → overwritten at (written ss) b ≡ overwritten at (written (layout (unindexed r))) b
+    laid e = ap (λ (l : List Slot). overwritten at (written l) b) (sym e)
+
+    go :
+        (x : Role)
+        → RoleBytes t from x
+        → layout (unindexed r) ≡ clearedSlots x (layout r)
+        → clearedAt (byte t from) at (overwritten at (written (layout r)) b) ≡ overwritten at (written (layout (unindexed r))) b
+    go (placed p) h e =
+        rw (ne-eqb (byte t from) 11 (h .0), ne-eqb (byte t from) 12 (h .1)) (over-cleared at 3 (layout r) b l (omega (arith, long)))
+        ∙ laid e
+    go (zoning bytes) h e = rw (eq-eqb (byte t from) 11 (h .0)) (over-cleared at 4 (layout r) b l (omega (arith, long))) ∙ laid e
+    go (naming bytes) h e = rw (h .0) refl ∙ laid e

@@ -1,0 +1,3 @@
+pub mod Clearing
+pub mod Laying
+pub mod Listing

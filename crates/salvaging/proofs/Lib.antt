@@ -1,0 +1,3 @@
+pub mod Deciding
+pub mod Salvaging
+pub mod Only

@@ -1,0 +1,181 @@
+// Saving what can be saved of a damaged table, as one call, with the ordinary rules. Memory holds no record: of each element that is
+// kept its old place, and of each change a number. Everything is decided before a byte is written.
+ghost use mathlib.Core.Path.{_≡_};
+ghost use mathlib.Core.Bool.{true};
+ghost use Prim.Native.Nat.{_<_, _≤_};
+ghost use lib.ListN.{length};
+ghost use Rattle.format.specs.Slots.{byte, Bytes};
+ghost use Rattle.format.specs.Claims.{madeAt, firstClaims};
+ghost use Rattle.format.specs.Decode.{readDescription};
+ghost use Rattle.claims.specs.Taken.{HeldIs};
+ghost use Rattle.saving.specs.Saving.{taken as takenOf, salvageable};
+ghost use Rattle.scanning.specs.Scanned.{Scanned};
+ghost use Rattle.salvaging.specs.Decided.{described, Decided, NotesFirst};
+ghost use Rattle.salvaging.specs.Salvages.{Salvages};
+use changes::put_lines;
+use claims::Held;
+use fates::Counts;
+use format::pins::Chip;
+use mending::new_length;
+use mending::put_table;
+use pass::State;
+use saving::Salvaged;
+use scanning::scan;
+use sifting::Stage;
+use sifting::sift;
+use words::wide;
+
+// How many are kept and how many lines there are, whether the description's string index is cleared, and the length of the new table.
+struct Plan {
+    kept: usize,
+    lines: usize,
+    cleared: bool,
+    len: usize,
+}
+
+// The new table at the front of `out` and the text of the lines at the front of `lines`, with both lengths; or 24 at 0, or 16 at 0 where
+// the table does not fit. With a refusal no byte of the two alters. Only the first 4,096 bytes of the file are looked at.
+pub fn salvage(file: &[u8], out: &mut [u8], lines: &mut [u8; 32768], chip: Chip) -> Salvaged
+    ensures { λ r. ⌜ Salvages chip (now (file .entry)) (now (out .entry)) (now (lines .entry)) r (now (out .exit)) (now (lines .exit)) ⌝ }
+{
+    let t = taken(file);
+    if !sound(t, chip) {
+        return Salvaged::Refused(24, 0);
+    }
+    let mut kept = [0usize; 96];
+    let mut log = [0usize; 1649];
+    let plan = decide(t, &mut kept, &mut log, chip);
+    if out.len() < plan.len {
+        return Salvaged::Refused(16, 0);
+    }
+    put_table(t, &kept, plan.kept, plan.cleared, plan.len, out, chip);
+    let end = put_lines(&log, plan.lines, lines);
+    Salvaged::Done(plan.len, end)
+}
+
+// The first 4,096 bytes of a file.
+fn taken(file: &[u8]) -> &[u8]
+    ensures { λ r. ⌜ now r ≡ takenOf (now (file .entry)) ⌝ }
+{
+    if file.len() <= 4096 {
+        return file;
+    }
+    &file[0..4096]
+}
+
+// Whether the description is sound: 1, 2, 4, 5, 10, and its claims.
+fn sound(t: &[u8], chip: Chip) -> bool
+    ensures { λ r. ⌜ r ≡ salvageable chip (now (t .entry)) ⌝ }
+{
+    if t.len() < 16 {
+        return false;
+    }
+    if t[0] != 1 {
+        return false;
+    }
+    let d = fields::description(t, chip);
+    if rules::description_breaks(d, chip) != 0 {
+        return false;
+    }
+    let held = claims::first_claims(d);
+    held.clash == 65536
+}
+
+// What is kept and what is changed, of bytes with a sound description: the pass, then 13, 14 and 15.
+fn decide(t: &[u8], kept: &mut [usize; 96], log: &mut [usize; 1649], chip: Chip) -> Plan
+    requires { ⌜ (length (now t) ≤ 4096) × Bytes (now t) × (salvageable chip (now t) ≡ true) × (length (now kept) ≡ 96) × (length (now log) ≡ 1649) ⌝ }
+    ensures { λ r. ⌜ Decided chip (now (t .entry)) r (now (kept .exit)) (now (log .exit)) ⌝ }
+{
+    let held = claims::first_claims(fields::description(t, chip));
+    let mut zs = [false; 256];
+    let mut ss = [false; 256];
+    let mut one = [0usize; 96];
+    let mut two = [0usize; 96];
+    let a = pass(t, held, &mut one, log, &mut zs, &mut ss, chip);
+    let b = sift(
+        t,
+        Stage::Zones,
+        &one,
+        a.kept,
+        &zs,
+        held,
+        &mut two,
+        log,
+        a.lines,
+        chip,
+    );
+    ss[0] = true;
+    let index = wide(t[4]);
+    let cleared = !ss[index];
+    let lines = note_first(log, b.lines, cleared);
+    let c = sift(
+        t,
+        Stage::Strings,
+        &two,
+        b.kept,
+        &ss,
+        held,
+        &mut one,
+        log,
+        lines,
+        chip,
+    );
+    let d = sift(
+        t,
+        Stage::Pins,
+        &one,
+        c.kept,
+        &ss,
+        held,
+        kept,
+        log,
+        c.lines,
+        chip,
+    );
+    Plan {
+        kept: d.kept,
+        lines: d.lines,
+        cleared,
+        len: new_length(t, kept, d.kept),
+    }
+}
+
+// The pass, from a state that stands for the description.
+fn pass(
+    t: &[u8],
+    held: Held,
+    kept: &mut [usize; 96],
+    log: &mut [usize; 1649],
+    zs: &mut [bool; 256],
+    ss: &mut [bool; 256],
+    chip: Chip,
+) -> Counts
+    requires { ⌜ (16 ≤ length (now t)) × (length (now t) ≤ 4096) × Bytes (now t) × HeldIs held (madeAt 0 (firstClaims (described chip (now t)))) × (length (now kept) ≡ 96) × (length (now log) ≡ 1649) ⌝ }
+    ensures { λ r. ⌜ Scanned chip (now (t .entry)) (now (kept .exit)) (now (log .exit)) (now (zs .exit)) (now (ss .exit)) r ⌝ }
+{
+    *zs = [false; 256];
+    *ss = [false; 256];
+    let mut zu = [false; 256];
+    let mut su = [false; 256];
+    let index = wide(t[4]);
+    su[index] = true;
+    let start = State {
+        count: 0,
+        zones: 0,
+        held,
+        last: 0,
+    };
+    scan(t, start, kept, log, zs, ss, &mut zu, &mut su, chip)
+}
+
+// The line of the description, whose place is 0: 2 x 14 + 1.
+fn note_first(log: &mut [usize; 1649], n: usize, cleared: bool) -> usize
+    requires { ⌜ n < 1649 ⌝ }
+    ensures { λ r. ⌜ NotesFirst (now (log .entry)) n cleared r (now (log .exit)) ⌝ }
+{
+    if cleared {
+        log[n] = 29;
+        return n + 1;
+    }
+    n
+}

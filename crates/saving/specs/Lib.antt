@@ -1,0 +1,4 @@
+pub mod Saving
+pub mod Lines
+pub mod Known
+pub mod Repairing
