@@ -26,7 +26,7 @@ use Rattle.stream.specs.Running.{Run, going, broken, runBytes, begin}
 use Rattle.closing.specs.Ways.{Gone, On, WayIs}
 use Rattle.closing.specs.declared.Way.{Way}
 use Rattle.closing.proofs.Ending.{on-after}
-use Rattle.advancing.specs.Advancing.{opened, AtSixteen, Fresh, Sound, SoundIs, Cleared, GoIs, BeginIs, AdvanceIs}
+use Rattle.advancing.specs.Advancing.{opened, AtSixteen, Fresh, Sound, SoundIs, Cleared, ClearIs, GoIs, AdvanceIs}
 use Rattle.advancing.proofs.Placing.{stays}
 
 no-firsts : (names : Role → List ℕ) → Firsts names (replicate 256 0) []
@@ -79,19 +79,25 @@ module _ (σ : Settings) (d e : Description) (k : ℕ) (r : Way) (same : e ≡ d
 
 -- the flags are clear, and the first bytes come
 module _ (σ : Settings) (w : Way) (q : List ℕ) (string : ℕ) (head : List ℕ) (f : Flags) (zp sp : List ℕ) (c : Cleared string f zp sp) where
-  pub begins : (r : Way) (head′ : List ℕ) (f′ : Flags) (zp′ sp′ : List ℕ) → GoIs σ w q head f zp sp r head′ f′ zp′ sp′ → BeginIs σ w q string head r head′ f′ zp′ sp′
-  begins r head′ f′ zp′ sp′ x =
-      record {
-        first =
-            λ d a e size small m l.
-            x .more d 16 begin (a .goes)
-            (subst (λ (n : ℕ). WayIs d w head f zp sp (going [] n [])) (a .here)
-            (on-after d w head f zp sp [] (a .goes) (a .none-held) (a .none-cut) size (a .here) (gone d a e)))
-            (refl, omega arith)
-            small
-            m
-            l;
-      }
+  pub begins :
+      (r : Way) (head′ : List ℕ) (f′ : Flags) (zp′ sp′ : List ℕ)
+      → GoIs σ w q head f zp sp r head′ f′ zp′ sp′
+      → (d : Description)
+      → AtSixteen d w
+      → string ≡ d .string
+      → length head ≡ 30
+      → Bytes q
+      → 0 < length q
+      → 16 + length q ≤ 4097
+      → WayIs d r head′ f′ zp′ sp′ (runBytes σ begin q)
+  begins r head′ f′ zp′ sp′ x d a e size small m l =
+      x .more d 16 begin (a .goes)
+      (subst (λ (n : ℕ). WayIs d w head f zp sp (going [] n [])) (a .here)
+      (on-after d w head f zp sp [] (a .goes) (a .none-held) (a .none-cut) size (a .here) (gone d a e)))
+      (refl, omega arith)
+      small
+      m
+      l
     where
       gone : (d : Description) → AtSixteen d w → string ≡ d .string → Gone d (w .state) f zp sp []
       gone d a e =
@@ -155,16 +161,17 @@ module _ (σ : Settings) (w : Way) (fresh : Bool) (q : List ℕ) (string : ℕ) 
       go d k (some j) z = k .bad j z
 
   pub advance-begun :
-      (r : Way) (head′ : List ℕ) (f′ : Flags) (zp′ sp′ : List ℕ)
+      (f₁ : Flags) (zp₁ sp₁ : List ℕ) (r : Way) (head′ : List ℕ) (f′ : Flags) (zp′ sp′ : List ℕ)
       → (length q ≡ 0 → ⊥)
       → w .stop ≡ 0
       → fresh ≡ true
-      → BeginIs σ w q string head r head′ f′ zp′ sp′
+      → Cleared string f₁ zp₁ sp₁
+      → GoIs σ w q head f₁ zp₁ sp₁ r head′ f′ zp′ sp′
       → AdvanceIs σ w fresh q string head f zp sp r head′ f′ zp′ sp′
-  advance-begun r head′ f′ zp′ sp′ a g y x =
+  advance-begun f₁ zp₁ sp₁ r head′ f′ zp′ sp′ a g y c x =
       record {
         still = λ z. absurd (a z);
-        first = λ _ d k e size small m l. go d k (descriptionBreaks (σ .chip) d) refl (λ t. x .first d t e size small m l);
+        first = λ _ d k e size small m l. go d k (descriptionBreaks (σ .chip) d) refl (λ t. begins σ w q string head f₁ zp₁ sp₁ c r head′ f′ zp′ sp′ x d t e size small m l);
         more = λ z. absurd (false≢true (sym z ∙ y));
       }
     where
@@ -191,3 +198,17 @@ module _ (σ : Settings) (w : Way) (fresh : Bool) (q : List ℕ) (string : ℕ) 
         first = λ z. absurd (false≢true (sym y ∙ z));
         more = λ _ d n s k p small m l. x .more d n s g k p small m l;
       }
+
+  -- by whether they are the first
+  pub advance-after :
+      (f₁ : Flags) (zp₁ sp₁ : List ℕ) (r : Way) (head′ : List ℕ) (f′ : Flags) (zp′ sp′ : List ℕ)
+      → (length q ≡ 0 → ⊥)
+      → w .stop ≡ 0
+      → ClearIs fresh string f zp sp f₁ zp₁ sp₁
+      → GoIs σ w q head f₁ zp₁ sp₁ r head′ f′ zp′ sp′
+      → AdvanceIs σ w fresh q string head f zp sp r head′ f′ zp′ sp′
+  advance-after f₁ zp₁ sp₁ r head′ f′ zp′ sp′ a g c x = go fresh refl
+    where
+      go : (t : Bool) → fresh ≡ t → AdvanceIs σ w fresh q string head f zp sp r head′ f′ zp′ sp′
+      go true e = advance-begun f₁ zp₁ sp₁ r head′ f′ zp′ sp′ a g e (c .first e) x
+      go false e = let y = c .later e in advance-on r head′ f′ zp′ sp′ a g e (rw (y .0, y .1, y .2) at x)

@@ -54,6 +54,11 @@ pub record Cleared (string : ℕ) (f : Flags) (zp sp : List ℕ) : Type 0 where
   pub string-first : sp ≡ replicate 256 0
   pub low : string < 256
 
+-- flags and places before the bytes of a piece: clear before the first element, then as they are
+pub record ClearIs (fresh : Bool) (string : ℕ) (f : Flags) (zp sp : List ℕ) (f′ : Flags) (zp′ sp′ : List ℕ) : Type 0 where
+  pub first : fresh ≡ true → Cleared string f′ zp′ sp′
+  pub later : fresh ≡ false → (f′ ≡ f) × (zp′ ≡ zp) × (sp′ ≡ sp)
+
 -- a pass after so many bytes: the element under way ends there, and no more than 96 are gone by; the number of a rule is a byte
 abbrev pub PlacedAt : ℕ → Run → Type 0
 PlacedAt n (going before at u) = (at + length u ≡ n) × (length before ≤ 96)
@@ -69,17 +74,6 @@ pub record GoIs (σ : Settings) (w : Way) (q head : List ℕ) (f : Flags) (zp sp
       → 0 < length q
       → n + length q ≤ 4097
       → WayIs d r head′ f′ zp′ sp′ (runBytes σ s q)
-
-pub record BeginIs (σ : Settings) (w : Way) (q : List ℕ) (string : ℕ) (head : List ℕ) (r : Way) (head′ : List ℕ) (f′ : Flags) (zp′ sp′ : List ℕ) : Type 0 where
-  pub first :
-      (d : Description)
-      → AtSixteen d w
-      → string ≡ d .string
-      → length head ≡ 30
-      → Bytes q
-      → 0 < length q
-      → 16 + length q ≤ 4097
-      → WayIs d r head′ f′ zp′ sp′ (runBytes σ begin q)
 
 pub record AdvanceIs (σ : Settings) (w : Way) (fresh : Bool) (q : List ℕ) (string : ℕ) (head : List ℕ) (f : Flags) (zp sp : List ℕ) (r : Way) (head′ : List ℕ) (f′ : Flags) (zp′ sp′ : List ℕ) : Type 0 where
   pub still : length q ≡ 0 → (r ≡ w) × (head′ ≡ head) × (f′ ≡ f) × (zp′ ≡ zp) × (sp′ ≡ sp)

@@ -7,7 +7,7 @@ ghost use lib.ListN.{length};
 ghost use Rattle.format.specs.Slots.{byte};
 ghost use Rattle.format.specs.Decode.{readDescription};
 ghost use Rattle.pass.specs.Tracks.{flags};
-ghost use Rattle.advancing.specs.Advancing.{Fresh, SoundIs, Cleared, GoIs, BeginIs, AdvanceIs};
+ghost use Rattle.advancing.specs.Advancing.{Fresh, SoundIs, ClearIs, GoIs, AdvanceIs};
 use closing::Way;
 use format::settings::Settings;
 use pass::State;
@@ -48,8 +48,9 @@ fn sound(w: Way, more: usize) -> bool
     (more <= 4097 - w.at - u.len) & (u.at <= 10000) & (s.count <= 96) & (s.zones <= 12)
 }
 
-// Before the first element: all flags and places are clear but for the description's string index.
+// Before the first element all flags and places are cleared, but for the description's string index.
 fn clear(
+    fresh: bool,
     string: u8,
     zs: &mut [bool; 256],
     ss: &mut [bool; 256],
@@ -58,8 +59,11 @@ fn clear(
     zp: &mut [u16; 256],
     sp: &mut [u16; 256],
 )
-    ensures { λ _. ⌜ Cleared string (flags (now (zs .exit)) (now (ss .exit)) (now (zu .exit)) (now (su .exit))) (now (zp .exit)) (now (sp .exit)) ⌝ }
+    ensures { λ _. ⌜ ClearIs fresh string (flags (now (zs .entry)) (now (ss .entry)) (now (zu .entry)) (now (su .entry))) (now (zp .entry)) (now (sp .entry)) (flags (now (zs .exit)) (now (ss .exit)) (now (zu .exit)) (now (su .exit))) (now (zp .exit)) (now (sp .exit)) ⌝ }
 {
+    if !fresh {
+        return;
+    }
     *zs = [false; 256];
     *ss = [false; 256];
     *zu = [false; 256];
@@ -92,26 +96,6 @@ fn go_on(
     passing::pass_on(w, q, head, zs, ss, zu, su, zp, sp, settings)
 }
 
-// The first bytes of elements.
-fn begin(
-    w: Way,
-    q: &[u8],
-    string: u8,
-    head: &mut [u8; 30],
-    zs: &mut [bool; 256],
-    ss: &mut [bool; 256],
-    zu: &mut [bool; 256],
-    su: &mut [bool; 256],
-    zp: &mut [u16; 256],
-    sp: &mut [u16; 256],
-    settings: Settings,
-) -> Way
-    ensures { λ r. ⌜ BeginIs settings w (now (q .entry)) string (now (head .entry)) r (now (head .exit)) (flags (now (zs .exit)) (now (ss .exit)) (now (zu .exit)) (now (su .exit))) (now (zp .exit)) (now (sp .exit)) ⌝ }
-{
-    clear(string, zs, ss, zu, su, zp, sp);
-    go_on(w, q, head, zs, ss, zu, su, zp, sp, settings)
-}
-
 // Bytes of elements, the first of all or more of them.
 pub fn advance(
     w: Way,
@@ -135,8 +119,6 @@ pub fn advance(
     if w.stop != 0 {
         return w;
     }
-    if fresh {
-        return begin(w, q, string, head, zs, ss, zu, su, zp, sp, settings);
-    }
+    clear(fresh, string, zs, ss, zu, su, zp, sp);
     go_on(w, q, head, zs, ss, zu, su, zp, sp, settings)
 }

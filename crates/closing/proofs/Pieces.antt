@@ -19,14 +19,33 @@ use Rattle.format.specs.declared.records.Description.{Description}
 use Rattle.pass.specs.Tracks.{Flags, Low, Tracks, Took, none-yet, one-more, Walked, WalkIs}
 use Rattle.pass.specs.declared.State.{State}
 use Rattle.pass.specs.declared.Over.{Over}
-use Rattle.stream.specs.Running.{Run, going, broken, past, runBytes}
+use Rattle.pass.proofs.Moving.{unframed, unframed-short, unframed-long}
+use Rattle.stream.specs.Running.{Run, going, broken, unready, past, runBytes}
+use Rattle.stream.proofs.Running.{Lacks, header, bytes, lacks, waits-bytes, ready-full}
 use Rattle.stream.proofs.Runs.{run-whole}
 use Rattle.naming.specs.Naming.{AllNamed}
 use Rattle.naming.proofs.Taken.{First, none-taken, first-taken, first-of, took-run, run-stopped}
-use Rattle.closing.specs.Ways.{Gone, WayIs, Onward, WholeIs, Whole, Then}
+use Rattle.closing.specs.Ways.{Gone, WayIs, Onward, Whole, Then}
 use Rattle.closing.specs.declared.Way.{Way}
 use Rattle.closing.specs.declared.Ran.{Ran}
 use Rattle.closing.proofs.Ending.{on-after}
+
+-- no element is taken from no bytes
+took-nil : (σ : Settings) {rs qs : List Record} {a b : ℕ} {bs left : List ℕ} → Took σ rs a bs qs b left → bs ≡ [] → left ≡ []
+took-nil σ none-yet e = e
+took-nil σ (one-more x q l g k) e = let z = took-nil σ k e in absurd (omega (arith, l, g, ap length z))
+
+-- of one element that is all there: it is taken, or it is what stops the pass
+alone :
+    (σ : Settings) {rs qs : List Record} {a b n : ℕ} {bs left : List ℕ}
+    → First σ rs a bs qs b left
+    → stated bs ≡ length bs
+    → 0 < length left
+    → step σ qs left ≡ stop n
+    → step σ rs bs ≡ stop n
+alone σ none-taken e h q = q
+alone σ {bs = bs} (first-taken x f l g k) e h q =
+    absurd (omega (arith, h, ap length (took-nil σ k (drop-of-length-le bs {i = stated bs} (omega arith)))))
 
 module _
     (σ : Settings) (p : List ℕ) (at : ℕ) (s : State) (f : Flags) (zp sp : List ℕ) (o : Over) (g : Flags) (w : WalkIs σ p at s f o g)
@@ -65,48 +84,68 @@ module _
     pub whole-breaks : (o .stop ≡ 0 → ⊥) → (o .stop ≡ 6 → ⊥) → runBytes σ (going before at []) p ≡ broken (o .stop) (o .place)
     whole-breaks n m = took-run σ (walked .way) ∙ run-stopped σ (walked .gone) (o .place) (o .stop) (walked .left) (walked .stops n) m
 
--- no element is taken from no bytes
-took-nil : (σ : Settings) {rs qs : List Record} {a b : ℕ} {bs left : List ℕ} → Took σ rs a bs qs b left → bs ≡ [] → left ≡ []
-took-nil σ none-yet e = e
-took-nil σ (one-more x q l g k) e = let z = took-nil σ k e in absurd (omega (arith, l, g, ap length z))
+    -- one element that is all there: it is what stops the pass
+    pub fixed-breaks :
+        Whole p
+        → (o .stop ≡ 0 → ⊥)
+        → (v : Way) (head zp′ sp′ : List ℕ)
+        → v .stop ≡ o .stop
+        → v .at ≡ at
+        → Then σ d before at p v head g zp′ sp′
+    fixed-breaks whole n v head zp′ sp′ a b =
+        let q = alone σ (first-of σ (walked .way)) (whole .1) (walked .more n) (walked .stops n) in
+        rw q (a, omega (arith, n), b)
 
--- of one element that is all there: it is taken, or it is what stops the pass
-alone :
-    (σ : Settings) {rs qs : List Record} {a b : ℕ} {bs left : List ℕ}
-    → First σ rs a bs qs b left
-    → stated bs ≡ length bs
-    → 0 < length left
-    → step σ qs left ≡ stop 6
-    → step σ rs bs ≡ stop 6
-alone σ none-taken e h q = q
-alone σ {bs = bs} (first-taken x f l g k) e h q =
-    absurd (omega (arith, h, ap length (took-nil σ k (drop-of-length-le bs {i = stated bs} (omega arith)))))
+    -- or it is taken
+    pub fixed-taken :
+        Whole p
+        → o .stop ≡ 0
+        → (v : Way) (head zp′ sp′ : List ℕ)
+        → length head ≡ 30
+        → v .stop ≡ 0
+        → v .at ≡ o .place
+        → v .under .len ≡ 0
+        → v .under .at ≡ 0
+        → v .state ≡ o .state
+        → AllNamed p (o .place - at) at zp sp zp′ sp′
+        → Then σ d before at p v head g zp′ sp′
+    fixed-taken whole z v head zp′ sp′ size a b c h i n =
+        let m = whole-goes (record { taken = o .place - at; way = v }) zp′ sp′ (inl z) refl b i n in
+        let l : length p ≤ o .place - at = omega (arith, ap length (sym (walked .rest) ∙ walked .ends z), length-drop (o .place - at) p) in
+        let q : runBytes σ (going before at []) p ≡ going (m .more) (v .at) [] =
+        took-run σ (m .way) ∙ ap (runBytes σ (going (m .more) (v .at) [])) (drop-of-length-le p {i = o .place - at} l) in
+        subst (WayIs d v head g zp′ sp′) (sym q ∙ run-whole σ before at [] p (omega (arith, whole .0, whole .1)) whole)
+        (on-after d v head g zp′ sp′ (m .more) a c h size (m .place) (m .left))
 
-module _
-    (σ : Settings) (p : List ℕ) (at : ℕ) (s : State) (f : Flags) (zp sp : List ℕ) (r : Ran) (g : Flags) (zp′ sp′ : List ℕ)
-    (w : WholeIs σ p at s f zp sp r g zp′ sp′)
-    (d : Description) (before : List Record) (head : List ℕ) (size : length head ≡ 30) (small : Bytes p) (whole : Whole p) (e : at ≡ placeAfter before) (k : Gone d s f zp sp before)
+-- no whole element begins the bytes
+pub waits-is : (p : List ℕ) {n : ℕ} → n ≡ stated p → 3 ≤ length p → ltb (length p) n ≡ unready p
+waits-is p {n} e h = ap (ltb (length p)) e ∙ go (ltb (length p) (stated p)) refl
   where
-    ran : runBytes σ (going before at []) p ≡ past before at (length p) (step σ before p)
-    ran = run-whole σ before at [] p (omega (arith, whole .0, whole .1)) whole
+    go : (t : Bool) → ltb (length p) (stated p) ≡ t → ltb (length p) (stated p) ≡ unready p
+    go true q = q ∙ sym (waits-bytes p h (ltb-true _ _ q))
+    go false q = q ∙ sym (ready-full p h (ltb-false _ _ q))
 
-    pub fixed-breaks : (r .way .stop ≡ 0 → ⊥) → Then σ d before at p (r .way) head g zp′ sp′
-    fixed-breaks n =
-        subst (WayIs d (r .way) head g zp′ sp′) (sym (w .breaks n d before small e k) ∙ ran) (refl, omega (arith, n), refl)
+waits-stop : (σ : Settings) (before : List Record) (p : List ℕ) → Lacks p → step σ before p ≡ stop 6
+waits-stop σ before p (header h) = unframed σ p 0 before (unframed-short p 0 (omega arith))
+waits-stop σ before p (bytes g h) = unframed σ p 0 before (unframed-long p 0 refl (omega arith))
 
-    pub fixed-taken : r .way .stop ≡ 0 → length p ≤ r .taken → Then σ d before at p (r .way) head g zp′ sp′
-    fixed-taken z l =
-        let o = w .goes z d before small e k in
-        let q : runBytes σ (going before at []) p ≡ going (o .more) (r .way .at) [] =
-        took-run σ (o .way) ∙ ap (runBytes σ (going (o .more) (r .way .at) [])) (drop-of-length-le p {i = r .taken} l) in
-        subst (WayIs d (r .way) head g zp′ sp′) (sym q ∙ ran)
-        (on-after d (r .way) head g zp′ sp′ (o .more) z (w .plain .none-held) (w .plain .none-cut) size (o .place) (o .left))
-
-    pub fixed-stopped : r .way .stop ≡ 0 → r .taken < length p → (v : Way) → v .stop ≡ 6 → v .at ≡ at → Then σ d before at p v head g zp′ sp′
-    fixed-stopped z l v a b =
-        let o = w .goes z d before small e k in
-        let q = alone σ (first-of σ (o .way)) (whole .1) (omega (arith, l, length-drop (r .taken) p)) (o .rest l) in
-        rw q (a, omega arith, b)
+pub front-none :
+    (σ : Settings) (p : List ℕ) (at : ℕ) (s : State) (f : Flags) (zp sp : List ℕ) (d : Description) (before : List Record) (r : Ran)
+    → unready p ≡ true
+    → at ≡ placeAfter before
+    → Gone d s f zp sp before
+    → r .taken ≡ 0
+    → r .way .at ≡ at
+    → r .way .state ≡ s
+    → Onward σ d p at before r f zp sp
+front-none σ p at s f zp sp d before r u e k t a b =
+    record {
+      more = before;
+      way = rw (a, t) none-yet;
+      left = rw b k;
+      place = a ∙ e;
+      rest = λ _. rw t (waits-stop σ before p (lacks p u));
+    }
 
 -- the numbers that the walk stops with: 6 may mean that the rest is not all there
 pub other-stop : (k : ℕ) → not (eqb k 0) && not (eqb k 6) ≡ true → (k ≡ 0 → ⊥) × (k ≡ 6 → ⊥)

@@ -5,6 +5,7 @@ ghost use Prim.Native.Nat.{_+_, _≤_, _<_};
 ghost use lib.ListN.{length};
 ghost use Rattle.format.specs.Verdict.{known};
 ghost use Rattle.pass.specs.Tracks.{flags, Low};
+ghost use Rattle.stream.specs.Running.{unready};
 ghost use Rattle.closing.specs.Ways.{Plain, WholeIs, FixedIs, TextClosed, DeviceClosed, CloseIs};
 use format::settings::Settings;
 use found::Found;
@@ -51,7 +52,7 @@ pub fn broken(stop: u8, at: usize, state: State) -> Way
 }
 
 // The whole elements at the start of some bytes, and what they name.
-pub fn whole(
+fn whole(
     p: &[u8],
     at: usize,
     s: State,
@@ -82,6 +83,41 @@ pub fn whole(
     }
 }
 
+// No whole element begins these bytes: the header is not there, or gives a length that is not reached.
+fn waits(p: &[u8]) -> bool
+    ensures { λ r. ⌜ r ≡ unready (now (p .entry)) ⌝ }
+{
+    if p.len() < 3 {
+        return true;
+    }
+    p.len() < wide(p[1]) + 256 * wide(p[2])
+}
+
+// The whole elements at the start of a piece. Often there is none, which is seen before the walk.
+pub fn front(
+    p: &[u8],
+    at: usize,
+    s: State,
+    zs: &mut [bool; 256],
+    ss: &mut [bool; 256],
+    zu: &mut [bool; 256],
+    su: &mut [bool; 256],
+    zp: &mut [u16; 256],
+    sp: &mut [u16; 256],
+    settings: Settings,
+) -> Ran
+    requires { ⌜ (at + length (now p) ≤ 4097) × Low s ⌝ }
+    ensures { λ r. ⌜ WholeIs settings (now (p .entry)) at s (flags (now (zs .entry)) (now (ss .entry)) (now (zu .entry)) (now (su .entry))) (now (zp .entry)) (now (sp .entry)) r (flags (now (zs .exit)) (now (ss .exit)) (now (zu .exit)) (now (su .exit))) (now (zp .exit)) (now (sp .exit)) ⌝ }
+{
+    if waits(p) {
+        return Ran {
+            taken: 0,
+            way: broken(0, at, s),
+        };
+    }
+    whole(p, at, s, zs, ss, zu, su, zp, sp, settings)
+}
+
 // One whole element of a kind without a part, from the bytes that are kept.
 fn fixed(
     p: &[u8],
@@ -98,16 +134,13 @@ fn fixed(
     requires { ⌜ (at + length (now p) ≤ 4097) × Low s ⌝ }
     ensures { λ r. ⌜ FixedIs settings (now (p .entry)) at s (flags (now (zs .entry)) (now (ss .entry)) (now (zu .entry)) (now (su .entry))) (now (zp .entry)) (now (sp .entry)) r (flags (now (zs .exit)) (now (ss .exit)) (now (zu .exit)) (now (su .exit))) (now (zp .exit)) (now (sp .exit)) ⌝ }
 {
-    let r = whole(p, at, s, zs, ss, zu, su, zp, sp, settings);
-    let way = r.way;
-    if way.stop != 0 {
-        return way;
+    let r = pass::walk(p, at, s, zs, ss, zu, su, settings);
+    let state = r.state;
+    if r.stop != 0 {
+        return broken(r.stop, at, state);
     }
-    if r.taken < p.len() {
-        let state = way.state;
-        return broken(6, at, state);
-    }
-    way
+    naming::name_all(p, r.place - at, at, zp, sp);
+    broken(0, r.place, state)
 }
 
 // 0Ch

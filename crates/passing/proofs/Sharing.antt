@@ -53,7 +53,7 @@ module _ (v p : List ℕ) {told : ℕ} (e : told ≡ stated (v ++ p)) where
         let s : stated (v ++ take k p) ≡ told = sym (stated-more (v ++ take k p) (drop k p) (omega arith)) ∙ ap stated j ∙ sym e in
         whole t (omega arith) (omega arith) (omega arith) (omega arith, omega arith)
 
-    pub never-late : told < length v → 3 ≤ told → Shares v p told k
+    pub never-late : told ≤ length v → 3 ≤ told → Shares v p told k
     never-late x t = absurd (omega (arith, late (lacks v w) t))
 
 -- what two bytes say
@@ -69,7 +69,7 @@ module _ (v p : List ℕ) {told : ℕ} (e : told ≡ stated (v ++ p)) (k : ℕ) 
       go true t = all-whole v p e k l h w (leb-true 3 told t) q
       go false t = all-low v p e k l h w (leb-false 3 told t)
 
-  pub due-late : told < length v → Shares v p told k
+  pub due-late : told ≤ length v → Shares v p told k
   due-late q = go (leb 3 told) refl
     where
       go : (t : Bool) → leb 3 told ≡ t → Shares v p told k

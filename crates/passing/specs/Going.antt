@@ -4,7 +4,7 @@ use Prim.Native.Nat.{ℕ, _+_, _-_, _<_, _≤_}
 use mathlib.Core.Path.{_≡_}
 use mathlib.Core.Bool.{Bool, true}
 use mathlib.Core.List.{List, [], _++_}
-use lib.ListN.{length, take}
+use lib.ListN.{length, take, drop}
 use Rattle.format.specs.Slots.{byte, Bytes}
 use Rattle.format.specs.Records.{Record}
 use Rattle.format.specs.Layout.{placeAfter}
@@ -13,10 +13,10 @@ use Rattle.format.specs.declared.settings.Settings.{Settings}
 use Rattle.format.specs.declared.records.Description.{Description}
 use Rattle.pass.specs.Tracks.{Flags, Low}
 use Rattle.pass.specs.declared.State.{State}
-use Rattle.stream.specs.Running.{going, unready, runBytes}
+use Rattle.stream.specs.Running.{Run, going, unready, runBytes}
 use Rattle.underway.specs.Under.{Holds, UnderIs}
 use Rattle.underway.specs.declared.Under.{Under}
-use Rattle.closing.specs.Ways.{Gone, On, WayIs, Whole, Then}
+use Rattle.closing.specs.Ways.{Gone, On, WayIs, Whole}
 use Rattle.closing.specs.declared.Way.{Way}
 use Rattle.closing.specs.declared.Ran.{Ran}
 use Rattle.passing.specs.declared.Share.{Share}
@@ -32,23 +32,25 @@ pub data Shares (v p : List ℕ) (told take′ : ℕ) : Type 0 where
 
 pub record DueIs (head : List ℕ) (had : ℕ) (p : List ℕ) (r : Share) : Type 0 where
   pub within : r .take ≤ length p
+  pub some : 0 < length p → 0 < r .take
   pub shares : (v : List ℕ) → Holds head v → had ≡ length v → unready v ≡ true → 0 < length p → Shares v p (r .told) (r .take)
 
--- what the element under way has come to
-pub data Resumed (σ : Settings) (d : Description) (before : List Record) (at : ℕ) (v p : List ℕ) (r : Ran) (head : List ℕ) (f : Flags) (zp sp : List ℕ) : Type 0 where
-  all-taken : r .taken ≡ length p → WayIs d (r .way) head f zp sp (runBytes σ (going before at v) p) → Resumed σ d before at v p r head f zp sp
-  is-whole :
-      0 < r .taken
-      → r .taken ≤ length p
-      → r .way .under .len ≡ 0
-      → Whole (v ++ take (r .taken) p)
-      → Then σ d before at (v ++ take (r .taken) p) (r .way) head f zp sp
-      → Resumed σ d before at v p r head f zp sp
+-- numbers that the pass can go on from with the rest of a piece
+pub record Onto (p : List ℕ) (r : Ran) : Type 0 where
+  pub low : Low (r .way .state)
+  pub cut : r .way .under .at ≤ 10000
+  pub within : r .taken ≤ length p
+  pub ends : r .way .stop ≡ 0 → r .way .at + r .way .under .len + (length p - r .taken) ≤ 4097
+
+-- where the pass is with the bytes that are taken; from there the rest leads where the whole piece leads
+pub record Turned (σ : Settings) (d : Description) (s : Run) (p : List ℕ) (r : Ran) (head : List ℕ) (f : Flags) (zp sp : List ℕ) : Type 0 where
+  pub run : Run
+  pub now : WayIs d (r .way) head f zp sp run
+  pub same : runBytes σ s p ≡ runBytes σ run (drop (r .taken) p)
 
 pub record ResumeIs (σ : Settings) (u : Under) (at : ℕ) (s : State) (p head : List ℕ) (f : Flags) (zp sp : List ℕ) (r : Ran) (head′ : List ℕ) (f′ : Flags) (zp′ sp′ : List ℕ) : Type 0 where
-  pub low : Low (r .way .state)
-  pub within : r .taken ≤ length p
-  pub ends : r .way .at + (length p - r .taken) ≤ 4097
+  pub onto : Onto p r
+  pub some : 0 < length p → 0 < r .taken
   pub goes :
       (d : Description) (before : List Record) (v : List ℕ)
       → 0 < length p
@@ -57,16 +59,25 @@ pub record ResumeIs (σ : Settings) (u : Under) (at : ℕ) (s : State) (p head :
       → unready v ≡ true
       → at ≡ placeAfter before
       → Gone d s f zp sp before
-      → Resumed σ d before at v p r head′ f′ zp′ sp′
+      → Turned σ d (going before at v) p r head′ f′ zp′ sp′
 
-pub record FromStart (σ : Settings) (at : ℕ) (s : State) (p head : List ℕ) (f : Flags) (zp sp : List ℕ) (r : Way) (head′ : List ℕ) (f′ : Flags) (zp′ sp′ : List ℕ) : Type 0 where
+-- whole elements, where none is under way
+pub record AheadIs (σ : Settings) (w : Way) (p : List ℕ) (f : Flags) (zp sp : List ℕ) (r : Ran) (f′ : Flags) (zp′ sp′ : List ℕ) : Type 0 where
+  pub onto : Onto p r
   pub goes :
-      (d : Description) (before : List Record)
-      → length head ≡ 30
+      (d : Description) (before : List Record) (at : ℕ) (u head : List ℕ)
       → Bytes p
-      → at ≡ placeAfter before
-      → Gone d s f zp sp before
-      → WayIs d r head′ f′ zp′ sp′ (runBytes σ (going before at []) p)
+      → On d w head f zp sp before at u
+      → Turned σ d (going before at u) p r head f′ zp′ sp′
+
+pub record TurnIs (σ : Settings) (w : Way) (p head : List ℕ) (f : Flags) (zp sp : List ℕ) (r : Ran) (head′ : List ℕ) (f′ : Flags) (zp′ sp′ : List ℕ) : Type 0 where
+  pub onto : Onto p r
+  pub some : 0 < length p → 0 < r .taken
+  pub goes :
+      (d : Description) (before : List Record) (at : ℕ) (u : List ℕ)
+      → Bytes p
+      → On d w head f zp sp before at u
+      → Turned σ d (going before at u) p r head′ f′ zp′ sp′
 
 pub record PassIs (σ : Settings) (w : Way) (p head : List ℕ) (f : Flags) (zp sp : List ℕ) (r : Way) (head′ : List ℕ) (f′ : Flags) (zp′ sp′ : List ℕ) : Type 0 where
   pub goes :

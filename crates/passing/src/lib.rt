@@ -4,7 +4,7 @@ ghost use mathlib.Core.Path.{_≡_};
 ghost use Prim.Native.Nat.{_+_, _-_, _<_, _≤_};
 ghost use lib.ListN.{length};
 ghost use Rattle.pass.specs.Tracks.{flags, Low};
-ghost use Rattle.passing.specs.Going.{ByteOf, DueIs, ResumeIs, FromStart, PassIs};
+ghost use Rattle.passing.specs.Going.{ByteOf, DueIs, ResumeIs, AheadIs, TurnIs, PassIs};
 use closing::Ran;
 use closing::Way;
 use format::settings::Settings;
@@ -47,8 +47,11 @@ fn due(head: &[u8; 30], had: usize, p: &[u8]) -> Share
             take: p.len(),
         };
     }
-    if told < had {
-        return Share { told, take: 0 };
+    if told <= had {
+        return Share {
+            told,
+            take: p.len(),
+        };
     }
     Share {
         told,
@@ -96,10 +99,32 @@ fn resume(
     }
 }
 
-// The bytes of a piece from the start of an element on.
-fn from_start(
-    at: usize,
-    s: State,
+// The whole elements at the start of a piece, where none is under way.
+fn ahead(
+    w: Way,
+    p: &[u8],
+    zs: &mut [bool; 256],
+    ss: &mut [bool; 256],
+    zu: &mut [bool; 256],
+    su: &mut [bool; 256],
+    zp: &mut [u16; 256],
+    sp: &mut [u16; 256],
+    settings: Settings,
+) -> Ran
+    requires { ⌜ (w .at + w .under .len + length (now p) ≤ 4097) × (w .under .at ≤ 10000) × Low (w .state) ⌝ }
+    ensures { λ r. ⌜ AheadIs settings w (now (p .entry)) (flags (now (zs .entry)) (now (ss .entry)) (now (zu .entry)) (now (su .entry))) (now (zp .entry)) (now (sp .entry)) r (flags (now (zs .exit)) (now (ss .exit)) (now (zu .exit)) (now (su .exit))) (now (zp .exit)) (now (sp .exit)) ⌝ }
+{
+    let under = w.under;
+    if under.len != 0 {
+        return Ran { taken: 0, way: w };
+    }
+    let s = w.state;
+    closing::front(p, w.at, s, zs, ss, zu, su, zp, sp, settings)
+}
+
+// Whole elements, and then the one under way, or that the rest begins.
+fn turn(
+    w: Way,
     p: &[u8],
     head: &mut [u8; 30],
     zs: &mut [bool; 256],
@@ -109,24 +134,28 @@ fn from_start(
     zp: &mut [u16; 256],
     sp: &mut [u16; 256],
     settings: Settings,
-) -> Way
-    requires { ⌜ (at + length (now p) ≤ 4097) × Low s ⌝ }
-    ensures { λ r. ⌜ FromStart settings at s (now (p .entry)) (now (head .entry)) (flags (now (zs .entry)) (now (ss .entry)) (now (zu .entry)) (now (su .entry))) (now (zp .entry)) (now (sp .entry)) r (now (head .exit)) (flags (now (zs .exit)) (now (ss .exit)) (now (zu .exit)) (now (su .exit))) (now (zp .exit)) (now (sp .exit)) ⌝ }
+) -> Ran
+    requires { ⌜ (w .at + w .under .len + length (now p) ≤ 4097) × (w .under .at ≤ 10000) × Low (w .state) ⌝ }
+    ensures { λ r. ⌜ TurnIs settings w (now (p .entry)) (now (head .entry)) (flags (now (zs .entry)) (now (ss .entry)) (now (zu .entry)) (now (su .entry))) (now (zp .entry)) (now (sp .entry)) r (now (head .exit)) (flags (now (zs .exit)) (now (ss .exit)) (now (zu .exit)) (now (su .exit))) (now (zp .exit)) (now (sp .exit)) ⌝ }
 {
-    let r = closing::whole(p, at, s, zs, ss, zu, su, zp, sp, settings);
+    let r = ahead(w, p, zs, ss, zu, su, zp, sp, settings);
     let way = r.way;
-    if way.stop != 0 {
-        return way;
-    }
     let from = r.taken;
-    if p.len() <= from {
-        return way;
+    if way.stop != 0 {
+        return Ran {
+            taken: p.len(),
+            way,
+        };
     }
-    let state = way.state;
+    if p.len() <= from {
+        return r;
+    }
+    let under = way.under;
+    let s = way.state;
     let q = resume(
-        underway::so_many(0),
+        under,
         way.at,
-        state,
+        s,
         &p[from..],
         head,
         zs,
@@ -137,10 +166,14 @@ fn from_start(
         sp,
         settings,
     );
-    q.way
+    let then = q.way;
+    Ran {
+        taken: from + q.taken,
+        way: then,
+    }
 }
 
-// A piece of at least one byte.
+// A piece of at least one byte. There are two turns at most: one completes the element under way, one begins the next.
 pub fn pass_on(
     w: Way,
     p: &[u8],
@@ -156,32 +189,12 @@ pub fn pass_on(
     requires { ⌜ (w .at + w .under .len + length (now p) ≤ 4097) × (w .under .at ≤ 10000) × Low (w .state) ⌝ }
     ensures { λ r. ⌜ PassIs settings w (now (p .entry)) (now (head .entry)) (flags (now (zs .entry)) (now (ss .entry)) (now (zu .entry)) (now (su .entry))) (now (zp .entry)) (now (sp .entry)) r (now (head .exit)) (flags (now (zs .exit)) (now (ss .exit)) (now (zu .exit)) (now (su .exit))) (now (zp .exit)) (now (sp .exit)) ⌝ }
 {
-    let under = w.under;
-    let s = w.state;
-    if under.len == 0 {
-        return from_start(w.at, s, p, head, zs, ss, zu, su, zp, sp, settings);
+    let mut way = w;
+    let mut from: usize = 0;
+    while (way.stop == 0) & (from < p.len()) {
+        let r = turn(way, &p[from..], head, zs, ss, zu, su, zp, sp, settings);
+        way = r.way;
+        from += r.taken;
     }
-    let r = resume(under, w.at, s, p, head, zs, ss, zu, su, zp, sp, settings);
-    let way = r.way;
-    if way.stop != 0 {
-        return way;
-    }
-    let from = r.taken;
-    if p.len() <= from {
-        return way;
-    }
-    let state = way.state;
-    from_start(
-        way.at,
-        state,
-        &p[from..],
-        head,
-        zs,
-        ss,
-        zu,
-        su,
-        zp,
-        sp,
-        settings,
-    )
+    way
 }

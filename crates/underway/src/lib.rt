@@ -3,6 +3,7 @@
 ghost use mathlib.Core.Path.{_≡_};
 ghost use Prim.Native.Nat.{_+_, _*_, _<_, _≤_};
 ghost use lib.ListN.{length};
+ghost use lib.Dec.{eqb};
 ghost use Rattle.underway.specs.Under.{markOf, mostOf, leadOf, KeepIs, UnitsFrom, UnitsOn, TextOn, BlocksFrom, BlocksOn, CutOn, MoreIs};
 use blocks::Cut;
 use words::wide;
@@ -74,21 +75,29 @@ fn units_from(u: Under) -> Units
     }
 }
 
-// The units that the bytes complete: the second byte of a unit tells what it is.
+// The upper six bits of the unit before, where it is a high surrogate or not.
+fn top_of(high: bool) -> u8
+    ensures { λ r. ⌜ eqb r 54 ≡ high ⌝ }
+{
+    if high { 54 } else { 0 }
+}
+
+// The units that the bytes complete: the second byte of a unit tells what it is. (The upper bits of the last unit, and not what they
+// say of it, go from turn to turn: a pair of flags would go through one register of the processor, docs/BENCH.md.)
 fn units_on(t: Units, had: usize, p: &[u8], end: usize) -> usize
     requires { ⌜ (had ≤ 7 + 2 * (t .whole)) × (6 + 2 * end ≤ had + length (now p)) × (had + length (now p) ≤ 4097) ⌝ }
     ensures { λ r. ⌜ UnitsOn t had (now (p .entry)) end r ⌝ }
 {
     let mut good = t.good;
-    let mut high = t.high;
+    let mut last = top_of(t.high);
     let mut k = t.whole;
     while k < end {
         let top = p[7 + 2 * k - had] / 4;
-        good = good & rules::agrees(high, top == 55);
-        high = top == 54;
+        good = good & rules::agrees(last == 54, top == 55);
+        last = top;
         k += 1;
     }
-    mark_of(good, high)
+    mark_of(good, last == 54)
 }
 
 // 0Ch, with the bytes of a piece.

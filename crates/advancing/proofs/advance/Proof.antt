@@ -2,7 +2,7 @@
 -- Assumes nothing.
 use native.Mathlib.Omega.{arith}
 use mathlib.Core.Path.{_≡_, refl, sym, _∙_, ap}
-use Rattle.advancing.proofs.Starting.{advance-none, advance-stopped, advance-begun, advance-on}
+use Rattle.advancing.proofs.Starting.{advance-none, advance-stopped, advance-after}
 use borrow.Author.Needs.{needs}
 use Rattle.advancing.proofs.advance.Statement.{statement}
 use Rattle.advancing.proofs.advance.Tie as tie
@@ -16,12 +16,8 @@ returns-2 c = advance-stopped _ _ _ _ _ _ _ _ _ (c .before .before .if1 .left) (
 returns-3 : tie.Need-returns-3
 returns-3 c =
     let k = c .before .before .before .before .before .before .before .before in
-    advance-begun _ _ _ _ _ _ _ _ _ _ _ _ _ _ (k .before .before .before .if1 .left) (k .before .if2 .left) (k .if3 .taken) (c .begin .ensures)
-
-returns-4 : tie.Need-returns-4
-returns-4 c =
-    let k = c .before .before .before .before .before .before .before .before in
-    advance-on _ _ _ _ _ _ _ _ _ _ _ _ _ _ (k .before .before .before .if1 .left) (k .before .if2 .left) (k .if3 .left) (c .go-on .ensures)
+    let t = k .before .before .before .before .before .before .before in
+    advance-after _ _ _ _ _ _ _ _ _ _ _ _ _ _ _ _ _ (t .before .before .if1 .left) (t .if2 .left) (k .clear .ensures) (c .go-on .ensures)
 
 pub advance-spec : {M : Type 1} → statement M
 advance-spec =
@@ -30,6 +26,5 @@ advance-spec =
     returns
     returns-2
     (λ c κs. search needs)
-    returns-3
     (λ c κs. search needs)
-    returns-4)
+    returns-3)

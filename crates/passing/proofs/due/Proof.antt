@@ -12,7 +12,7 @@ use Rattle.passing.proofs.due.Tie as tie
 returns : tie.Need-returns
 returns c =
     let t = c .if1 .taken in
-    record { within = omega arith; shares = λ v h e w m. all-short v _ refl (omega (arith, t, e)) refl }
+    record { within = omega arith; some = λ m. m; shares = λ v h e w m. all-short v _ refl (omega (arith, t, e)) refl }
 
 returns-2 : tie.Need-returns-2
 returns-2 c =
@@ -22,6 +22,7 @@ returns-2 c =
     let l = b .before .if1 .left in
     record {
       within = omega arith;
+      some = λ m. m;
       shares =
           λ v h e w m.
           all-wait v _ (told-is v _ (a .before .before .wide .ensures .0 ∙ b .byte-of .ensures .is v h e) (a .wide2 .ensures .0 ∙ a .before .byte-of2 .ensures .is v h e))
@@ -37,6 +38,7 @@ returns-3 c =
     let l = b .before .if1 .left in
     record {
       within = omega arith;
+      some = λ m. m;
       shares =
           λ v h e w m.
           due-late v _ (told-is v _ (a .before .before .wide .ensures .0 ∙ b .byte-of .ensures .is v h e) (a .wide2 .ensures .0 ∙ a .before .byte-of2 .ensures .is v h e)) _
@@ -51,6 +53,7 @@ returns-4 c =
     let l = b .before .if1 .left in
     record {
       within = omega (arith, n);
+      some = λ _. omega (arith, c .if3 .left);
       shares =
           λ v h e w m.
           due-whole v _ (told-is v _ (a .before .before .wide .ensures .0 ∙ b .byte-of .ensures .is v h e) (a .wide2 .ensures .0 ∙ a .before .byte-of2 .ensures .is v h e)) _
@@ -71,4 +74,5 @@ due-spec =
     (λ c. search needs)
     returns-2
     returns-3
+    (λ c. search needs)
     returns-4)
