@@ -52,7 +52,8 @@ pub record Lining (ls : List Line) (out₀ : List ℕ) (i end : ℕ) (out : List
 pub begun : (ls : List Line) (out : List ℕ) → Lining ls out 0 0 out
 begun ls out = record { so-far = []; put = put-none out 0; bound = omega arith; whole = refl }
 
-module _ (log : List ℕ) (n : ℕ) (few : n ≤ 1649) (long : length log ≡ 1649) (ls : List Line) (all : Each Codes (take n log) ls) (out₀ : List ℕ) (i end : ℕ) (out : List ℕ) (w : Lining ls out₀ i end out) where
+module _ (log : List ℕ) (n : ℕ) (few : n ≤ 1649) (long : length log ≡ 1649) (ls : List Line) (all : Each Codes (take n log) ls)
+    (out₀ : List ℕ) (i end : ℕ) (out : List ℕ) (w : Lining ls out₀ i end out) where
   sized : length (take n log) ≡ n
   sized = length-take-le n log (omega (arith, few, long))
 

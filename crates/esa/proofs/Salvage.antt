@@ -24,7 +24,9 @@ module _ (chip : Chip) (file out lines : List ℕ) where
   unfolding answer
   answer-fits small room = go (salvageable chip (taken file)) (leb (length (newTable chip file)) room)
     where
-      go : (a b : Bool) → SalvageFits (cond a (cond b (Done (length (newTable chip file)) (length (newText chip file))) (Refused 16 0)) (Refused 24 0))
+      go :
+          (a b : Bool)
+          → SalvageFits (cond a (cond b (Done (length (newTable chip file)) (length (newText chip file))) (Refused 16 0)) (Refused 24 0))
       go true true = (table-short chip file small .0, omega (arith, text-short chip file small))
       go true false = omega arith
       go false b = omega arith

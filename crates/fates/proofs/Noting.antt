@@ -46,7 +46,12 @@ module _ {A : Type 0} (R : ℕ → A → Type 0) where
       let s = each-at ns xs i (e .1) (omega arith) in
       record { x = s .x; same = s .same; stands = s .stands }
 
-  one-more : (l : List ℕ) (xs : List A) (i v : ℕ) (x : A) → i < length l → Each R (take i l) xs → R v x → Each R (take (i + 1) (set l i v)) (xs ++ x ∷ [])
+  one-more :
+      (l : List ℕ) (xs : List A) (i v : ℕ) (x : A)
+      → i < length l
+      → Each R (take i l) xs
+      → R v x
+      → Each R (take (i + 1) (set l i v)) (xs ++ x ∷ [])
   one-more l xs i v x h e r =
       subst (λ (ns : List ℕ). Each R ns (xs ++ x ∷ [])) (sym (ap (λ (m : ℕ). take m (set l i v)) (add-one i) ∙ take-suc-set l i v h))
       (each-snoc (take i l) xs v x e r)
@@ -93,7 +98,14 @@ even-code n h = rw h refl
 odd-code : (n : ℕ) → n % 2 ≡ 1 → changeOf n ≡ cleared
 odd-code n h = rw h refl
 
-pub left-code : (held k j p v : ℕ) → held < 8192 → j < 256 → j ≡ k → held / 2 ≡ p → v ≡ 1024 * (held / 2) + 2 * j → Codes v (line p k left-out)
+pub left-code :
+    (held k j p v : ℕ)
+    → held < 8192
+    → j < 256
+    → j ≡ k
+    → held / 2 ≡ p
+    → v ≡ 1024 * (held / 2) + 2 * j
+    → Codes v (line p k left-out)
 left-code held k j p v b w e f g =
     record {
       place = omega (arith, b, w, e, f, g);
@@ -113,7 +125,8 @@ cleared-code held p v b f g =
 
 module _ (kept log : List ℕ) (n m : Counts) (held : ℕ) (few : n .kept < 96) (fit : n .lines < 1649) (low : held < 8192) where
   pub stays-settles :
-      (fate : Fate) → fate ≡ Stays → m .kept ≡ n .kept + 1 → m .lines ≡ n .lines → Settles kept log n held fate m (set kept (n .kept) held) log
+      (fate : Fate) → fate ≡ Stays → m .kept ≡ n .kept + 1 → m .lines ≡ n .lines → Settles kept log n held fate m
+      (set kept (n .kept) held) log
   stays-settles fate is e f = rw is (record { more-kept = omega (arith, e); more-lines = omega (arith, f); settles = go })
     where
       go :
@@ -142,7 +155,8 @@ module _ (kept log : List ℕ) (n m : Counts) (held : ℕ) (few : n .kept < 96) 
           → Tells c t held p (Leaves j) g
           → Notes c t kept (set log (n .lines) v) m (settled s p g)
       go c t s p (saving.stays r) h w = absurd w
-      go c t s p (saving.leaves k) h w = noted-line c t kept log n s h v (line p k left-out) m fit e f (left-code held k j p v low small (w .0) (w .1) d)
+      go c t s p (saving.leaves k) h w =
+          noted-line c t kept log n s h v (line p k left-out) m fit e f (left-code held k j p v low small (w .0) (w .1) d)
       go c t s p (saving.mends r) h w = absurd w
       go c t s p saving.unseen h w = absurd w
 
@@ -168,5 +182,6 @@ module _ (kept log : List ℕ) (n m : Counts) (held : ℕ) (few : n .kept < 96) 
       go c t s p (saving.leaves k) h w = absurd w
       go c t s p (saving.mends r) h w =
           let first = noted-kept c t kept log n s h u p r mid few refl refl (rw a (w .0)) in
-          noted-line c t (set kept (n .kept) u) log mid (settled s p (saving.stays r)) first v (line p 14 cleared) m fit e f (cleared-code held p v low (w .1) d)
+          noted-line c t (set kept (n .kept) u) log mid (settled s p (saving.stays r)) first v (line p 14 cleared) m fit e f
+          (cleared-code held p v low (w .1) d)
       go c t s p saving.unseen h w = absurd w

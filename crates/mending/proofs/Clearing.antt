@@ -76,7 +76,11 @@ set-behind (x ∷ xs) ys k v =
     let e : suc (length xs) + k ≡ suc (length xs + k) = omega arith in
     rw e (ap (λ (l : List ℕ). x ∷ l) (set-behind xs ys k v))
 
-set-over : (at k : ℕ) (new b : List ℕ) → at ≤ length b → k < length new → set (overwritten at new b) (at + k) 0 ≡ overwritten at (set new k 0) b
+set-over :
+    (at k : ℕ) (new b : List ℕ)
+    → at ≤ length b
+    → k < length new
+    → set (overwritten at new b) (at + k) 0 ≡ overwritten at (set new k 0) b
 set-over at k new b h l =
     let e : length (take at b) ≡ at = length-take-le at b h in
     let n : at + length (set new k 0) ≡ at + length new = ap (λ (m : ℕ). at + m) (length-set new k 0) in
@@ -85,7 +89,11 @@ set-over at k new b h l =
     (ap (λ (m : ℕ). set (take at b ++ new) (m + k) 0) (sym e) ∙ set-behind (take at b) new k 0)
     ∙ ap (λ (m : ℕ). take at b ++ set new k 0 ++ drop m b) (sym n)
 
-over-cleared : (at k : ℕ) (ss : List Slot) (b : List ℕ) → at ≤ length b → k < length ss → set (overwritten at (written ss) b) (at + k) 0 ≡ overwritten at (written (set ss k (whole 0))) b
+over-cleared :
+    (at k : ℕ) (ss : List Slot) (b : List ℕ)
+    → at ≤ length b
+    → k < length ss
+    → set (overwritten at (written ss) b) (at + k) 0 ≡ overwritten at (written (set ss k (whole 0))) b
 over-cleared at k ss b h l =
     set-over at k (written ss) b h (omega (arith, l, length-written ss)) ∙ ap (λ (x : List ℕ). overwritten at x b) (sym (written-set ss k))
 

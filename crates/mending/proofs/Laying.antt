@@ -43,18 +43,27 @@ read-roomy c t small long one =
     opening-roomy d (stated t) (starts-roomy t (opening d (stated t)) (drop 16 t) small st)
 
 -- it is laid out for a table of 16 bytes; then the length is mended, and the index cleared
-mended-length : (d : Description) (n : ℕ) (b : List ℕ) → overwritten 1 (written (word n)) (overwritten 0 (written (opening d 16)) b) ≡ overwritten 0 (written (opening d n)) b
+mended-length :
+    (d : Description) (n : ℕ) (b : List ℕ)
+    → overwritten 1 (written (word n)) (overwritten 0 (written (opening d 16)) b) ≡ overwritten 0 (written (opening d n)) b
 mended-length d n b = refl
 
-cleared-index : (d : Description) (n : ℕ) (b : List ℕ) → set (overwritten 0 (written (opening d n)) b) 4 0 ≡ overwritten 0 (written (opening (unindexedDescription d) n)) b
+cleared-index :
+    (d : Description) (n : ℕ) (b : List ℕ)
+    → set (overwritten 0 (written (opening d n)) b) 4 0 ≡ overwritten 0 (written (opening (unindexedDescription d) n)) b
 cleared-index d n b = refl
 
-module _ (d : Description) (n : ℕ) (b b₁ b₂ : List ℕ) (laid : b₁ ≡ overwritten 0 (written (opening d 16)) b) (mend : b₂ ≡ overwritten 1 (written (word n)) b₁) (room : 16 ≤ length b) where
+module _ (d : Description) (n : ℕ) (b b₁ b₂ : List ℕ) (laid : b₁ ≡ overwritten 0 (written (opening d 16)) b)
+    (mend : b₂ ≡ overwritten 1 (written (word n)) b₁) (room : 16 ≤ length b) where
   both : b₂ ≡ overwritten 0 (written (opening d n)) b
   both = mend ∙ ap (λ (l : List ℕ). overwritten 1 (written (word n)) l) laid ∙ mended-length d n b
 
   module _ (c : Chip) (t : List ℕ) (cleared : Bool) (same : d ≡ readDescription c (byte t)) where
-    opens : (x : Description) (after : List ℕ) → x ≡ describedAs cleared (readDescription c (byte t)) → after ≡ overwritten 0 (written (opening x n)) b → PutsOpening c t cleared n b after
+    opens :
+        (x : Description) (after : List ℕ)
+        → x ≡ describedAs cleared (readDescription c (byte t))
+        → after ≡ overwritten 0 (written (opening x n)) b
+        → PutsOpening c t cleared n b after
     opens x after e q =
         subst (λ (y : Description). Put b 0 (written (opening y n)) 16 after) e (rw q (put-one b 0 (written (opening x n)) (omega arith)))
 
@@ -92,29 +101,37 @@ module _ (c : Chip) (t : List ℕ) (n : ℕ) (k : At Record) (h : Keeps c t n k)
   pub inside : (n / 2 + length (layout (k .what)) ≤ length t) × (5 ≤ length (layout (k .what)))
   inside = (omega (arith, size-there, stands-there .within), omega (arith, same-size, long-enough (h .r) whole-shape))
 
-  module _ (e : Element) (p : List ℕ) (is : e ≡ elementOf (h .r)) (has : p ≡ written (part (h .r))) (at : ℕ) (out : List ℕ) (room : at + length (layout (k .what)) ≤ length out) where
+  module _ (e : Element) (p : List ℕ) (is : e ≡ elementOf (h .r)) (has : p ≡ written (part (h .r))) (at : ℕ) (out : List ℕ)
+      (room : at + length (layout (k .what)) ≤ length out) where
     pub fits-there :
         Bytes t
         → length t ≤ 4096
         → (elementRoomy e ≡ true) × (length (elementSlots e p) ≤ 4096) × (at + length (elementSlots e p) ≤ length out)
     fits-there small top =
         let roomy =
-        starts-roomy (drop (k .place) t) (layout (h .r)) (h .here .stands .rest) (bytes-drop (k .place) t small) (h .here .stands .starts) in
-        let size : length (elementSlots (elementOf (h .r)) (written (part (h .r)))) ≡ length (layout (k .what)) = slots-length (h .r) ∙ sym same-size in
+        starts-roomy (drop (k .place) t) (layout (h .r)) (h .here .stands .rest) (bytes-drop (k .place) t small)
+        (h .here .stands .starts) in
+        let size : length (elementSlots (elementOf (h .r)) (written (part (h .r)))) ≡ length (layout (k .what)) = slots-length (h .r)
+        ∙ sym same-size in
         rw (is, has) (
           roomy-split (fixed (elementOf (h .r))) (part (h .r)) (body-roomy (h .r) roomy) .0,
           omega (arith, size, inside, top),
           omega (arith, size, room),
         )
 
-    module _ (after : List ℕ) (put : after ≡ overwritten at (written (elementSlots e p)) out) (r len : ℕ) (size : len ≡ stated (drop (n / 2) t)) (ends : r ≡ at + len) where
+    module _ (after : List ℕ) (put : after ≡ overwritten at (written (elementSlots e p)) out) (r len : ℕ)
+        (size : len ≡ stated (drop (n / 2) t)) (ends : r ≡ at + len) where
       laid : after ≡ overwritten at (written (layout (h .r))) out
       laid = put ∙ rw (is, has) (ap (λ (l : List ℕ). overwritten at l out) (slots-written (h .r)))
 
       far : r ≡ at + length (layout (k .what))
       far = omega (arith, ends, size, size-there)
 
-      end-put : (x : Record) (b : List ℕ) → k .what ≡ x → b ≡ overwritten at (written (layout x)) out → Put out at (written (layout (k .what))) r b
+      end-put :
+          (x : Record) (b : List ℕ)
+          → k .what ≡ x
+          → b ≡ overwritten at (written (layout x)) out
+          → Put out at (written (layout (k .what))) r b
       end-put x b e q =
           let same = ap (λ (y : Record). length (layout y)) e in
           let n : at + length (written (layout x)) ≡ r = omega (arith, length-written (layout x), far, same) in
@@ -123,11 +140,19 @@ module _ (c : Chip) (t : List ℕ) (n : ℕ) (k : At Record) (h : Keeps c t n k)
           (put-one out at (written (layout x)) (omega (arith, length-written (layout x), room, same))))
 
       -- its index cleared or not
-      pub put-there : (b : List ℕ) → b ≡ cond (eqb (n % 2) 1) (clearedAt (byte t (n / 2)) at after) after → Put out at (written (layout (k .what))) r b
+      pub put-there :
+          (b : List ℕ)
+          → b ≡ cond (eqb (n % 2) 1) (clearedAt (byte t (n / 2)) at after) after
+          → Put out at (written (layout (k .what))) r b
       put-there b q = go (eqb (n % 2) 1) refl q
         where
-          go : (x : Bool) → eqb (n % 2) 1 ≡ x → b ≡ cond x (clearedAt (byte t (n / 2)) at after) after → Put out at (written (layout (k .what))) r b
+          go :
+              (x : Bool)
+              → eqb (n % 2) 1 ≡ x
+              → b ≡ cond x (clearedAt (byte t (n / 2)) at after) after
+              → Put out at (written (layout (k .what))) r b
           go true f q =
               end-put (unindexed (h .r)) b (h .what ∙ rw f refl)
-              (q ∙ ap (λ (l : List ℕ). clearedAt (byte t (n / 2)) at l) laid ∙ cleared-over (h .r) t (n / 2) at out role-there whole-shape (omega (arith, room)))
+              (q ∙ ap (λ (l : List ℕ). clearedAt (byte t (n / 2)) at l) laid ∙ cleared-over (h .r) t (n / 2) at out role-there whole-shape
+              (omega (arith, room)))
           go false f q = end-put (h .r) b (h .what ∙ rw f refl) (q ∙ laid)

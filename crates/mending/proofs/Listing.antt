@@ -26,7 +26,8 @@ use Rattle.mending.specs.Laid.{LengthIs}
 abbrev leftover : List (At Record) → ℕ → List Slot
 leftover ks i = layouts (records (drop i ks))
 
-module _ (c : Chip) (t kept : List ℕ) (n : ℕ) (few : n ≤ 96) (long : length kept ≡ 96) (ks : List (At Record)) (all : Each (Keeps c t) (take n kept) ks) where
+module _ (c : Chip) (t kept : List ℕ) (n : ℕ) (few : n ≤ 96) (long : length kept ≡ 96) (ks : List (At Record))
+    (all : Each (Keeps c t) (take n kept) ks) where
   sized : length (take n kept) ≡ n
   sized = length-take-le n kept (omega (arith, few, long))
 
@@ -89,7 +90,9 @@ pub record Laying (ks : List (At Record)) (len : ℕ) (out₀ : List ℕ) (i end
 pub lay-begun : (ks : List (At Record)) (len : ℕ) (out : List ℕ) → len ≡ placeAfter (records ks) → Laying ks len out 0 16 out
 lay-begun ks len out e = record { so-far = []; put = put-none out 16; sum = omega (arith, e); whole = refl }
 
-module _ (c : Chip) (t kept : List ℕ) (n : ℕ) (few : n ≤ 96) (long : length kept ≡ 96) (ks : List (At Record)) (all : Each (Keeps c t) (take n kept) ks) (len : ℕ) (out₀ : List ℕ) (i end : ℕ) (out : List ℕ) (w : Laying ks len out₀ i end out) where
+module _ (c : Chip) (t kept : List ℕ) (n : ℕ) (few : n ≤ 96) (long : length kept ≡ 96) (ks : List (At Record))
+    (all : Each (Keeps c t) (take n kept) ks) (len : ℕ) (out₀ : List ℕ) (i end : ℕ) (out : List ℕ)
+    (w : Laying ks len out₀ i end out) where
   pub lay-room : (b : i < n) → end + length (layout (spot c t kept n few long ks all i b .x .what)) ≤ len
   lay-room b = omega (arith, w .sum, left-length c t kept n few long ks all i b)
 
@@ -124,4 +127,5 @@ module _ (c : Chip) (t kept : List ℕ) (n : ℕ) (few : n ≤ 96) (long : lengt
       ap (λ (l : List ℕ). written (opening d len) ++ l) q
       ∙ sym (written-append (opening d len) (layouts (records ks)))
       ∙ ap (λ (m : ℕ). written (opening d m ++ layouts (records ks))) size in
-      subst (λ (l : List ℕ). Put b 0 l len out) text (subst (λ (m : ℕ). Put b 0 (written (opening d len) ++ w .so-far) m out) e (then p (w .put)))
+      subst (λ (l : List ℕ). Put b 0 l len out) text (subst (λ (m : ℕ). Put b 0 (written (opening d len) ++ w .so-far) m out) e
+      (then p (w .put)))

@@ -40,7 +40,8 @@ bare-string ns (naming bytes) e = absurd (true≢false e)
 strings-stay : (s : Saved) → strings (records (zoned s .kept)) ≡ strings (records (s .kept))
 strings-stay s =
     let ns = zones (records (s .kept)) in
-    choose-gathered (inZone ns) 13 (λ kept. Unit {0}) (λ kept r p e. tt) stringDeclared (λ kept r p e. bare-string ns (role r) e) (s .lines) (s .kept) tt
+    choose-gathered (inZone ns) 13 (λ kept. Unit {0}) (λ kept r p e. tt) stringDeclared (λ kept r p e. bare-string ns (role r) e)
+    (s .lines) (s .kept) tt
 
 -- the description's line
 pub first-noted : (log : List ℕ) (n : ℕ) → n < 1649 → NotesFirst log n true (n + 1) (set log n 29)
@@ -61,11 +62,13 @@ same-line : (b : Bool) (x : List Line) → cond (not b) x [] ≡ cond b [] x
 same-line true x = refl
 same-line false x = refl
 
-module _ (c : Chip) (t : List ℕ) (held : Held) (made : HeldIs held (madeAt 0 (firstClaims (described c t)))) (clear : contested (described c t) [] ≡ none) where
+module _ (c : Chip) (t : List ℕ) (held : Held) (made : HeldIs held (madeAt 0 (firstClaims (described c t))))
+    (clear : contested (described c t) [] ≡ none) where
   -- 13
   module _ (one log : List ℕ) (zs ss : List Bool) (a : Counts) (w : Scanned c t one log zs ss a) where
     pub given-13 :
-        Given c Zones t one (a .kept) zs held log (a .lines) (described c t) (zones (records (afterPass c t .kept))) (saved [] (afterPass c t .lines)) (afterPass c t .kept)
+        Given c Zones t one (a .kept) zs held log (a .lines) (described c t) (zones (records (afterPass c t .kept)))
+        (saved [] (afterPass c t .lines)) (afterPass c t .kept)
     given-13 =
         record {
           few = w .notes .few;
@@ -82,12 +85,18 @@ module _ (c : Chip) (t : List ℕ) (held : Held) (made : HeldIs held (madeAt 0 (
     pub ready-13 : length t ≤ 4096 → Ready c Zones t one (a .kept) zs held log (a .lines)
     ready-13 top = record { d = _; ns = _; s = _; ks = _; given = given-13; small = top }
 
-    pub noted-13 : {b : Counts} {two log′ : List ℕ} → Sifted c Zones t one (a .kept) zs held log (a .lines) b two log′ → Notes c t two log′ b (afterZones c t)
+    pub noted-13 :
+        {b : Counts} {two log′ : List ℕ}
+        → Sifted c Zones t one (a .kept) zs held log (a .lines) b two log′
+        → Notes c t two log′ b (afterZones c t)
     unfolding afterPass afterZones
     noted-13 s = s .sifts _ _ _ _ given-13
 
   -- which indexes name a string
-  pub marks-14 : (ss : List Bool) → Marks ss (strings (records (afterPass c t .kept))) → Marks (set ss 0 true) (stringIndexes (afterZones c t))
+  pub marks-14 :
+      (ss : List Bool)
+      → Marks ss (strings (records (afterPass c t .kept)))
+      → Marks (set ss 0 true) (stringIndexes (afterZones c t))
   unfolding afterPass afterZones
   marks-14 ss m =
       rw (strings-stay (afterPass c t)) (marks-front ss (strings (records (afterPass c t .kept))) 0 (omega arith) m)
@@ -129,14 +138,19 @@ module _ (c : Chip) (t : List ℕ) (held : Held) (made : HeldIs held (madeAt 0 (
       pub ready-14 : length t ≤ 4096 → Ready c Strings t two (b .kept) ss held log′ lines
       ready-14 top = record { d = _; ns = _; s = _; ks = _; given = given-14; small = top }
 
-      pub noted-14 : {r : Counts} {one log″ : List ℕ} → Sifted c Strings t two (b .kept) ss held log′ lines r one log″ → Notes c t one log″ r (afterStrings c t)
+      pub noted-14 :
+          {r : Counts} {one log″ : List ℕ}
+          → Sifted c Strings t two (b .kept) ss held log′ lines r one log″
+          → Notes c t one log″ r (afterStrings c t)
       unfolding afterZones afterStrings
       noted-14 s = s .sifts _ _ _ _ given-14
 
   -- 15
-  module _ (one log : List ℕ) (ss : List Bool) (r : Counts) (w : Notes c t one log r (afterStrings c t)) (few : r .lines ≤ 1553) (m : Marks ss (stringIndexes (afterZones c t))) where
+  module _ (one log : List ℕ) (ss : List Bool) (r : Counts) (w : Notes c t one log r (afterStrings c t)) (few : r .lines ≤ 1553)
+      (m : Marks ss (stringIndexes (afterZones c t))) where
     pub given-15 :
-        Given c Pins t one (r .kept) ss held log (r .lines) (described c t) (stringIndexes (afterZones c t)) (saved [] (afterStrings c t .lines)) (afterStrings c t .kept)
+        Given c Pins t one (r .kept) ss held log (r .lines) (described c t) (stringIndexes (afterZones c t))
+        (saved [] (afterStrings c t .lines)) (afterStrings c t .kept)
     given-15 =
         record {
           few = w .few;
@@ -147,13 +161,23 @@ module _ (c : Chip) (t : List ℕ) (held : Held) (made : HeldIs held (madeAt 0 (
           codes = w .codes;
           none-yet = refl;
           marks = m;
-          carries = record { made = madeAt 0 (firstClaims (described c t)); held = made; same = ap whats (sym (append-nil (madeAt 0 (firstClaims (described c t))))); clear = clear };
+          carries =
+              record {
+                made = madeAt 0 (firstClaims (described c t));
+                held = made;
+                same = ap whats
+                    (sym (append-nil (madeAt 0 (firstClaims (described c t)))));
+                clear = clear;
+              };
         }
 
     pub ready-15 : length t ≤ 4096 → Ready c Pins t one (r .kept) ss held log (r .lines)
     ready-15 top = record { d = _; ns = _; s = _; ks = _; given = given-15; small = top }
 
-    pub noted-15 : {e : Counts} {kept log′ : List ℕ} → Sifted c Pins t one (r .kept) ss held log (r .lines) e kept log′ → Notes c t kept log′ e (afterAll c t)
+    pub noted-15 :
+        {e : Counts} {kept log′ : List ℕ}
+        → Sifted c Pins t one (r .kept) ss held log (r .lines) e kept log′
+        → Notes c t kept log′ e (afterAll c t)
     unfolding afterZones afterStrings afterAll
     noted-15 s = s .sifts _ _ _ _ given-15
 

@@ -113,13 +113,16 @@ module _ (c : Chip) (file out lines : List ℕ) where
   unfolding answer
   refused-24 h = record { answers = rw h refl; table = refl; text = refl }
 
-  module _ (small : Bytes file) (good : salvageable c (taken file) ≡ true) (p : Plan) (kept log : List ℕ) (w : Decided c (taken file) p kept log) where
+  module _ (small : Bytes file) (good : salvageable c (taken file) ≡ true) (p : Plan) (kept log : List ℕ)
+      (w : Decided c (taken file) p kept log) where
     -- the new table, as it is laid out
     same-description : (b : Bool) (d : Description) → describedAs (not b) d ≡ cond b d (unindexedDescription d)
     same-description true d = refl
     same-description false d = refl
 
-    new-table : newTable c file ≡ written (table (describedAs (p .cleared) (described c (taken file))) (records (afterAll c (taken file) .kept)))
+    new-table :
+        newTable c file
+        ≡ written (table (describedAs (p .cleared) (described c (taken file))) (records (afterAll c (taken file) .kept)))
     unfolding newTable afterZones afterAll
     new-table =
         let d = described c (taken file) in
@@ -146,7 +149,11 @@ module _ (c : Chip) (file out lines : List ℕ) where
     pub refused-16 : length out < p .len → Salvages c file out lines (Refused 16 0) out lines
     unfolding answer
     refused-16 h =
-        record { answers = rw (good, lt-leb (length (newTable c file)) (length out) (omega (arith, h, new-length))) refl; table = refl; text = refl }
+        record {
+          answers = rw (good, lt-leb (length (newTable c file)) (length out) (omega (arith, h, new-length))) refl;
+          table = refl;
+          text = refl;
+        }
 
     -- what the writing asks
     pub fitting : p .len ≤ length out → Fitting c (taken file) kept (p .kept) (p .len) out
@@ -209,7 +216,8 @@ module _
 
     pub room-there : p .len ≤ length out → Fitting c t kept (p .kept) (p .len) out
     room-there h =
-        subst (λ (x : List ℕ). Fitting c x kept (p .kept) (p .len) out) (sym same) (fitting c file out lines small good-there p kept log decided-there h)
+        subst (λ (x : List ℕ). Fitting c x kept (p .kept) (p .len) out) (sym same)
+        (fitting c file out lines small good-there p kept log decided-there h)
 
     pub lines-there : Noted log (p .lines)
     lines-there = noted c file out lines small good-there p kept log decided-there

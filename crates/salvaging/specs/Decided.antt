@@ -43,4 +43,8 @@ pub record Decided (c : Chip) (t : List ℕ) (p : Plan) (kept log : List ℕ) : 
 pub record NotesFirst (log : List ℕ) (n : ℕ) (clear : Bool) (r : ℕ) (log′ : List ℕ) : Type 0 where
   pub long : length log′ ≡ length log
   pub more : r ≤ n + 1
-  pub notes : (ls : List Line) → n < length log → Each Codes (take n log) ls → Each Codes (take r log′) (ls ++ cond clear (line 0 14 cleared ∷ []) [])
+  pub notes :
+      (ls : List Line)
+      → n < length log
+      → Each Codes (take n log) ls
+      → Each Codes (take r log′) (ls ++ cond clear (line 0 14 cleared ∷ []) [])

@@ -1,5 +1,5 @@
-// Saving what can be saved of a damaged table, as one call, with the ordinary rules. Memory holds no record: of each element that is kept its
-// old place, and of each change a number. Everything is decided before a byte is written.
+// Saving what can be saved of a damaged table, as one call, with the ordinary rules. Memory holds no record: of each element that is
+// kept its old place, and of each change a number. Everything is decided before a byte is written.
 ghost use mathlib.Core.Path.{_≡_};
 ghost use mathlib.Core.Bool.{true};
 ghost use Prim.Native.Nat.{_<_, _≤_};
@@ -33,8 +33,8 @@ struct Plan {
     len: usize,
 }
 
-// The new table at the front of `out` and the text of the lines at the front of `lines`, with both lengths; or 24 at 0, or 16 at 0 where the
-// table does not fit. With a refusal no byte of the two alters. Only the first 4,096 bytes of the file are looked at.
+// The new table at the front of `out` and the text of the lines at the front of `lines`, with both lengths; or 24 at 0, or 16 at 0 where
+// the table does not fit. With a refusal no byte of the two alters. Only the first 4,096 bytes of the file are looked at.
 pub fn salvage(file: &[u8], out: &mut [u8], lines: &mut [u8; 32768], chip: Chip) -> Salvaged
     ensures { λ r. ⌜ Salvages chip (now (file .entry)) (now (out .entry)) (now (lines .entry)) r (now (out .exit)) (now (lines .exit)) ⌝ }
 {

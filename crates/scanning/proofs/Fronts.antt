@@ -25,15 +25,20 @@ module _ (bs : List ℕ) (low : 3 ≤ stated bs) (fits : stated bs ≤ length bs
   pub front-length : length front ≡ stated bs
   front-length = length-take-le (stated bs) bs fits
 
-  front-parts : (m : ℕ) → stated bs ≡ suc (suc (suc m)) → (byte front 0 ≡ byte bs 0) × (stated front ≡ stated bs) × (drop 3 front ≡ take m (drop 3 bs))
+  front-parts :
+      (m : ℕ)
+      → stated bs ≡ suc (suc (suc m))
+      → (byte front 0 ≡ byte bs 0) × (stated front ≡ stated bs) × (drop 3 front ≡ take m (drop 3 bs))
   front-parts m e =
-      subst (λ (n : ℕ). (byte (take n bs) 0 ≡ byte bs 0) × (stated (take n bs) ≡ stated bs) × (drop 3 (take n bs) ≡ take m (drop 3 bs))) (sym e)
+      subst (λ (n : ℕ). (byte (take n bs) 0 ≡ byte bs 0) × (stated (take n bs) ≡ stated bs) × (drop 3 (take n bs) ≡ take m (drop 3 bs)))
+      (sym e)
       (go bs (omega (arith, low, fits)))
     where
       go :
           (l : List ℕ)
           → 3 ≤ length l
-          → (byte (take (suc (suc (suc m))) l) 0 ≡ byte l 0) × (stated (take (suc (suc (suc m))) l) ≡ stated l) × (drop 3 (take (suc (suc (suc m))) l) ≡ take m (drop 3 l))
+          → (byte (take (suc (suc (suc m))) l) 0 ≡ byte l 0) × (stated (take (suc (suc (suc m))) l) ≡ stated l) × (drop 3
+          (take (suc (suc (suc m))) l) ≡ take m (drop 3 l))
       go [] h = absurd (omega arith)
       go (a ∷ []) h = absurd (omega arith)
       go (a ∷ b ∷ []) h = absurd (omega arith)

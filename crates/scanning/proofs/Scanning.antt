@@ -172,7 +172,8 @@ module _
 
     -- the end: no element can stand there, or enough are kept
     pub ended :
-        (zs ss zu su : List Bool) → f ≡ flags zs ss zu su → at ≤ length t → length t ≤ 4096 → framed (drop at t) ≡ false → Scanned c t kept log zs ss n
+        (zs ss zu su : List Bool) → f ≡ flags zs ss zu su → at ≤ length t → length t ≤ 4096 → framed (drop at t) ≡ false → Scanned c t
+        kept log zs ss n
     ended zs ss zu su g b top h =
         scanned zs ss zu su g b top
         (sym (ap (sift (byPass (writing c)) (w .so-far)) (none-standing (w .fuel) at (drop at t) h)) ∙ w .onward)
@@ -244,12 +245,18 @@ module _
               few-lines = omega (arith, w .few-lines, settle .more-lines, low);
               onward =
                   rw (← next, ← far)
-                  (subst (λ (x : saving.Fate). sift (byPass (writing c)) (settled (w .so-far) at x) (standing fuel (at + stated here) (drop (stated here) here)) ≡ afterPass c t)
+                  (subst (λ (x : saving.Fate). sift (byPass (writing c)) (settled (w .so-far) at x)
+                  (standing fuel (at + stated here) (drop (stated here) here)) ≡ afterPass c t)
                   fate-is
                   (sym (ap (sift (byPass (writing c)) (w .so-far)) (one-standing fuel at here (framed-whole here a b))) ∙ q));
             }
 
-    kept-on : (x : Record) → step (writing c) so here ≡ took x → r .stop ≡ 0 → Tracks (readDescription c (byte t)) (r .state) g (so ++ x ∷ []) → Scanning c t kept′ log′ g m (r .state) (end + grow) (at + len)
+    kept-on :
+        (x : Record)
+        → step (writing c) so here ≡ took x
+        → r .stop ≡ 0
+        → Tracks (readDescription c (byte t)) (r .state) g (so ++ x ∷ [])
+        → Scanning c t kept′ log′ g m (r .state) (end + grow) (at + len)
     kept-on x e z k =
         let h = keeps-taken c t at so x small b a e in
         let size = took-stated (writing c) so here x (bytes-drop at t small) (omega (arith, a, b)) e in
@@ -259,7 +266,13 @@ module _
         (rw snoc k)
         (rw snoc (omega (arith, w .place, grows .0 z, place-snoc so x, states, size)))
 
-    left-out : (k : ℕ) → step (writing c) so here ≡ stop k → k ≡ r .stop → (r .stop ≡ 0 → ⊥) → Tracks (readDescription c (byte t)) (r .state) g so → Scanning c t kept′ log′ g m (r .state) (end + grow) (at + len)
+    left-out :
+        (k : ℕ)
+        → step (writing c) so here ≡ stop k
+        → k ≡ r .stop
+        → (r .stop ≡ 0 → ⊥)
+        → Tracks (readDescription c (byte t)) (r .state) g so
+        → Scanning c t kept′ log′ g m (r .state) (end + grow) (at + len)
     left-out k e j z q =
         again (stop k) e
         (rw (fated .bad z) (sym j, omega arith))
@@ -275,7 +288,8 @@ module _
         (bytes-take (stated here) here (bytes-drop at t small)) (w .place) (w .tracks) in
         let long = front-length here a b in
         go (walked .gone) (walked .left)
-        (one-taken (writing c) so end (front here a b) (walked .gone) (r .place) (walked .left) (front-stated here a b ∙ sym long) (walked .way))
+        (one-taken (writing c) so end (front here a b) (walked .gone) (r .place) (walked .left) (front-stated here a b ∙ sym long)
+        (walked .way))
         (walked .tracks) (walked .ends) (walked .more) (walked .stops) (omega (arith, long, a))
       where
         go :

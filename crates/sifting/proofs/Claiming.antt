@@ -58,9 +58,14 @@ none-is : (o : Option ℕ) → saving.isNone o ≡ true → o ≡ none
 none-is none h = refl
 none-is (some p) h = let z : _≡_ {A = ℕ} 0 1 = cc in absurd (omega arith)
 
-module _ (c : Chip) (t : List ℕ) (n : ℕ) (k : At Record) (h : Keeps c t n k) (d : Description) (kept : List Record) (held : Held) (w : Claimed d kept held) where
+module _ (c : Chip) (t : List ℕ) (n : ℕ) (k : At Record) (h : Keeps c t n k) (d : Description) (kept : List Record) (held : Held)
+    (w : Claimed d kept held) where
   -- its claims
-  pub claims-there : (e : Element) (cs : Claims) → e ≡ elementOf (h .r) → ((x : Chip) → pinned x (bare e) ≡ true → ClaimsAre cs (claimsOf (bare e))) → ClaimsAre cs (claimsOf (k .what))
+  pub claims-there :
+      (e : Element) (cs : Claims)
+      → e ≡ elementOf (h .r)
+      → ((x : Chip) → pinned x (bare e) ≡ true → ClaimsAre cs (claimsOf (bare e)))
+      → ClaimsAre cs (claimsOf (k .what))
   claims-there e cs same f =
       let b = bare-same c (h .r) in
       let p = own-kept (writing c) (h .r) (h .unbroken) .pins-10 in

@@ -43,7 +43,8 @@ module _ (c : Chip) (t : List ℕ) (n : ℕ) (k : At Record) (h : Keeps c t n k)
   pub role-there : RoleBytes t (n / 2) (role (h .r))
   role-there =
       rw (h .place)
-      (role-bytes t (k .place) (h .r) (h .here .stands .rest) (h .here .stands .starts) (own-kept (writing c) (h .r) (h .unbroken) .shape-8))
+      (role-bytes t (k .place) (h .r) (h .here .stands .rest) (h .here .stands .starts)
+      (own-kept (writing c) (h .r) (h .unbroken) .shape-8))
 
   pub here-there : Here c t (n / 2) (h .r)
   here-there = rw (h .place) (h .here)
@@ -56,13 +57,18 @@ module _ (c : Chip) (t : List ℕ) (n : ℕ) (k : At Record) (h : Keeps c t n k)
   pub zone-same : allAmong (zoneNamed (role (k .what))) ≡ allAmong (zoneNamed (role (h .r)))
   zone-same = rw (h .what) (ap (λ (l : List ℕ). allAmong l) (kept-alike n (h .r) .zoneN))
 
-  pub zone-stays : (ns : List ℕ) (kept : List Record) (m : Bool) → m ≡ allAmong (zoneNamed (role (h .r))) ns → m ≡ true → Tells c t n (k .place) Stays (byZone ns kept (k .what))
+  pub zone-stays :
+      (ns : List ℕ) (kept : List Record) (m : Bool)
+      → m ≡ allAmong (zoneNamed (role (h .r))) ns
+      → m ≡ true
+      → Tells c t n (k .place) Stays (byZone ns kept (k .what))
   zone-stays ns kept m e z =
       let q : allAmong (zoneNamed (role (k .what))) ns ≡ true = ap (λ f. f ns) zone-same ∙ sym e ∙ z in
       rw q keeps-same
 
   pub zone-leaves :
-      (ns : List ℕ) (kept : List Record) (m : Bool) → m ≡ allAmong (zoneNamed (role (h .r))) ns → m ≡ false → Tells c t n (k .place) (Leaves 13) (byZone ns kept (k .what))
+      (ns : List ℕ) (kept : List Record) (m : Bool) → m ≡ allAmong (zoneNamed (role (h .r))) ns → m ≡ false → Tells c t n (k .place)
+      (Leaves 13) (byZone ns kept (k .what))
   zone-leaves ns kept m e z =
       let q : allAmong (zoneNamed (role (k .what))) ns ≡ false = ap (λ f. f ns) zone-same ∙ sym e ∙ z in
       rw q (refl, h .place)
@@ -74,7 +80,11 @@ module _ (c : Chip) (t : List ℕ) (n : ℕ) (k : At Record) (h : Keeps c t n k)
   odd-what : n % 2 ≡ 1 → k .what ≡ unindexed (h .r)
   odd-what e = h .what ∙ rw e refl
 
-  pub cleared-stays : (ns : List ℕ) (kept : List Record) → n % 2 ≡ 1 → among 0 ns ≡ true → Tells c t n (k .place) Stays (byString ns kept (k .what))
+  pub cleared-stays :
+      (ns : List ℕ) (kept : List Record)
+      → n % 2 ≡ 1
+      → among 0 ns ≡ true
+      → Tells c t n (k .place) Stays (byString ns kept (k .what))
   cleared-stays ns kept e z =
       let q : allAmong (stringNamed (role (k .what))) ns ≡ true =
       rw (odd-what e) (within-all (stringNamed (role (unindexed (h .r)))) ns (λ x i. only-zero x (unindexed-named (h .r) x i))) in

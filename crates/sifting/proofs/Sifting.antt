@@ -30,13 +30,15 @@ after-records s p (saving.mends r) = records-append (s .kept) (atPlace p r ∷ [
 after-records s p saving.unseen = refl
 
 -- THE INVARIANT, of whatever was given
-pub record So (c : Chip) (stage : Stage) (t from : List ℕ) (n : ℕ) (l : List Bool) (h : Held) (log : List ℕ) (m : ℕ) (i : ℕ) (held : Held) (r : Counts) (to log′ : List ℕ) (d : Description) (ns : List ℕ) (s : Saved) (ks : List (At Record)) : Type 0 where
+pub record So (c : Chip) (stage : Stage) (t from : List ℕ) (n : ℕ) (l : List Bool) (h : Held) (log : List ℕ) (m : ℕ) (i : ℕ) (held : Held)
+    (r : Counts) (to log′ : List ℕ) (d : Description) (ns : List ℕ) (s : Saved) (ks : List (At Record)) : Type 0 where
   pub so-far : Saved
   pub notes : Notes c t to log′ r so-far
   pub carries : Carries stage ns d (records (so-far .kept)) held
   pub onward : saving.sift (byStage stage ns d) so-far (drop i ks) ≡ saving.sift (byStage stage ns d) s ks
 
-pub record Sifting (c : Chip) (stage : Stage) (t from : List ℕ) (n : ℕ) (l : List Bool) (h : Held) (log : List ℕ) (m : ℕ) (i : ℕ) (held : Held) (r : Counts) (to log′ : List ℕ) : Type 0 where
+pub record Sifting (c : Chip) (stage : Stage) (t from : List ℕ) (n : ℕ) (l : List Bool) (h : Held) (log : List ℕ) (m : ℕ) (i : ℕ)
+    (held : Held) (r : Counts) (to log′ : List ℕ) : Type 0 where
   pub within : i ≤ n
   pub fewer : r .kept ≤ i
   pub not-many : r .lines ≤ m + i
@@ -70,7 +72,8 @@ module _ (c : Chip) (stage : Stage) (t from : List ℕ) (n : ℕ) (l : List Bool
       }
 
   -- the element at a position
-  module _ (d : Description) (ns : List ℕ) (s : Saved) (ks : List (At Record)) (g : Given c stage t from n l h log m d ns s ks) (i : ℕ) (b : i < n) where
+  module _ (d : Description) (ns : List ℕ) (s : Saved) (ks : List (At Record)) (g : Given c stage t from n l h log m d ns s ks) (i : ℕ)
+      (b : i < n) where
     long : length (take n from) ≡ n
     long = length-take-le n from (omega (arith, g .few, g .from-long))
 

@@ -78,7 +78,8 @@ JudgeClaim c t n h r =
     → Tells c t n (k .place) (r .fate) (byClaim d kept (k .what)) × Claimed d (afterwards kept (byClaim d kept (k .what))) (r .held)
 
 -- what a pass starts from: some elements are kept and some lines made
-pub record Given (c : Chip) (stage : Stage) (t from : List ℕ) (n : ℕ) (l : List Bool) (h : Held) (log : List ℕ) (m : ℕ) (d : Description) (ns : List ℕ) (s : Saved) (ks : List (At Record)) : Type 0 where
+pub record Given (c : Chip) (stage : Stage) (t from : List ℕ) (n : ℕ) (l : List Bool) (h : Held) (log : List ℕ) (m : ℕ) (d : Description)
+    (ns : List ℕ) (s : Saved) (ks : List (At Record)) : Type 0 where
   pub few : n ≤ 96
   pub from-long : length from ≡ 96
   pub log-long : length log ≡ 1649
@@ -97,7 +98,8 @@ pub record Ready (c : Chip) (stage : Stage) (t from : List ℕ) (n : ℕ) (l : L
   pub given : Given c stage t from n l h log m d ns s ks
   pub small : length t ≤ 4096
 
-pub record Sifted (c : Chip) (stage : Stage) (t from : List ℕ) (n : ℕ) (l : List Bool) (h : Held) (log : List ℕ) (m : ℕ) (r : Counts) (to log′ : List ℕ) : Type 0 where
+pub record Sifted (c : Chip) (stage : Stage) (t from : List ℕ) (n : ℕ) (l : List Bool) (h : Held) (log : List ℕ) (m : ℕ) (r : Counts)
+    (to log′ : List ℕ) : Type 0 where
   pub fewer : r .kept ≤ n
   pub not-many : r .lines ≤ m + n
   pub sifts :

@@ -7,8 +7,11 @@ use Rattle.changes.proofs.put_line.Tie as tie
 
 returns : tie.Need-returns
 returns c =
-    λ l k.
-    line-put _ l k (c .before .before .before .before .before .before .before .before .before .before .before .before .before .before .before .put-decimal .ensures .0) (c .before .before .before .before .before .before .before .before .before .before .put .ensures) (c .before .before .before .before .before .before .put-decimal2 .ensures .0) (c .before .before .put-change .ensures)
+    let p4 = c .before .before in
+    let p3 = p4 .before .before .before .before in
+    let p2 = p3 .before .before .before .before in
+    let p1 = p2 .before .before .before .before .before in
+    λ l k. line-put _ l k (p1 .put-decimal .ensures .0) (p2 .put .ensures) (p3 .put-decimal2 .ensures .0) (p4 .put-change .ensures)
 
 pub put-line-spec : {M : Type 1} → statement M
 put-line-spec =

@@ -30,7 +30,13 @@ put-line-requires : tie.Need-put-line-requires Inv-loop μ-loop
 put-line-requires c κs =
     let l = c .before .before .before in
     let s = l .before in
-    omega (arith, c .before .before .loop-test .taken, s .pre .few, l .loop .inv .1 (s .pre .ls) (s .pre .codes) .bound, c .put-line-arg .given)
+    omega (
+      arith,
+      c .before .before .loop-test .taken,
+      s .pre .few,
+      l .loop .inv .1 (s .pre .ls) (s .pre .codes) .bound,
+      c .put-line-arg .given,
+    )
 
 add-i : tie.Need-add-i Inv-loop μ-loop
 add-i c =
@@ -43,8 +49,11 @@ loop-again : tie.Need-loop-again Inv-loop μ-loop
 loop-again c =
     let l = c .before .before .before .before in
     let s = l .before in
-    let t = c .before .before .before .loop-test .taken in
-    (omega (arith, t), λ ls all. turned _ _ (s .pre .few) (s .pre .long) ls all _ _ _ _ (l .loop .inv .1 ls all) t _ _ (c .put-line .ensures))
+    let t = c .before .before .before .loop-test .taken in (
+      omega (arith, t),
+      λ ls all. turned _ _ (s .pre .few) (s .pre .long) ls all _ _ _ _ (l .loop .inv .1 ls all) t _ _
+          (c .put-line .ensures),
+    )
 
 returns : tie.Need-returns Inv-loop μ-loop
 returns c =

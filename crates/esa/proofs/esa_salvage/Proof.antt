@@ -10,7 +10,8 @@ use Rattle.esa.proofs.esa_salvage.Tie as tie
 salvaged-requires : tie.Need-salvaged-requires
 salvaged-requires c κs =
     let e = c .before .before .before .before .before .before .before in
-    salvage-fits _ (now (e .before .args .file)) _ _ (λ i. omega (arith, e .shared-slice-known .given i)) (c .before .before .salvage .ensures)
+    salvage-fits _ (now (e .before .args .file)) _ _ (λ i. omega (arith, e .shared-slice-known .given i))
+    (c .before .before .salvage .ensures)
 
 returns : tie.Need-returns
 returns c =

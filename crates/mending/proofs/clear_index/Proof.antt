@@ -10,10 +10,12 @@ returns : tie.Need-returns
 returns c = rw (eq-eqb (c .before .args .id) 11 (c .if1 .taken)) refl
 
 returns-2 : tie.Need-returns-2
-returns-2 c = rw (ne-eqb (c .before .before .args .id) 11 (c .before .if1 .left), eq-eqb (c .before .before .args .id) 12 (c .if2 .taken)) refl
+returns-2 c =
+    rw (ne-eqb (c .before .before .args .id) 11 (c .before .if1 .left), eq-eqb (c .before .before .args .id) 12 (c .if2 .taken)) refl
 
 returns-3 : tie.Need-returns-3
-returns-3 c = rw (ne-eqb (c .before .before .args .id) 11 (c .before .if1 .left), ne-eqb (c .before .before .args .id) 12 (c .if2 .left)) refl
+returns-3 c =
+    rw (ne-eqb (c .before .before .args .id) 11 (c .before .if1 .left), ne-eqb (c .before .before .args .id) 12 (c .if2 .left)) refl
 
 pub clear-index-spec : {M : Type 1} → statement M
 clear-index-spec =

@@ -34,7 +34,16 @@ add-end c =
     let s = c .before .before .before .before .before in
     let t = c .before .before .loop-test .taken in
     let k = keeps-at _ _ _ _ (s .pre .few) (s .pre .long) _ (s .pre .keeps) _ t in
-    omega (arith, c .length-at .ensures, size-there _ _ _ _ k, inside _ _ _ _ k, s .pre .top, s .pre .few, t, c .before .before .before .loop .inv .1)
+    omega (
+      arith,
+      c .length-at .ensures,
+      size-there _ _ _ _ k,
+      inside _ _ _ _ k,
+      s .pre .top,
+      s .pre .few,
+      t,
+      c .before .before .before .loop .inv .1,
+    )
 
 add-i : tie.Need-add-i Inv-loop μ-loop
 add-i c = omega (arith, c .before .before .loop-test .taken, c .before .before .before .before .before .pre .few)

@@ -24,7 +24,8 @@ put-element-requires c κs =
     let p = s .pre in
     let k = p .keeps in
     let h = stands-there _ _ _ _ k in
-    fits-there _ _ _ _ k _ _ (c .before .element-at .ensures (k .r) h) (c .part-at .ensures _ (k .r) h) (s .args .at) (now (s .args .out)) (p .room) (p .bytes) (p .top)
+    fits-there _ _ _ _ k _ _ (c .before .element-at .ensures (k .r) h) (c .part-at .ensures _ (k .r) h) (s .args .at) (now (s .args .out))
+    (p .room) (p .bytes) (p .top)
 
 mend-index-requires : tie.Need-mend-index-requires
 mend-index-requires c κs =
@@ -41,8 +42,11 @@ returns c =
     λ k keeps.
     let p = c .before .before .before .before .before .before .before .before .before .before .before .before .before .before .pre in
     let h = stands-there _ _ _ _ keeps in
-    put-there _ _ _ _ keeps _ _ (c .before .before .before .before .before .before .before .before .before .before .element-at .ensures (keeps .r) h) (c .before .before .before .before .before .before .before .before .before .part-at .ensures _ (keeps .r) h) _ _
-    (omega (arith, p .room, size-there _ _ _ _ (p .keeps), size-there _ _ _ _ keeps)) _ (c .before .before .before .before .before .before .before .before .put-element .ensures) _ _ (c .length-at .ensures) refl _ (c .before .before .before .mend-index .ensures)
+    put-there _ _ _ _ keeps _ _ (c .before .before .before .before .before .before .before .before .before .before .element-at .ensures
+    (keeps .r) h) (c .before .before .before .before .before .before .before .before .before .part-at .ensures _ (keeps .r) h) _ _
+    (omega (arith, p .room, size-there _ _ _ _ (p .keeps), size-there _ _ _ _ keeps)) _
+    (c .before .before .before .before .before .before .before .before .put-element .ensures) _ _ (c .length-at .ensures) refl _
+    (c .before .before .before .mend-index .ensures)
 
 pub put-kept-spec : {M : Type 1} → statement M
 put-kept-spec =

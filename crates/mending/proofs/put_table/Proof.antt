@@ -50,12 +50,24 @@ put-kept-requires c κs =
       keeps = keeps-at _ _ _ _ (s .pre .few) (s .pre .long) _ (s .pre .keeps) _ t;
       bytes = s .pre .bytes;
       top = s .pre .top;
-      room = omega (arith, lay-room _ _ _ _ (s .pre .few) (s .pre .long) _ (s .pre .keeps) _ _ _ _ _ w t, l .loop .inv .0, s .pre .room, c .before .before .before .before .before .out .given);
+      room =
+          omega (
+            arith,
+            lay-room _ _ _ _ (s .pre .few) (s .pre .long) _ (s .pre .keeps) _ _ _ _ _ w t,
+            l .loop .inv .0,
+            s .pre .room,
+            c .before .before .before .before .before .out .given,
+          );
       low = omega (arith, w .sum, s .pre .most);
     }
 
 add-i : tie.Need-add-i Inv-loop μ-loop
-add-i c = omega (arith, c .before .before .before .before .before .loop-test .taken, c .before .before .before .before .before .before .before .before .before .before .before .before .before .pre .few)
+add-i c =
+    omega (
+      arith,
+      c .before .before .before .before .before .loop-test .taken,
+      c .before .before .before .before .before .before .before .before .before .before .before .before .before .pre .few,
+    )
 
 loop-less : tie.Need-loop-less Inv-loop μ-loop
 loop-less c = omega (arith, c .before .before .before .before .before .loop-test .taken)
@@ -81,7 +93,8 @@ returns c =
     let s = c .before .before .before .before .before .before .before .before in
     λ ks all.
     lay-ends _ _ _ _ (s .pre .few) (s .pre .long) ks all _ _ _ _ _ (c .before .loop .inv .2 ks all) (c .loop-test .left)
-    (describedAs (s .args .cleared) (readDescription (s .args .chip) (byte (now (s .args .t))))) _ (s .pre .size _ ks all) (c .before .before .before .before .put-opening .ensures)
+    (describedAs (s .args .cleared) (readDescription (s .args .chip) (byte (now (s .args .t))))) _ (s .pre .size _ ks all)
+    (c .before .before .before .before .put-opening .ensures)
 
 pub put-table-spec : {M : Type 1} → statement M
 put-table-spec =

@@ -27,11 +27,12 @@ pass-requires c κs =
 
 sift-requires : tie.Need-sift-requires
 sift-requires c κs =
-    let e = c .before .before .before .before .before .before .before .before .before in
+    let a = c .before .before .before .before in
+    let e = a .before .before .before .before .before in
     let s = e .before .before .before in
     let f = salvageable-says (s .args .chip) (now (s .args .t)) .0 (s .pre .2) in
     let h = held-first (s .args .chip) (now (s .args .t)) _ _ (e .before .description .ensures) (f .described) (e .first-claims .ensures) in
-    (ready-13 _ _ _ h (f .clear) _ _ _ _ _ (c .before .before .before .before .pass .ensures) (s .pre .0), length-replicate {A = ℕ} 96 0)
+    (ready-13 _ _ _ h (f .clear) _ _ _ _ _ (a .pass .ensures) (s .pre .0), length-replicate {A = ℕ} 96 0)
 
 shared-slice-read-wide : tie.Need-shared-slice-read-wide
 shared-slice-read-wide c =
@@ -40,68 +41,96 @@ shared-slice-read-wide c =
 
 sift-requires-2 : tie.Need-sift-requires-2
 sift-requires-2 c κs =
-    let e = c .before .before .before .before .before .before .before .before .before .before .before .before .before .before .before .before .before .before in
+    let z = c .before .before .before .before in
+    let w = z .before .before in
+    let y = w .before .before in
+    let a = y .before .before .before .before .before in
+    let e = a .before .before .before .before .before in
     let s = e .before .before .before in
     let f = salvageable-says (s .args .chip) (now (s .args .t)) .0 (s .pre .2) in
     let h = held-first (s .args .chip) (now (s .args .t)) _ _ (e .before .description .ensures) (f .described) (e .first-claims .ensures) in
-    let p = c .before .before .before .before .before .before .before .before .before .before .before .before .before .pass .ensures in
-    let x = c .before .before .before .before .before .before .before .before .sift .ensures in
+    let p = a .pass .ensures in
+    let x = y .sift .ensures in
     let n = noted-13 _ _ _ h (f .clear) _ _ _ _ _ p x in
     let m = marks-14 _ _ _ h (f .clear) _ (p .string) in
-    let w = c .before .before .before .before .before .before .wide .ensures in
-    let q = clears-14 _ _ _ h (f .clear) _ _ m (w .0) (w .1) in
-    (ready-14 _ _ _ h (f .clear) _ _ _ _ _ _ n (omega (arith, x .not-many, p .few-lines, p .notes .few)) _ q (c .before .before .before .before .note-first .ensures) m (s .pre .0), p .notes .kept-long)
+    let q = clears-14 _ _ _ h (f .clear) _ _ m (w .wide .ensures .0) (w .wide .ensures .1) in (
+      ready-14 _ _ _ h (f .clear) _ _ _ _ _ _ n (omega (arith, x .not-many, p .few-lines, p .notes .few)) _ q (z .note-first .ensures) m (s .pre .0),
+      p .notes .kept-long,
+    )
 
 sift-requires-3 : tie.Need-sift-requires-3
 sift-requires-3 c κs =
-    let e = c .before .before .before .before .before .before .before .before .before .before .before .before .before .before .before .before .before .before .before .before .before .before .before in
+    let v = c .before .before .before .before in
+    let z = v .before .before .before .before .before in
+    let w = z .before .before in
+    let y = w .before .before in
+    let a = y .before .before .before .before .before in
+    let e = a .before .before .before .before .before in
     let s = e .before .before .before in
     let f = salvageable-says (s .args .chip) (now (s .args .t)) .0 (s .pre .2) in
     let h = held-first (s .args .chip) (now (s .args .t)) _ _ (e .before .description .ensures) (f .described) (e .first-claims .ensures) in
-    let p = c .before .before .before .before .before .before .before .before .before .before .before .before .before .before .before .before .before .before .pass .ensures in
-    let x = c .before .before .before .before .before .before .before .before .before .before .before .before .before .sift .ensures in
+    let p = a .pass .ensures in
+    let x = y .sift .ensures in
     let n = noted-13 _ _ _ h (f .clear) _ _ _ _ _ p x in
     let m = marks-14 _ _ _ h (f .clear) _ (p .string) in
-    let w = c .before .before .before .before .before .before .before .before .before .before .before .wide .ensures in
-    let q = clears-14 _ _ _ h (f .clear) _ _ m (w .0) (w .1) in
-    let z = c .before .before .before .before .before .before .before .before .before .note-first .ensures in
-    let y = c .before .before .before .before .sift2 .ensures in
-    let o = noted-14 _ _ _ h (f .clear) _ _ _ _ _ _ n (omega (arith, x .not-many, p .few-lines, p .notes .few)) _ q z m y in
-    (ready-15 _ _ _ h (f .clear) _ _ _ _ o (omega (arith, x .not-many, p .few-lines, p .notes .few, z .more, y .not-many, n .few)) m (s .pre .0), s .pre .3)
+    let q = clears-14 _ _ _ h (f .clear) _ _ m (w .wide .ensures .0) (w .wide .ensures .1) in
+    let k = v .sift2 .ensures in
+    let o = noted-14 _ _ _ h (f .clear) _ _ _ _ _ _ n (omega (arith, x .not-many, p .few-lines, p .notes .few)) _ q (z .note-first .ensures) m k in (
+      ready-15 _ _ _ h (f .clear) _ _ _ _ o
+          (omega (arith, x .not-many, p .few-lines, p .notes .few, z .note-first .ensures .more, k .not-many, n .few))
+          m (s .pre .0),
+      s .pre .3,
+    )
 
 new-length-requires : tie.Need-new-length-requires
 new-length-requires c κs =
-    let e = c .before .before .before .before .before .before .before .before .before .before .before .before .before .before .before .before .before .before .before .before .before .before .before .before .before in
+    let u = c .before in
+    let v = u .before .before .before .before .before in
+    let z = v .before .before .before .before .before in
+    let w = z .before .before in
+    let y = w .before .before in
+    let a = y .before .before .before .before .before in
+    let e = a .before .before .before .before .before in
     let s = e .before .before .before in
     let f = salvageable-says (s .args .chip) (now (s .args .t)) .0 (s .pre .2) in
     let h = held-first (s .args .chip) (now (s .args .t)) _ _ (e .before .description .ensures) (f .described) (e .first-claims .ensures) in
-    let p = c .before .before .before .before .before .before .before .before .before .before .before .before .before .before .before .before .before .before .before .before .pass .ensures in
-    let x = c .before .before .before .before .before .before .before .before .before .before .before .before .before .before .before .sift .ensures in
+    let p = a .pass .ensures in
+    let x = y .sift .ensures in
     let n = noted-13 _ _ _ h (f .clear) _ _ _ _ _ p x in
     let m = marks-14 _ _ _ h (f .clear) _ (p .string) in
-    let w = c .before .before .before .before .before .before .before .before .before .before .before .before .before .wide .ensures in
-    let q = clears-14 _ _ _ h (f .clear) _ _ m (w .0) (w .1) in
-    let z = c .before .before .before .before .before .before .before .before .before .before .before .note-first .ensures in
-    let y = c .before .before .before .before .before .before .sift2 .ensures in
-    let o = noted-14 _ _ _ h (f .clear) _ _ _ _ _ _ n (omega (arith, x .not-many, p .few-lines, p .notes .few)) _ q z m y in
-    listed _ _ _ _ _ (noted-15 _ _ _ h (f .clear) _ _ _ _ o (omega (arith, x .not-many, p .few-lines, p .notes .few, z .more, y .not-many, n .few)) m (c .before .sift3 .ensures)) (s .pre .0)
+    let q = clears-14 _ _ _ h (f .clear) _ _ m (w .wide .ensures .0) (w .wide .ensures .1) in
+    let k = v .sift2 .ensures in
+    let o = noted-14 _ _ _ h (f .clear) _ _ _ _ _ _ n (omega (arith, x .not-many, p .few-lines, p .notes .few)) _ q (z .note-first .ensures) m k in
+    listed _ _ _ _ _
+    (noted-15 _ _ _ h (f .clear) _ _ _ _ o
+    (omega (arith, x .not-many, p .few-lines, p .notes .few, z .note-first .ensures .more, k .not-many, n .few))
+    m (u .sift3 .ensures))
+    (s .pre .0)
 
 returns : tie.Need-returns
 returns c =
-    let e = c .before .before .before .before .before .before .before .before .before .before .before .before .before .before .before .before .before .before .before .before .before .before .before .before .before .before in
+    let u = c .before .before in
+    let v = u .before .before .before .before .before in
+    let z = v .before .before .before .before .before in
+    let w = z .before .before in
+    let y = w .before .before in
+    let a = y .before .before .before .before .before in
+    let e = a .before .before .before .before .before in
     let s = e .before .before .before in
     let f = salvageable-says (s .args .chip) (now (s .args .t)) .0 (s .pre .2) in
     let h = held-first (s .args .chip) (now (s .args .t)) _ _ (e .before .description .ensures) (f .described) (e .first-claims .ensures) in
-    let p = c .before .before .before .before .before .before .before .before .before .before .before .before .before .before .before .before .before .before .before .before .before .pass .ensures in
-    let x = c .before .before .before .before .before .before .before .before .before .before .before .before .before .before .before .before .sift .ensures in
+    let p = a .pass .ensures in
+    let x = y .sift .ensures in
     let n = noted-13 _ _ _ h (f .clear) _ _ _ _ _ p x in
     let m = marks-14 _ _ _ h (f .clear) _ (p .string) in
-    let w = c .before .before .before .before .before .before .before .before .before .before .before .before .before .before .wide .ensures in
-    let q = clears-14 _ _ _ h (f .clear) _ _ m (w .0) (w .1) in
-    let z = c .before .before .before .before .before .before .before .before .before .before .before .before .note-first .ensures in
-    let y = c .before .before .before .before .before .before .before .sift2 .ensures in
-    let o = noted-14 _ _ _ h (f .clear) _ _ _ _ _ _ n (omega (arith, x .not-many, p .few-lines, p .notes .few)) _ q z m y in
-    decided _ _ _ _ _ _ refl refl (noted-15 _ _ _ h (f .clear) _ _ _ _ o (omega (arith, x .not-many, p .few-lines, p .notes .few, z .more, y .not-many, n .few)) m (c .before .before .sift3 .ensures)) q (c .new-length .ensures)
+    let q = clears-14 _ _ _ h (f .clear) _ _ m (w .wide .ensures .0) (w .wide .ensures .1) in
+    let k = v .sift2 .ensures in
+    let o = noted-14 _ _ _ h (f .clear) _ _ _ _ _ _ n (omega (arith, x .not-many, p .few-lines, p .notes .few)) _ q (z .note-first .ensures) m k in
+    decided _ _ _ _ _ _ refl refl
+    (noted-15 _ _ _ h (f .clear) _ _ _ _ o
+    (omega (arith, x .not-many, p .few-lines, p .notes .few, z .note-first .ensures .more, k .not-many, n .few))
+    m (u .sift3 .ensures))
+    q (c .new-length .ensures)
 
 pub decide-spec : {M : Type 1} → statement M
 decide-spec =

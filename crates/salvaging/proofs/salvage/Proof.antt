@@ -26,29 +26,40 @@ decide-requires : tie.Need-decide-requires
 decide-requires c κs =
     let e = c .before .before in
     let s = e .before .before .before .before .before in
-    let t = taken-there (s .args .chip) (now (s .args .file)) _ (e .before .before .taken .ensures) (small e) in
-    (t .0, t .1, sym (e .before .sound .ensures) ∙ not-false _ (e .if1 .left), length-replicate {A = ℕ} 96 0, length-replicate {A = ℕ} 1649 0)
+    let t = taken-there (s .args .chip) (now (s .args .file)) _ (e .before .before .taken .ensures) (small e) in (
+      t .0,
+      t .1,
+      sym (e .before .sound .ensures) ∙ not-false _ (e .if1 .left),
+      length-replicate {A = ℕ} 96 0,
+      length-replicate {A = ℕ}
+          1649 0,
+    )
 
 returns-2 : tie.Need-returns-2
 returns-2 c =
     let e = c .before .before .before .before .before in
     let s = e .before .before .before .before .before in
-    no-room _ (now (s .args .file)) _ _ (now (s .args .lines)) (e .before .before .taken .ensures) (small e) (sym (e .before .sound .ensures) ∙ not-false _ (e .if1 .left)) _ _ _
+    no-room _ (now (s .args .file)) _ _ (now (s .args .lines)) (e .before .before .taken .ensures) (small e)
+    (sym (e .before .sound .ensures) ∙ not-false _ (e .if1 .left)) _ _ _
     (c .before .before .decide .ensures) (c .if2 .taken)
 
 put-table-requires : tie.Need-put-table-requires
 put-table-requires c κs =
     let e = c .before .before .before .before .before .before .before in
     let s = e .before .before .before .before .before in
-    room-there _ (now (s .args .file)) _ _ (now (s .args .lines)) (e .before .before .taken .ensures) (small e) (sym (e .before .sound .ensures) ∙ not-false _ (e .if1 .left)) _ _ _
+    room-there _ (now (s .args .file)) _ _ (now (s .args .lines)) (e .before .before .taken .ensures) (small e)
+    (sym (e .before .sound .ensures) ∙ not-false _ (e .if1 .left)) _ _ _
     (c .before .before .before .before .decide .ensures) (c .before .before .if2 .left)
 
 returns-3 : tie.Need-returns-3
 returns-3 c =
     let e = c .before .before .before .before .before .before .before .before .before .before .before .before .before in
     let s = e .before .before .before .before .before in
-    salvaged-there _ (now (s .args .file)) _ _ (now (s .args .lines)) (e .before .before .taken .ensures) (small e) (sym (e .before .sound .ensures) ∙ not-false _ (e .if1 .left)) _ _ _
-    (c .before .before .before .before .before .before .before .before .before .before .decide .ensures) (c .before .before .before .before .before .before .before .before .if2 .left) (c .before .before .before .before .before .put-table .ensures) (c .put-lines .ensures)
+    salvaged-there _ (now (s .args .file)) _ _ (now (s .args .lines)) (e .before .before .taken .ensures) (small e)
+    (sym (e .before .sound .ensures) ∙ not-false _ (e .if1 .left)) _ _ _
+    (c .before .before .before .before .before .before .before .before .before .before .decide .ensures)
+    (c .before .before .before .before .before .before .before .before .if2 .left)
+    (c .before .before .before .before .before .put-table .ensures) (c .put-lines .ensures)
 
 pub salvage-spec : {M : Type 1} → statement M
 salvage-spec =

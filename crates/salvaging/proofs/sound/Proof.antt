@@ -19,15 +19,19 @@ returns-2 c =
 returns-3 : tie.Need-returns-3
 returns-3 c =
     let s = c .before .before .before .before .before .before .before in
-    misdescribed (s .args .chip) (now (s .args .t)) (c .before .before .before .before .before .if1 .left) (c .before .before .before .if2 .left)
-    (bad-number (s .args .chip) (now (s .args .t)) _ (c .before .before .description .ensures) _ (c .before .description-breaks .ensures) (c .if3 .taken))
+    misdescribed (s .args .chip) (now (s .args .t)) (c .before .before .before .before .before .if1 .left)
+    (c .before .before .before .if2 .left)
+    (bad-number (s .args .chip) (now (s .args .t)) _ (c .before .before .description .ensures) _ (c .before .description-breaks .ensures)
+    (c .if3 .taken))
 
 returns-4 : tie.Need-returns-4
 returns-4 c =
     let s = c .before .before .before .before .before .before .before .before .before in
     let d = c .before .before .before .before .description .ensures in
-    let good = good-number (s .args .chip) (now (s .args .t)) _ d _ (c .before .before .before .description-breaks .ensures) (c .before .before .if3 .left) in
-    by-claims (s .args .chip) (now (s .args .t)) _ (c .before .before .before .before .before .before .before .if1 .left) (c .before .before .before .before .before .if2 .left) good
+    let good = good-number (s .args .chip) (now (s .args .t)) _ d _ (c .before .before .before .description-breaks .ensures)
+    (c .before .before .if3 .left) in
+    by-claims (s .args .chip) (now (s .args .t)) _ (c .before .before .before .before .before .before .before .if1 .left)
+    (c .before .before .before .before .before .if2 .left) good
     (held-first (s .args .chip) (now (s .args .t)) _ _ d good (c .before .first-claims .ensures))
 
 pub sound-spec : {M : Type 1} → statement M

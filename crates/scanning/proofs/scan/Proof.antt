@@ -78,7 +78,9 @@ walk-requires : tie.Need-walk-requires Inv-loop μ-loop
 walk-requires c κs =
     let e = c .before .before .before .before .before in
     let l = e .before .before .before .before .before .before in
-    let n = length-slice (l .loop .at) (l .loop .at + e .before .before .before .before .length-at .result) (now (l .before .before .before .args .t)) (known e .inside) in
+    let n =
+    length-slice (l .loop .at) (l .loop .at + e .before .before .before .before .length-at .result) (now (l .before .before .before .args .t))
+    (known e .inside) in
     (omega (arith, known e, n), low _ _ _ _ _ _ _ _ _ (l .loop .inv .1))
 
 settle-requires : tie.Need-settle-requires Inv-loop μ-loop

@@ -16,7 +16,8 @@ returns c =
     λ d kept k keeps w.
     let e = c .before .before .before .before .before in
     let s = e .before .before in
-    let cs = claims-there _ _ _ _ keeps d kept _ w _ _ (e .element-at .ensures (keeps .r) (here-there _ _ _ _ keeps)) (c .before .before .before .before .claims-of .ensures) in
+    let cs = claims-there _ _ _ _ keeps d kept _ w _ _ (e .element-at .ensures (keeps .r) (here-there _ _ _ _ keeps))
+    (c .before .before .before .before .claims-of .ensures) in
     let is = c .before .before .before .claim .ensures (w .made) (claimsOf (k .what)) (omega (arith, s .pre .1)) (w .held) cs in
     rw (c .fated .ensures .0, c .fated .ensures .1) (claim-stays _ _ _ _ keeps d kept _ w _ _ is (c .before .if1 .taken))
 
@@ -25,7 +26,8 @@ returns-2 c =
     λ d kept k keeps w.
     let e = c .before .before .before .before .before in
     let s = e .before .before in
-    let cs = claims-there _ _ _ _ keeps d kept _ w _ _ (e .element-at .ensures (keeps .r) (here-there _ _ _ _ keeps)) (c .before .before .before .before .claims-of .ensures) in
+    let cs = claims-there _ _ _ _ keeps d kept _ w _ _ (e .element-at .ensures (keeps .r) (here-there _ _ _ _ keeps))
+    (c .before .before .before .before .claims-of .ensures) in
     let is = c .before .before .before .claim .ensures (w .made) (claimsOf (k .what)) (omega (arith, s .pre .1)) (w .held) cs in
     rw (c .fated2 .ensures .0, c .fated2 .ensures .1) (claim-leaves _ _ _ _ keeps d kept _ w _ _ is (c .before .if1 .left))
 

@@ -8,7 +8,8 @@ use Rattle.sifting.proofs.sift.Statement.{statement}
 use Rattle.sifting.proofs.sift.Tie as tie
 
 abbrev Inv-loop : tie.InvT-loop
-Inv-loop t stage from n declared to₀ log₀ lines chip c₀ held₀ i₀ to log c held i = Sifting chip stage t from n declared held₀ log₀ lines i held c to log
+Inv-loop t stage from n declared to₀ log₀ lines chip c₀ held₀ i₀ to log c held i =
+    Sifting chip stage t from n declared held₀ log₀ lines i held c to log
 
 abbrev μ-loop : tie.MeasureT-loop
 μ-loop t stage from n declared to₀ log₀ lines chip c₀ held₀ i₀ to log c held i = n - i
@@ -36,16 +37,23 @@ judge-requires c κs =
     let l = c .before .before in
     let s = l .before .before .before in
     let g = s .pre .0 .given in
-    let b = c .before .loop-test .taken in
-    ((spot _ _ _ _ _ _ _ _ _ _ _ _ _ g _ b .x, keeps-at _ _ _ _ _ _ _ _ _ _ _ _ _ g _ b), low-at _ _ _ _ _ _ _ _ _ _ _ _ _ g _ b (s .pre .0 .small))
+    let b = c .before .loop-test .taken in (
+      (spot _ _ _ _ _ _ _ _ _ _ _ _ _ g _ b .x, keeps-at _ _ _ _ _ _ _ _ _ _ _ _ _ g _ b),
+      low-at _ _ _ _ _ _ _ _ _ _ _ _ _ g _ b
+          (s .pre .0 .small),
+    )
 
 settle-requires : tie.Need-settle-requires Inv-loop μ-loop
 settle-requires c κs =
     let l = c .before .before .before .before .before in
     let s = l .before .before .before in
     let g = s .pre .0 .given in
-    let b = c .before .before .before .before .loop-test .taken in
-    (omega (arith, b, l .loop .inv .fewer, g .few), omega (arith, b, l .loop .inv .not-many, g .fitting), low-at _ _ _ _ _ _ _ _ _ _ _ _ _ g _ b (s .pre .0 .small))
+    let b = c .before .before .before .before .loop-test .taken in (
+      omega (arith, b, l .loop .inv .fewer, g .few),
+      omega (arith, b, l .loop .inv .not-many, g .fitting),
+      low-at _ _ _ _ _ _ _ _ _ _ _ _ _
+          g _ b (s .pre .0 .small),
+    )
 
 add-i : tie.Need-add-i Inv-loop μ-loop
 add-i c =
@@ -60,7 +68,8 @@ loop-again : tie.Need-loop-again Inv-loop μ-loop
 loop-again c =
     let l = c .before .before .before .before .before .before .before in
     let s = l .before .before .before in
-    turned _ _ _ _ _ _ _ _ _ _ _ _ _ _ (l .loop .inv) (c .before .before .before .before .before .before .loop-test .taken) _ (c .before .before .before .before .judge .ensures) _ _ _ (c .before .settle .ensures)
+    turned _ _ _ _ _ _ _ _ _ _ _ _ _ _ (l .loop .inv) (c .before .before .before .before .before .before .loop-test .taken) _
+    (c .before .before .before .before .judge .ensures) _ _ _ (c .before .settle .ensures)
 
 returns : tie.Need-returns Inv-loop μ-loop
 returns c = ended _ _ _ _ _ _ _ _ _ _ _ _ _ _ (c .before .loop .inv) (c .loop-test .left)
