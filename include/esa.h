@@ -233,6 +233,10 @@ static inline size_t esa_fan_visited(uint64_t answer)
    rise or fall strictly, and a count over 1023. */
 uint64_t esa_reading(const uint8_t *table, size_t length, size_t k, uint64_t count, uint64_t settings);
 
+/* The same answer of our own thermistor (calibration 850, 700, 500, 320, 200) to a count, from a ready table: for a meter that has no table
+   at hand and no divide instruction. 0, and beside it what esa_reading has there, or 18 at 0 for a count over 1023. */
+uint64_t esa_thermistor(uint64_t count);
+
 enum { ESA_READING = 0, ESA_UNDER_0 = 1, ESA_OVER_100 = 2 };
 
 /* Of an answer that is no refusal: ESA_READING, ESA_UNDER_0 or ESA_OVER_100. */

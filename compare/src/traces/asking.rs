@@ -6,15 +6,14 @@ use crate::driver::Driver;
 use crate::exchange::Asked;
 use crate::outcome::{hex, text, Outcome};
 use crate::question::Origin;
-use crate::settings::of_writing;
-use second::{Reading, Refusal};
+use second::{Reading, Refusal, Settings};
 use std::fmt;
 use std::rc::Rc;
 
 #[derive(Clone)]
 pub struct Asking {
     pub origin: Origin,
-    /// Bit 1 is ignored: the rules are always the ordinary ones.
+    /// A trace ignores bit 1, its rules are always the ordinary ones; a single count does not, as every reading.
     pub settings: u64,
     pub table: Rc<[u8]>,
     pub what: What,
@@ -42,7 +41,7 @@ fn packed(reading: Result<Reading, Refusal>) -> Answer {
 /// What the second program answers to a count.
 pub fn of_count(table: &[u8], k: u64, count: u64, settings: u64) -> Answer {
     let k = usize::try_from(k).unwrap_or(usize::MAX);
-    packed(second::reading(table, k, count, of_writing(settings)))
+    packed(second::reading(table, k, count, Settings::of_number(settings)))
 }
 
 /// What it answers to each step, with the text.

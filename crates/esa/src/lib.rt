@@ -3,6 +3,7 @@
 // and the pin sheet ignore bit 1 too.
 ghost use mathlib.Core.Path.{_≡_};
 ghost use Rattle.parts.specs.Inside.{blockIn, pairIn, listIn, listPairIn, colourIn, colourPairIn};
+ghost use Rattle.metering.specs.Face.{OwnFor};
 ghost use Rattle.listing.specs.Lines.{Listed};
 ghost use Rattle.format.specs.Writing.{writing};
 ghost use Rattle.spelling.specs.Spelling.{Put};
@@ -150,6 +151,14 @@ pub extern "C" fn esa_reading(table: &[u8], k: usize, count: u64, settings: u64)
     ensures { λ r. ⌜ ReadingFor (settingsOf settings) (now (table .entry)) k count r ⌝ }
 {
     metering::packed_reading(table, k, count, settings_of(settings))
+}
+
+// The same of our own thermistor, from the ready table alone: for the meter, which has no table and cannot divide.
+#[no_mangle]
+pub extern "C" fn esa_thermistor(count: u64) -> u64
+    ensures { λ r. ⌜ OwnFor count r ⌝ }
+{
+    metering::packed_own(count)
 }
 
 // A table that comes in pieces, over a state that is lent part by part: begins with no byte. 0.

@@ -1,4 +1,4 @@
--- No second outcome keeps the words of `reading`, and no second number those of `packed_reading`.
+-- No second outcome keeps the words of `reading`, and no second number those of `packed_reading` and `packed_own`.
 -- Assumes nothing.
 use Prim.Native.Nat.{ℕ}
 use native.Mathlib.Omega.{arith}
@@ -12,10 +12,11 @@ use Rattle.format.specs.declared.answers.Asked.the-variants.{Element as Given, 
 use Rattle.reader.proofs.Only.{only-element}
 use Rattle.converting.specs.Outcomes.{outcomeOf}
 use Rattle.converting.specs.declared.Converted.{Converted}
+use Rattle.converting.proofs.Walking.{temperature-unique}
 use Rattle.sensing.specs.Answers.{sensorOf, Answers}
 use Rattle.sensing.proofs.Only.{answer-unique}
 use Rattle.metering.specs.Meters.{meteredOf, Meters, given, ungiven}
-use Rattle.metering.specs.Face.{packedOf, ReadingFor}
+use Rattle.metering.specs.Face.{packedOf, ReadingFor, OwnFor}
 use Rattle.metering.specs.declared.Metered.{Metered}
 
 never : {a : Asked} {e : Element} {j p : ℕ} → a ≡ Given e → a ≡ NotGiven j p → ⊥
@@ -36,3 +37,7 @@ only-reading σ b k c r r′ small (given r₁ g a) (given r₂ g′ a′) =
 pub only-number : (σ : Settings) (b : List ℕ) (k c r r′ : ℕ) → Bytes b → ReadingFor σ b k c r → ReadingFor σ b k c r′ → r ≡ r′
 only-number σ b k c r r′ small x y =
     x .number ∙ ap packedOf (only-reading σ b k c (x .answer) (y .answer) small (x .meters) (y .meters)) ∙ sym (y .number)
+
+pub only-own : (c r r′ : ℕ) → OwnFor c r → OwnFor c r′ → r ≡ r′
+only-own c r r′ x y =
+    x .number ∙ ap (λ (a : Converted). packedOf (meteredOf (outcomeOf a))) (temperature-unique (x .reads) (y .reads)) ∙ sym (y .number)

@@ -13,7 +13,7 @@ use Rattle.metering.specs.Meters.{meteredOf, Meters, given, ungiven}
 use Rattle.metering.specs.Face.{placeOf}
 use Rattle.metering.specs.declared.Metered.{Metered}
 
-at-zero : (o : Outcome) → placeOf (meteredOf o) ≡ 0
+pub at-zero : (o : Outcome) → placeOf (meteredOf o) ≡ 0
 at-zero (Reading v) = refl
 at-zero Under = refl
 at-zero Over = refl

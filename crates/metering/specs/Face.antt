@@ -4,7 +4,11 @@ use Prim.Native.Nat.{ℕ, _+_, _*_}
 use mathlib.Core.Path.{_≡_}
 use mathlib.Core.List.{List}
 use Rattle.format.specs.declared.settings.Settings.{Settings}
-use Rattle.metering.specs.Meters.{Meters}
+use Rattle.converting.specs.Outcomes.{outcomeOf}
+use Rattle.converting.specs.Conversions.{Temperature}
+use Rattle.converting.specs.declared.Converted.{Converted}
+use Rattle.thermistor.specs.Ready.{ours}
+use Rattle.metering.specs.Meters.{meteredOf, Meters}
 use Rattle.metering.specs.declared.Metered.{Metered}
 use Rattle.metering.specs.declared.Metered.the-variants.{Reading, Under, Over, Refused}
 
@@ -35,3 +39,9 @@ pub record ReadingFor (σ : Settings) (b : List ℕ) (k c r : ℕ) : Type 0 wher
   pub answer : Metered
   pub meters : Meters σ b k c answer
   pub number : r ≡ packedOf answer
+
+-- of a sensor with our own calibration
+pub record OwnFor (c r : ℕ) : Type 0 where
+  pub answer : Converted
+  pub reads : Temperature ours c answer
+  pub number : r ≡ packedOf (meteredOf (outcomeOf answer))

@@ -2,7 +2,7 @@
 ghost use mathlib.Core.Path.{_≡_};
 ghost use Prim.Native.Nat.{_≤_};
 ghost use Rattle.metering.specs.Meters.{meteredOf, Short, Meters};
-ghost use Rattle.metering.specs.Face.{placeOf, packedOf, ReadingFor};
+ghost use Rattle.metering.specs.Face.{placeOf, packedOf, ReadingFor, OwnFor};
 use converting::Outcome;
 use format::answers::Asked;
 use format::settings::Settings;
@@ -33,6 +33,13 @@ pub fn packed_reading(table: &[u8], k: usize, count: u64, settings: Settings) ->
     ensures { λ r. ⌜ ReadingFor settings (now (table .entry)) k count r ⌝ }
 {
     packed(reading(table, k, count, settings))
+}
+
+// The same answer of our own thermistor to a count, from the ready table alone: for the meter, which has no table and cannot divide.
+pub fn packed_own(count: u64) -> u64
+    ensures { λ r. ⌜ OwnFor count r ⌝ }
+{
+    packed(at_zero(converting::told(thermistor::ours(shortened(count)))))
 }
 
 // No conversion tells counts over 65,535 apart.

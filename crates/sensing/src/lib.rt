@@ -71,7 +71,7 @@ pub fn answer(sensor: Sensor, count: u32) -> Converted
     match sensor {
         Sensor::Current(imin, imax) => converting::current(imin, imax, count),
         Sensor::Voltage(vmin, vmax) => converting::voltage(vmin, vmax, count),
-        Sensor::Points(p) => converting::temperature(p, count),
+        Sensor::Points(p) => thermistor::temperature(p, count),
         Sensor::Pulses(ppr) => converting::speed(ppr, count),
         Sensor::Nothing => Converted::Refused(18),
     }
