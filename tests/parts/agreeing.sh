@@ -42,7 +42,8 @@ options_of_help() { # COMMAND
 }
 
 every_option() {
-    sed 's/\\-/-/g' "$page" | awk '/^\.SH/ { inside = /SYNOPSIS/ } inside && match($0, /--[a-z]+/) { print substr($0, RSTART, RLENGTH) }' | sort -u
+    sed 's/\\-/-/g' "$page" | awk '/^\.SH/ { inside = /SYNOPSIS/ }
+        inside && match($0, /--[a-z]+/) { print substr($0, RSTART, RLENGTH) }' | sort -u
 }
 
 # An option and what stands behind it.

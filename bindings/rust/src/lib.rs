@@ -33,7 +33,7 @@
 //! | see which pins are free | [`sheet`], [`sheet_forward`], [`sheet_text`] |
 //! | hold two tables side by side | [`diff`] |
 //! | save what can be saved of a damaged one | [`salvage`] |
-//! | run counts from the bench through one | [`reading`] of one count, [`Trace`] of a recording |
+//! | run counts from the bench through one | [`reading`] and [`thermistor`] of one count, [`Trace`] of a recording |
 //! | write one | [`start`], [`append`], [`rewrite`], [`remove`] |
 //! | move one to Intel HEX and back | [`hex`], [`unhex`] |
 
@@ -65,7 +65,7 @@ pub use receiving::Receiving;
 pub use salvaging::{salvage, Saved};
 pub use settings::{Chip, Rules, Settings};
 pub use sheets::{sheet, sheet_forward, sheet_text, Claimant, Sheet};
-pub use tracing::{reading, Reading, Trace};
+pub use tracing::{reading, thermistor, Reading, Trace};
 pub use writing::{append, remove, rewrite, start};
 
 /// The bytes of the shortest table.

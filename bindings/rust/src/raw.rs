@@ -15,6 +15,7 @@ extern "C" {
     pub fn esa_fan(table: *const u8, length: usize, zone: u8, settings: u64) -> u64;
     pub fn esa_list(table: *const u8, length: usize, settings: u64, out: *mut u8) -> usize;
     pub fn esa_reading(table: *const u8, length: usize, k: usize, count: u64, settings: u64) -> u64;
+    pub fn esa_thermistor(count: u64) -> u64;
 
     pub fn esa_block(part: *const u8, length: usize, j: usize) -> u64;
     pub fn esa_pair(part: *const u8, length: usize, j: usize, i: usize) -> u64;

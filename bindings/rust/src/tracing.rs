@@ -29,7 +29,25 @@ pub enum Reading {
 /// # Ok::<(), std::io::Error>(())
 /// ```
 pub fn reading(table: &[u8], k: usize, count: u64, settings: Settings) -> Result<Reading, Refusal> {
-    let beside = unpacked(unsafe { raw::esa_reading(table.as_ptr(), table.len(), k, count, settings.number()) })?;
+    read(unsafe { raw::esa_reading(table.as_ptr(), table.len(), k, count, settings.number()) })
+}
+
+/// The same of our own thermistor, whose calibration is 850, 700, 500, 320, 200, from a ready table and without a division: tenths of a
+/// degree; 18 at 0 for a count over 1023.
+///
+/// ```
+/// use esa::{thermistor, Reading};
+/// assert_eq!(thermistor(700), Ok(Reading::Value(250)));
+/// assert_eq!((thermistor(851), thermistor(199)), (Ok(Reading::Under0), Ok(Reading::Over100)));
+/// assert_eq!(thermistor(1024).unwrap_err().number(), 18);
+/// ```
+pub fn thermistor(count: u64) -> Result<Reading, Refusal> {
+    read(unsafe { raw::esa_thermistor(count) })
+}
+
+/// Beside 0 stands 4 times the reading, or 1 for under 0, or 2 for over 100.
+fn read(answer: u64) -> Result<Reading, Refusal> {
+    let beside = unpacked(answer)?;
     Ok(match beside & 3 {
         1 => Reading::Under0,
         2 => Reading::Over100,
