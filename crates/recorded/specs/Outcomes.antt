@@ -1,0 +1,22 @@
+-- 3/14: 'The program's running tallies, one set per element, are updated at each line': the answers that lines gave to one element.
+-- Assumes nothing.
+use Prim.Native.Nat.{ℕ}
+use mathlib.Core.Bool.{cond}
+use mathlib.Core.List.{List, [], _∷_, _++_}
+use lib.Dec.{eqb}
+use Rattle.parsing.specs.Scanning.{read}
+use Rattle.converting.specs.declared.Outcome.{Outcome}
+use Rattle.tracing.specs.Lines.{askedOf, outcomeAt, later}
+use Rattle.tracing.specs.declared.Asked.{Asked}
+use Rattle.tracing.specs.declared.Asked.the-variants.{Count, Nothing}
+
+-- what a line that asks this answers to element k: nothing, unless it has a count of that element
+abbrev pub given : List ℕ → ℕ → Asked → List Outcome
+given sensors k (Count j c) = cond (eqb j k) (outcomeAt sensors (Count j c) ∷ []) []
+given sensors k (Nothing n) = []
+
+-- the answers to element k of lines in their order, after so many others
+abbrev pub outcomesOf : List ℕ → ℕ → ℕ → ℕ → List (List ℕ) → List Outcome
+outcomesOf sensors elements k n [] = []
+outcomesOf sensors elements k n (l ∷ ls) =
+    given sensors k (askedOf elements (later n) (read l)) ++ outcomesOf sensors elements k (later n) ls
