@@ -4,9 +4,13 @@ use Prim.Native.Nat.{ℕ}
 use mathlib.Core.Bool.{cond}
 use mathlib.Core.List.{List, [], _∷_, _++_}
 use lib.Dec.{eqb}
+use lib.ListN.{replicate}
 use Rattle.parsing.specs.Scanning.{read}
 use Rattle.converting.specs.declared.Outcome.{Outcome}
+use Rattle.tallying.specs.declared.Tally.{Tally}
+use Rattle.gauges.specs.Numbers.{tallyAt}
 use Rattle.tracing.specs.Lines.{askedOf, outcomeAt, later}
+use Rattle.tracing.specs.Whole.{tallies}
 use Rattle.tracing.specs.declared.Asked.{Asked}
 use Rattle.tracing.specs.declared.Asked.the-variants.{Count, Nothing}
 
@@ -20,3 +24,7 @@ abbrev pub outcomesOf : List ℕ → ℕ → ℕ → ℕ → List (List ℕ) →
 outcomesOf sensors elements k n [] = []
 outcomesOf sensors elements k n (l ∷ ls) =
     given sensors k (askedOf elements (later n) (read l)) ++ outcomesOf sensors elements k (later n) ls
+
+-- the tallies of element k after lines, of which the first is line 1: all are 0 before it
+abbrev pub tallyAfter : List ℕ → ℕ → ℕ → List (List ℕ) → Tally
+tallyAfter sensors elements k ls = tallyAt (tallies sensors elements 0 (replicate 480 0) ls) k
