@@ -1,3 +1,4 @@
 pub mod Runs
 pub mod Sensors
 pub mod Tallies
+pub mod Told
