@@ -3,15 +3,17 @@
 use Prim.Native.Nat.{ℕ, zero, suc, _+_, _*_, _<_, _≤_}
 use native.Mathlib.Omega.{arith}
 use native.Mathlib.Nat.{mod-eq-of-lt}
-use mathlib.Core.Path.{_≡_, refl, sym, _∙_, ap, subst}
+use mathlib.Core.Path.{_≡_, refl, sym, _∙_, ap}
 use mathlib.Core.Bool.{true}
-use mathlib.Core.List.{List, [], _∷_, _++_}
-use mathlib.Core.Option.{Option, none, some}
+use mathlib.Core.List.{List, [], _∷_}
+use mathlib.Core.Option.{some}
 use lib.ListN.{length, getD, replicate}
 use lib.Seq.{sets, length-sets}
 use borrow.Author.Tests.{ltb-true}
 use Rattle.format.specs.Slots.{Slot, reserved, roomy, allRoomy, Bytes}
-use Rattle.format.specs.Records.{Record, digital, analogue, fan, led, water, pump, voltage, current, controller, tachometer, zone, string, external, rgb, elementOf}
+use Rattle.format.specs.Records.{Record, elementOf}
+use Rattle.format.specs.Records.{digital, analogue, fan, led, water, pump, voltage, current}
+use Rattle.format.specs.Records.{controller, tachometer, zone, string, external, rgb}
 use Rattle.format.specs.Layout.{layout, layouts, opening}
 use Rattle.format.specs.Asked.{nth}
 use Rattle.format.specs.Verdict.{Accepts}
@@ -31,7 +33,7 @@ use Rattle.gauges.specs.Numbers.{sensorFrom, sensorAt, sensorNumbers}
 use Rattle.gauges.specs.Meaning.{answerOf}
 use Rattle.gauges.proofs.Answer.{answer-meets}
 use Rattle.readying.specs.Starting.{laid, Gathered, StartIs}
-use Rattle.readying.specs.Starting.StartIs.{begun, refused}
+use Rattle.readying.specs.Starting.StartIs.{begun}
 use Rattle.tracing.specs.Lines.{outcomeAt}
 use Rattle.tracing.specs.declared.Asked.the-variants.{Count}
 use Rattle.recorded.proofs.Runs.{beside, inside}
@@ -78,11 +80,10 @@ six (Points p) = refl
 six (Pulses ppr) = refl
 six Nothing = refl
 
-back :
-    (z : Sensor)
-    → Narrow z
-    → sensorFrom (getD (sensorNumbers z) 0 0) (getD (sensorNumbers z) 1 0) (getD (sensorNumbers z) 2 0) (getD (sensorNumbers z) 3 0) (getD (sensorNumbers z) 4 0) (getD (sensorNumbers z) 5 0)
-    ≡ z
+abbrev readFrom : List ℕ → Sensor
+readFrom v = sensorFrom (getD v 0 0) (getD v 1 0) (getD v 2 0) (getD v 3 0) (getD v 4 0) (getD v 5 0)
+
+back : (z : Sensor) → Narrow z → readFrom (sensorNumbers z) ≡ z
 unfolding Narrow
 back (Current imin imax) h = refl
 back (Voltage vmin vmax) h = rw (mod-eq-of-lt (h .0), mod-eq-of-lt (h .1)) refl
@@ -144,7 +145,8 @@ each (q ∷ rs) s k zero j {r} at e h room =
     ∙ stored s k z (omega (arith, h)) (narrow q (roomy-split (layout q) (layouts rs) room .0)))
 each (q ∷ rs) s k (suc i) j at e h room =
     let v = sensorNumbers (sensorOf (elementOf q)) in
-    each rs (sets s (6 * k) v) (k + 1) i j at (omega (arith, e)) (omega (arith, h, length-sets s (6 * k) v)) (roomy-split (layout q) (layouts rs) room .1)
+    let rest = roomy-split (layout q) (layouts rs) room .1 in
+    each rs (sets s (6 * k) v) (k + 1) i j at (omega (arith, e)) (omega (arith, h, length-sets s (6 * k) v)) rest
 
 -- THE THEOREM: of an accepted table, the sensor that is laid for element k is the one of its record k
 pub sensor-laid :

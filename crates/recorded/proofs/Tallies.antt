@@ -1,5 +1,5 @@
--- Line by line, the five numbers of each element are the tallies of all answers that were given to it: no line past 1,000,000 has a reading,
--- so no number is too large for its field.
+-- Line by line, the five numbers of each element are the tallies of all answers that were given to it. No line past 1,000,000 has a
+-- reading, so no number is too large for its field.
 -- Assumes nothing.
 use Prim.Native.Nat.{ℕ, zero, suc, _+_, _*_, _<_, _≤_}
 use native.Mathlib.Omega.{arith}
@@ -15,7 +15,7 @@ use Rattle.parsing.specs.declared.Parsed.{Parsed}
 use Rattle.parsing.specs.declared.Parsed.the-variants.{Line, Refused}
 use Rattle.converting.specs.declared.Outcome.{Outcome}
 use Rattle.converting.specs.declared.Outcome.the-variants.{Refused as RefusedBy}
-use Rattle.tallying.specs.Tallies.{readings, unders, overs, tallyOf, taken}
+use Rattle.tallying.specs.Tallies.{readings, tallyOf, taken}
 use Rattle.tallying.specs.Extremes.{Least, Greatest}
 use Rattle.tallying.specs.declared.Tally.{Tally}
 use Rattle.tallying.proofs.Law.{kept}
@@ -178,13 +178,17 @@ module _ (sensors : List ℕ) (elements : ℕ) (few : elements ≤ 96) where
   unfolding Sound
   refused-line n ts x j {m} l h = by-asked (askedOf elements (later n) (read x)) (sound elements (later n) (read x)) h
     where
-      by-asked : (q : Asked) → Sound elements (later n) q → outcomeAt sensors q ≡ RefusedBy m → tallyAt (tallied sensors ts q) j ≡ tallyAt ts j
+      by-asked :
+          (q : Asked)
+          → Sound elements (later n) q
+          → outcomeAt sensors q ≡ RefusedBy m
+          → tallyAt (tallied sensors ts q) j ≡ tallyAt ts j
       by-asked (Nothing y) s h = refl
       by-asked (Count k c) s h = go (eqb j k) refl
         where
           go : (b : Bool) → eqb j k ≡ b → tallyAt (tallied sensors ts (Count k c)) j ≡ tallyAt ts j
           go true f =
               let here : j ≡ k = eqb-true j k f in
-              rw here
-              (stored ts k (taken (tallyAt ts k) (outcomeAt sensors (Count k c))) (omega (arith, s .0, few, l)) ∙ ap (taken (tallyAt ts k)) h)
+              let o = outcomeAt sensors (Count k c) in
+              rw here (stored ts k (taken (tallyAt ts k) o) (omega (arith, s .0, few, l)) ∙ ap (taken (tallyAt ts k)) h)
           go false f = other ts k (taken (tallyAt ts k) (outcomeAt sensors (Count k c))) j (eqb-false j k f)

@@ -1,4 +1,5 @@
--- 3/14: 'The program's running tallies, one set per element, are updated at each line': the answers that lines gave to one element.
+-- 3/14: 'The program's running tallies, one set per element, are updated at each line and equal least, greatest and number of all
+-- readings so far': the answers that lines gave to one element.
 -- Assumes nothing.
 use Prim.Native.Nat.{ℕ, zero, suc}
 use mathlib.Core.Bool.{cond}

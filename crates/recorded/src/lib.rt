@@ -1,1 +1,1 @@
-// 3/14 from the table to the tallies: the sensors of a trace are the records', its tallies those of the readings. Theorems, no running code.
+// 3/14 from the table to the tallies: a trace answers by the records, and tallies the readings. Theorems in proofs/; no running code.
