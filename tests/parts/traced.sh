@@ -25,6 +25,11 @@ some_lines() { # TABLE COUNT
     "$second" lines --seed $((seed + files)) --count "$2" "$1" 2>/dev/null || :
 }
 
+# The same of a table that is accepted, and then there must be some.
+many_lines() { # TABLE COUNT
+    "$second" lines --seed $((seed + files)) --count "$2" "$1" || die "the second program: lines for $1"
+}
+
 # The samples, some of the generated tables, and what is no table; then traces that are long, cut short or no text at all.
 traced() {
     traced_ready
@@ -35,13 +40,14 @@ traced() {
     done
     box=$root/tables/every-kind.esa
     hold_trace 'no line' "$box" /dev/null
-    some_lines "$box" 50000 >"$work/lines"
+    many_lines "$box" 50000 >"$work/lines"
+    [ -s "$work/lines" ] || die "the second program makes no lines for $box"
     hold_trace '50,000 lines' "$box" "$work/lines"
     for length in 1 2047 2048 2049 4096 65537; do
         head -c $length "$work/lines" >"$work/cut"
         hold_trace "$length bytes of a trace" "$box" "$work/cut"
     done
-    { yes '' | head -n 999998 && "$second" lines --seed 1 --count 9 "$box"; } >"$work/cut"
+    { yes '' | head -n 999998 && many_lines "$box" 9; } >"$work/cut"
     hold_trace 'more than 1,000,000 lines' "$box" "$work/cut"
     hold_trace '70,000 bytes that are no trace' "$box" "$work/large"
     hold_trace '70,000 bytes that start like a table' "$work/large" "$work/lines"
