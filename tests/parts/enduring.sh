@@ -191,8 +191,15 @@ ended_so() { # STATUS
     case $status in "$1" | 2) ;; *) show ;; esac
 }
 
+# Whether what runs here heeds a hang-up: under nohup nothing does.
+hangs_up() {
+    ! sh -c 'kill -HUP $$; exit 0' 2>/dev/null
+}
+
 ended() { # COMMAND
-    for way in 'TERM alone 143' 'HUP alone 129' 'TERM all 143' ${unignored:+'INT all 130'}; do
+    hung_up=''
+    ! hangs_up || hung_up=yes
+    for way in 'TERM alone 143' ${hung_up:+'HUP alone 129'} 'TERM all 143' ${unignored:+'INT all 130'}; do
         set -- "$1" $way
         cp bad bound/out
         end_it "$2" "$3" $(words_of "$1" pipe bound/out)
