@@ -65,9 +65,9 @@ records() { # LENGTH COUNT
 moved_texts() {
     box=$root/tables/quiet-box.hex
     for length in 1 16 255; do
-        for count in 15 16 4096 4097 65536 65537; do
-            records $length $count >"$work/input"
-            hold_text_on 320 "$count bytes in records of $length" "$work/input"
+        for size in 15 16 4096 4097 65536 65537; do
+            records $length $size >"$work/input"
+            hold_text_on 320 "$size bytes in records of $length" "$work/input"
         done
     done
     : >"$work/input"
