@@ -15,4 +15,5 @@ pub mod First
 pub mod Stages
 pub mod Passing
 pub mod Repaired
+pub mod OneRun
 pub mod Theorems

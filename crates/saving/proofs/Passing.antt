@@ -73,7 +73,7 @@ module _ (σ : Settings) (d : Description) (sound : Sound σ d) where
       })
       (sound .described) (written-starts (layouts rs) bs (i .roomy)) (i .kept) br
 
-  under-over : (s : Saved) (bs : List ℕ) (ls : List Line) → Under σ s bs → Under σ (saved (s .kept) ls) (drop (stated bs) bs)
+  pub under-over : (s : Saved) (bs : List ℕ) (ls : List Line) → Under σ s bs → Under σ (saved (s .kept) ls) (drop (stated bs) bs)
   under-over s bs ls i =
       record {
         kept = i .kept;
@@ -82,7 +82,7 @@ module _ (σ : Settings) (d : Description) (sound : Sound σ d) where
         small = bytes-drop (stated bs) bs (i .small);
       }
 
-  under-took :
+  pub under-took :
       (s : Saved) (p : ℕ) (bs : List ℕ) (r : Record)
       → Under σ s bs
       → Meets σ (records (s .kept)) bs (took r)
@@ -147,12 +147,12 @@ module _ (σ : Settings) (d : Description) (sound : Sound σ d) where
         let w = later (p + stated bs) (saved (s .kept ++ atPlace p r ∷ []) (s .lines)) (under-took s p bs r i m) g in
         let st : Stands (σ .chip) bs r =
         record { rest = drop (stated bs) bs; starts = m .2; kind = unbroken-kind σ (records (s .kept)) r (m .1) } in
-        (w .0, w .1, reads-on r st (w .2))
+        (w .0, w .1, reads-on {ks = s .kept} r (omega (arith, few, records-length (s .kept))) st (m .1) (w .2))
     by-outcome n p bs s later f few i (stop k) m g =
         let l = line p k left-out in
         let w = later (p + stated bs) (saved (s .kept) (s .lines ++ l ∷ [])) (under-over s bs (s .lines ++ l ∷ []) i) g in
         let few′ : length (s .kept) < 96 = omega (arith, few, records-length (s .kept)) in
-        (l ∷ w .0, w .1 ∙ append-snoc (s .lines) l (w .0), leaves-over (stopped-here s bs k i m) f few′ (w .2))
+        (l ∷ w .0, w .1 ∙ append-snoc (s .lines) l (w .0), leaves-over (stopped-here s bs k i m) m f few′ (w .2))
 
     by-count :
         (n p : ℕ) (bs : List ℕ) (s : Saved)
@@ -174,7 +174,7 @@ module _ (σ : Settings) (d : Description) (sound : Sound σ d) where
         let all : length (s .kept) ≡ 96 = omega (arith, many, records-length (s .kept), at-most-96 σ [] rs (omega arith) (i .kept)) in (
           [],
           ap (λ (t : Saved). t .lines) stay ∙ sym (append-nil (s .lines)),
-          is-full all (stopped-here s bs 11 i (crowded f (omega (arith, many))))
+          is-full f all (stopped-here s bs 11 i (crowded f (omega (arith, many))))
               (subst (λ (t : Saved). Repairs σ d (t .kept) ms e out) stay g),
         )
 
@@ -188,7 +188,7 @@ module _ (σ : Settings) (d : Description) (sound : Sound σ d) where
         → Repairs σ d (sift (byPass σ) s (cond u (atPlace p bs ∷ standing n (p + stated bs) (drop (stated bs) bs)) []) .kept) ms e out
         → Onward s p bs (sift (byPass σ) s (cond u (atPlace p bs ∷ standing n (p + stated bs) (drop (stated bs) bs)) []))
     by-header n p bs s more later i true f g = by-count n p bs s (later f) f i (ltb (length (records (s .kept))) 96) refl g
-    by-header n p bs s more later i false f g = ([], sym (append-nil (s .lines)), stops (stopped-here s bs 6 i (header more f)) g)
+    by-header n p bs s more later i false f g = ([], sym (append-nil (s .lines)), stops more f (stopped-here s bs 6 i (header more f)) g)
 
     pub pass-repairs : (n : ℕ) (bs : List ℕ) → length bs ≤ n → Later n bs
     pass-repairs zero [] h p s i g = ([], sym (append-nil (s .lines)), ends g)

@@ -27,7 +27,7 @@ use Rattle.format.specs.declared.pins.Chip.{Chip}
 use Rattle.format.specs.declared.records.Description.{Description}
 use Rattle.format.specs.declared.answers.Answer.the-variants.{Accepted}
 use Rattle.format.proofs.Kept.{and-true, unless-none, described-kind}
-use Rattle.format.proofs.Slots.{bytes-take, over-starts, starts-roomy}
+use Rattle.format.proofs.Slots.{bytes-take, bytes-drop, over-starts, starts-roomy}
 use Rattle.format.proofs.EachKind.{description-fits}
 use Rattle.format.proofs.Lengths.{fits-length}
 use Rattle.format.proofs.Opening.{table-split, opened-only, opened-facts}
@@ -36,13 +36,14 @@ use Rattle.removal.proofs.Among.{not-so}
 use Rattle.removal.proofs.Claims.{part-uncontested}
 use Rattle.removal.proofs.Parts.{part-none}
 use Rattle.removal.proofs.Keeping.{opening-roomy}
-use Rattle.saving.specs.Saving.{taken, isNone, sound, salvageable, Saved, saved, records, elements, passed, zoned, stringIndexes, mendedDescription, named, unclashed, inZones, ending}
+use Rattle.saving.specs.Saving.{At, Line, taken, isNone, sound, salvageable, Saved, saved, records, elements, passed, zoned, stringIndexes, mendedDescription, named, unclashed, inZones, ending}
 use Rattle.saving.specs.Lines.{textOf, tableOf, newTable, newText, answer}
 use Rattle.saving.specs.declared.Salvaged.the-variants.{Done, Refused}
 use Rattle.saving.proofs.Bounds.{table-short}
 use Rattle.saving.proofs.Keeping.{none-is, Sound, in-zones, ending-keeps}
 use Rattle.saving.specs.Repairing.{RepairsPass}
 use Rattle.saving.proofs.Repaired.{repaired}
+use Rattle.saving.proofs.OneRun.{one-pass}
 use Rattle.saving.proofs.Whole.{pass-whole, zoned-whole, named-whole, unclashed-whole}
 
 -- what no 24 says of the bytes
@@ -107,7 +108,7 @@ saved-accepted c file small h =
     (ending-keeps (writing c) d z (sound-start c b s (salvageable-says c b .0 h))
     (in-zones (writing c) b s (omega (arith, length-take 4096 file))))
 
--- putting right what the reader names first, again and again, gives the same table and the same lines
+-- putting right what the reader names first, again and again, gives the same table and the same lines: there is such a run ..
 pub put-right :
     (c : Chip) (file : List ℕ)
     → Bytes file
@@ -119,6 +120,20 @@ put-right c file small h =
     let s = bytes-take 4096 file small in
     let o = salvageable-says c b .0 h in
     repaired (writing c) b (readDescription c (byte b)) s (o .long) (omega (arith, length-take 4096 file)) (sound-start c b s o)
+
+-- .. and every such run ends so
+pub put-right-only :
+    (c : Chip) (file : List ℕ) (e : Description) (out : List (At Record)) (ls : List Line)
+    → Bytes file
+    → salvageable c (taken file) ≡ true
+    → RepairsPass (writing c) (readDescription c (byte (taken file))) e out [] 16 (drop 16 (taken file)) ls
+    → (ls ≡ ended c file .lines) × (e ≡ newDescription c file) × (out ≡ ended c file .kept)
+put-right-only c file e out ls small h run =
+    let b = taken file in
+    let s = bytes-take 4096 file small in
+    let o = salvageable-says c b .0 h in
+    one-pass (writing c) (readDescription c (byte b)) (sound-start c b s o) run (put-right c file small h) refl
+    (record { kept = tt; roomy = refl; top = omega (arith, length-drop 16 b, length-take 4096 file); small = bytes-drop 16 b s })
 
 -- 'An accepted table comes out with reserved places at zero and no lines'
 whole-ending :

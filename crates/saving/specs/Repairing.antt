@@ -5,12 +5,14 @@ use Prim.Native.Nat.{ℕ, _+_, _<_}
 use mathlib.Core.Path.{_≡_}
 use mathlib.Core.Bool.{true, false}
 use mathlib.Core.List.{List, [], _∷_, _++_}
+use mathlib.Core.Option.{none}
 use lib.ListN.{length, drop}
 use lib.Dec.{eqb}
 use Rattle.format.specs.Slots.{written}
 use Rattle.format.specs.Records.{Record}
 use Rattle.format.specs.Layout.{opening, layouts, table, placeAfter}
-use Rattle.format.specs.Verdict.{stated, framed, Stands, Verdict}
+use Rattle.format.specs.Table.{elementBreaks}
+use Rattle.format.specs.Verdict.{stated, framed, Stands, Breaks, Verdict}
 use Rattle.format.specs.declared.settings.Settings.{Settings}
 use Rattle.format.specs.declared.records.Description.{Description}
 use Rattle.format.specs.declared.answers.Answer.the-variants.{Accepted, Refused}
@@ -51,16 +53,19 @@ so-far d rs bs = written (opening d (16 + length (layouts rs) + length bs) ++ la
 pub data RepairsPass (σ : Settings) (d e : Description) (out : List (At Record)) : List (At Record) → ℕ → List ℕ → List Line → Type 0 where
   -- the end
   ends : {ks : List (At Record)} {p : ℕ} {ls : List Line} → Repairs σ d ks ls e out → RepairsPass σ d e out ks p [] ls
-  -- a record stands there of which the reader names nothing: it is read
+  -- a record stands there that is no 97th and breaks no rule of the pass: it is read
   reads-on :
       {ks : List (At Record)} {p : ℕ} {bs : List ℕ} {ls : List Line} (r : Record)
+      → length ks < 96
       → Stands (σ .chip) bs r
+      → elementBreaks σ (records ks) r ≡ none
       → RepairsPass σ d e out (ks ++ atPlace p r ∷ []) (p + stated bs) (drop (stated bs) bs) ls
       → RepairsPass σ d e out ks p bs ls
-  -- it has a header and is no 97th, and it is named first: it is left out
+  -- it has a header and is no 97th, and it is named first, by a rule of the pass: it is left out
   leaves-over :
       {ks : List (At Record)} {p n : ℕ} {bs : List ℕ} {ls : List Line}
       → Verdict σ (so-far d (records ks) bs) (Refused n (placeAfter (records ks)))
+      → Breaks σ (records ks) bs n
       → framed bs ≡ true
       → length ks < 96
       → RepairsPass σ d e out ks (p + stated bs) (drop (stated bs) bs) ls
@@ -68,11 +73,14 @@ pub data RepairsPass (σ : Settings) (d e : Description) (out : List (At Record)
   -- by 6, or as a 97th: 'Stop', and 'the stop' gets no line
   stops :
       {ks : List (At Record)} {p : ℕ} {bs : List ℕ} {ls : List Line}
+      → 0 < length bs
+      → framed bs ≡ false
       → Verdict σ (so-far d (records ks) bs) (Refused 6 (placeAfter (records ks)))
       → Repairs σ d ks ls e out
       → RepairsPass σ d e out ks p bs ls
   is-full :
       {ks : List (At Record)} {p : ℕ} {bs : List ℕ} {ls : List Line}
+      → framed bs ≡ true
       → length ks ≡ 96
       → Verdict σ (so-far d (records ks) bs) (Refused 11 (placeAfter (records ks)))
       → Repairs σ d ks ls e out
