@@ -3,7 +3,7 @@
 use Prim.Native.Nat.{ℕ, _+_, _≤_, _<_}
 use native.Mathlib.Omega.{arith}
 use mathlib.Core.Path.{_≡_, refl, sym, _∙_, ap, subst}
-use mathlib.Core.Bool.{Bool, true, false, false≢true}
+use mathlib.Core.Bool.{true, false, false≢true}
 use mathlib.Core.List.{List, [], _∷_, _++_}
 use mathlib.Core.Option.{none}
 use lib.ListN.{length, drop, length-append}
@@ -25,7 +25,7 @@ use Rattle.format.proofs.Decoding.{stands-decoded}
 use Rattle.format.proofs.Stepping.{starts-framed, step-meets, step-took, step-stop}
 use Rattle.format.proofs.Lengths.{layouts-append}
 use Rattle.format.proofs.Demand3.{unique}
-use Rattle.saving.specs.Saving.{At, atPlace, Line, line, left-out, cleared, saved, records, unindexed, unindexedDescription}
+use Rattle.saving.specs.Saving.{At, atPlace, Line, saved, records, unindexed, unindexedDescription}
 use Rattle.saving.specs.Repairing.{Repairs, accepted, leaves-out, clears, clears-first, RepairsPass, ends, reads-on, leaves-over, stops, is-full}
 use Rattle.saving.proofs.Reading.{records-append}
 use Rattle.saving.proofs.Clearing.{set-roomy, unindexed-alike}
