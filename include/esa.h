@@ -4,9 +4,10 @@
 
    WHAT A CALLER OWES. Nothing proves the C around the library, so these three are yours to keep:
    - Each pointer and the length behind it are memory that may be read, and of 'buffer', 'out', 'lines', 'numbers', 'table' and
-     'sheet' that is not const also written, until the call returns; so is '*state'. 'numbers' is 32 bytes, 'sheet' 25 numbers of two
-     bytes, the 'out' of esa_list 4,096 bytes, that of esa_sheet_text 275, that of esa_diff 65,536 and the 'lines' of esa_salvage
-     32,768. A bool is 0 or 1. With a length of 0 the pointer is not followed: NULL will do.
+     'sheet' that is not const also written, until the call returns; so is '*state'. An array in a call's declaration has the length
+     that stands there: 32 bytes of 'numbers' in all calls but those on a state, whose parts the structs below have; 25 numbers of two
+     bytes of 'sheet'; of 'out' 4,096 bytes for esa_list, 275 for esa_sheet_text, 65,536 for esa_diff and for a piece and an end of a
+     trace; 32,768 of the 'lines' of esa_salvage. A bool is 0 or 1. With a length of 0 the pointer is not followed: NULL will do.
    - The places lent to one call do not overlap.
    - Nobody else writes to them before the call returns.
    No other condition is asked: any bytes, any lengths and any numbers have an answer. As the code stands (this is no theorem)
@@ -63,7 +64,7 @@ enum esa_numbers {
     ESA_CLASH = 15,            /* a pin is claimed twice; element of the later claim, or 0 */
     ESA_NO_ROOM = 16,          /* writer: the new length passes the buffer or 4,096; 0. Of hex, unhex and salvage: what is to be
                                   written passes the buffer; 0 */
-    ESA_PAST_THE_LAST = 17,    /* there is no element k; in a part, no such block or pair; 0 */
+    ESA_PAST_THE_LAST = 17,    /* there is no element k; in a part, no such block or pair; 0, of a trace the line's number */
     ESA_NO_READING = 18,       /* the element has no reading for the count; 0, of a trace the line's number, from 1 */
     ESA_TRACE_LINE = 19,       /* pulses over 65,535; 0. Of a trace also a malformed line or one past 1,000,000; the line's number, from 1 */
     ESA_AFTER_THE_END = 20,    /* receiving: a piece or an end after the end; 0 */
@@ -391,7 +392,8 @@ static inline uint64_t esa_trace_start(struct esa_trace *state, const uint8_t *t
     return esa_tracing_start(state->numbers, state->sensors, state->tallies, table, length, settings);
 }
 
-/* The next bytes of the trace, cut anywhere: takes the first ESA_TRACE_PIECE of them at most. The length of the text that is put at the
+/* The next bytes of the trace, cut anywhere: takes the first ESA_TRACE_PIECE of them at most; hand the rest of a longer piece over by
+   the next call. The length of the text that is put at the
    front of 'out': an output line for each line that was ended by a line feed. The bytes behind it are as they were. */
 static inline size_t esa_trace_piece(struct esa_trace *state, const uint8_t *piece, size_t length, uint8_t out[ESA_TRACE_TEXT])
 {
