@@ -11,7 +11,7 @@ use lib.Dec.{eqb, ltb, leb}
 use lib.ListN.{length}
 use borrow.Author.Tests.{ltb-true, ltb-false, le-ltb}
 use Rattle.format.specs.Slots.{byte}
-use Rattle.blocks.specs.Cutting.{cut, enter, cutFrom, cutOf, pastBlock}
+use Rattle.blocks.specs.Cutting.{cut, enter, cutFrom}
 use Rattle.blocks.specs.declared.Cut.{Cut}
 
 pub record Counted : Type 0 where

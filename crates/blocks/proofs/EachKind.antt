@@ -15,9 +15,10 @@ use Rattle.format.specs.Records.{Block}
 use Rattle.format.specs.Rules.{filled}
 use Rattle.format.specs.Decode.{bind, guard, blockOf, readPairs, cutEntries, cutBlocks, cutTwo, cutThree, whenNil}
 use Rattle.format.specs.declared.records.RegisterPair.{RegisterPair}
-use Rattle.blocks.specs.Cutting.{cut, cutOf, pastBlock, exact, isSome, SpeedsAre, SpeedPart}
+use Rattle.blocks.specs.Cutting.{cutOf, pastBlock, exact, isSome, SpeedsAre, SpeedPart}
 use Rattle.blocks.specs.declared.Cut.{Cut}
-use Rattle.blocks.proofs.Counting.{Counted, counted, pastCounted, countFrom, countOf, fills, shown, all-shown, grown, last-step, each-passed, less-or-not}
+use Rattle.blocks.proofs.Counting.{Counted, counted, pastCounted, countOf, fills, shown, all-shown, grown, last-step, each-passed}
+use Rattle.blocks.proofs.Counting.{less-or-not}
 use Rattle.blocks.specs.declared.Part.{Part}
 use Rattle.blocks.proofs.Exactly.{Says, says}
 
@@ -97,7 +98,10 @@ in-front :
 in-front j b none = refl
 in-front j b (some l) = rw compare·suc-suc (go (eqb (length l) j))
   where
-    go : (t : Bool) → bind (cond t (some (filled l)) none) (λ t. some (leb 1 (length (b .pairs)) && t)) ≡ cond t (some (leb 1 (length (b .pairs)) && filled l)) none
+    go :
+        (t : Bool)
+        → bind (cond t (some (filled l)) none) (λ t. some (leb 1 (length (b .pairs)) && t))
+        ≡ cond t (some (leb 1 (length (b .pairs)) && filled l)) none
     go true = refl
     go false = refl
 
@@ -129,7 +133,9 @@ speeds zero zero (s ∷ bs) h = absurd (omega arith)
 speeds (suc j) zero (s ∷ bs) h = absurd (omega arith)
 speeds zero (suc m) (s ∷ bs) h = go (cutEntries bs)
   where
-    go : (o : Option (List RegisterPair × List ℕ)) → none ≡ bind (bind o (λ c. bind (cutBlocks m (c .1)) (λ more. some (blockOf s (c .0) ∷ more)))) (ofNumber 0)
+    go :
+        (o : Option (List RegisterPair × List ℕ))
+        → none ≡ bind (bind o (λ c. bind (cutBlocks m (c .1)) (λ more. some (blockOf s (c .0) ∷ more)))) (ofNumber 0)
     go none = refl
     go (some c) = one-at-least (blockOf s (c .0)) (cutBlocks m (c .1))
 speeds (suc j) (suc m) (s ∷ bs) h = go (cutEntries bs) (within bs) (λ bs l. speeds j m bs l)
@@ -154,7 +160,11 @@ module _ (r : Counted) (part : Part) (end : ℕ) (w : part .whole ≡ fills r en
       number : fills r end 1 6 ≡ true → (length l ≡ r .blocks) × (r .full ≡ filled l)
       number e = go (eqb (length l) (r .blocks)) refl (h (r .blocks) (filling r end 1 6 e .2))
         where
-          go : (t : Bool) → eqb (length l) (r .blocks) ≡ t → Says end (r .blocks) true r (cond t (some (filled l)) none) → (length l ≡ r .blocks) × (r .full ≡ filled l)
+          go :
+              (t : Bool)
+              → eqb (length l) (r .blocks) ≡ t
+              → Says end (r .blocks) true r (cond t (some (filled l)) none)
+              → (length l ≡ r .blocks) × (r .full ≡ filled l)
           go true q s = (eqb-true (length l) (r .blocks) q, s .2)
           go false q s = absurd (s (filling r end 1 6 e .0) refl)
 
@@ -199,15 +209,21 @@ endsWith p c = ltb (c .at) (length p) && eqb (pastBlock 0 p c .at) (length p)
 pairs-law : (n : ℕ) (p : List ℕ) → endsWith p (cutOf n 0 p) ≡ isSome (exact (suc n) 0 p)
 pairs-law n p =
     let c = countOf n 0 p in
-    ap (endsWith p) (all-shown 0 p n (counted 0 0 true)) ∙ ends c (λ l. omega (arith, each-passed 0 p n (counted 0 0 true) l)) (omega (arith, grown 0 p n (counted 0 0 true) .most))
+    ap (endsWith p) (all-shown 0 p n (counted 0 0 true))
+    ∙ ends c (λ l. omega (arith, each-passed 0 p n (counted 0 0 true) l)) (omega (arith, grown 0 p n (counted 0 0 true) .most))
     ∙ ap (λ (d : Counted). fills d (length p) (suc n) (suc n)) (sym (last-step 0 p n (counted 0 0 true)))
     ∙ counted-pairs (suc n) (suc n) p (omega arith)
   where
-    ends : (c : Counted) → (c .at < length p → c .blocks ≡ n) → c .blocks ≤ n → endsWith p (shown c) ≡ fills (pastCounted 0 p c) (length p) (suc n) (suc n)
+    ends :
+        (c : Counted)
+        → (c .at < length p → c .blocks ≡ n)
+        → c .blocks ≤ n
+        → endsWith p (shown c) ≡ fills (pastCounted 0 p c) (length p) (suc n) (suc n)
     ends c each most =
         ⊎-elim
         (λ l. let e = lt-ltb (c .at) (length p) l in
-        rw (e, le-leb (suc n) (c .blocks + 1) (omega (arith, each l)), le-leb (c .blocks + 1) (suc n) (omega (arith, each l))) (sym (and-true (eqb (c .at + 1 + 0 + 4 * byte p (c .at)) (length p)))))
+        rw (e, le-leb (suc n) (c .blocks + 1) (omega (arith, each l)), le-leb (c .blocks + 1) (suc n) (omega (arith, each l)))
+        (sym (and-true (eqb (c .at + 1 + 0 + 4 * byte p (c .at)) (length p)))))
         (λ l. let e = le-ltb (c .at) (length p) l in
         rw (e, lt-leb (suc n) (c .blocks) (omega (arith, most))) (sym (and-false (eqb (c .at) (length p)))))
         (less-or-not (c .at) (length p))

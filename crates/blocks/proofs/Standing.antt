@@ -74,7 +74,8 @@ pub unfilled-part :
     → SpeedPart p (record { whole = r .whole; full = false })
 unfilled-part p r f h m l =
     go (cutBlocks m p) _ (h m l)
-    (speed-law p (record { whole = eqb (cutOf 6 1 p .at) (length p + 1) && ltb 1 (cutOf 6 1 p .at); full = cutOf 6 1 p .full }) refl refl m l)
+    (speed-law p (record { whole = eqb (cutOf 6 1 p .at) (length p + 1) && ltb 1 (cutOf 6 1 p .at); full = cutOf 6 1 p .full }) refl refl
+    m l)
   where
     go :
         (o : Option (List Block)) (w : Bool)

@@ -44,7 +44,11 @@ module _ (lead : ℕ) (p : List ℕ) where
   stays zero at f h = refl
   stays (suc n) at f h = rw (le-ltb at (length p) h) (stays n at f h)
 
-  pub turn : (most n : ℕ) (c next : Cut) → n < most → next ≡ pastBlock lead p c → cutFrom (most - n) lead p c ≡ cutFrom (most - (n + 1)) lead p next
+  pub turn :
+      (most n : ℕ) (c next : Cut)
+      → n < most
+      → next ≡ pastBlock lead p c
+      → cutFrom (most - n) lead p c ≡ cutFrom (most - (n + 1)) lead p next
   turn most n c next h e =
       let d : most - n ≡ suc (most - (n + 1)) = omega arith in
       rw (d, e) refl

@@ -33,7 +33,8 @@ alone s x (b ∷ p) e f = e ∙ rw (ne-eqb (suc (length p)) 0 (λ q. omega (arit
 
 -- a device with its part
 module _
-    (s : Settings) (d : BusDevice) (part : Part) (p : List ℕ) {r : ℕ} (f : (part .whole ≡ false → r ≡ 8) × (part .whole ≡ true → DeviceBreaks s d (part .full) r))
+    (s : Settings) (d : BusDevice) (part : Part) (p : List ℕ) {r : ℕ}
+    (f : (part .whole ≡ false → r ≡ 8) × (part .whole ≡ true → DeviceBreaks s d (part .full) r))
   where
     -- 09h
     pub speeds : SpeedPart p part → r ≡ numbered (partBreaks s (Controller d) p)
@@ -45,7 +46,8 @@ module _
     pub two-lists : PairsPart 2 p part → r ≡ numbered (partBreaks s (Tachometer d) p)
     unfolding partBreaks
     two-lists a =
-        pairs-fault s part r (f .0) (λ q. tachometer d (q .0) (q .1)) (cutTwo p) (a .0 ∙ two p) (λ w q. f .1 w .of-tachometer (q .0) (q .1) (a .1))
+        pairs-fault s part r (f .0) (λ q. tachometer d (q .0) (q .1)) (cutTwo p) (a .0 ∙ two p)
+        (λ w q. f .1 w .of-tachometer (q .0) (q .1) (a .1))
 
     -- 0Dh
     pub three-lists :
@@ -55,4 +57,5 @@ module _
         → r ≡ numbered (partBreaks s (External (externalOf d i)) p)
     unfolding partBreaks
     three-lists i w e =
-        pairs-fault s part r (f .0) (λ q. external (externalOf d i) (q .0) (q .1) (q .2)) (cutThree p) (w ∙ three p) (λ v q. f .1 v .of-external i (q .0) (q .1) (q .2) (sym e))
+        pairs-fault s part r (f .0) (λ q. external (externalOf d i) (q .0) (q .1) (q .2)) (cutThree p) (w ∙ three p)
+        (λ v q. f .1 v .of-external i (q .0) (q .1) (q .2) (sym e))

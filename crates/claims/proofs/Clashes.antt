@@ -24,9 +24,11 @@ rest c cs h = and-right (among (c .pin) (pinsOf (c .manner))) _ h
 only-alone : (m n : Manner) (p q : ℕ) → among p (pinsOf m) ≡ true → among q (pinsOf n) ≡ true
     → eqb p q && not (together m n) ≡ eqb p q && (isAlone m || isAlone n)
 only-alone shared shared p q h k = refl
-only-alone shared select p q h k = rw (not-true (eqb p q) (at-pair (pinsOf shared) (pinsOf select) (λ p q. not (eqb p q)) refl p q h k)) refl
+only-alone shared select p q h k = rw (not-true (eqb p q) (at-pair (pinsOf shared) (pinsOf select) (λ p q. not (eqb p q)) refl p q h k))
+    refl
 only-alone shared alone p q h k = refl
-only-alone select shared p q h k = rw (not-true (eqb p q) (at-pair (pinsOf select) (pinsOf shared) (λ p q. not (eqb p q)) refl p q h k)) refl
+only-alone select shared p q h k = rw (not-true (eqb p q) (at-pair (pinsOf select) (pinsOf shared) (λ p q. not (eqb p q)) refl p q h k))
+    refl
 only-alone select select p q h k = refl
 only-alone select alone p q h k = refl
 only-alone alone shared p q h k = refl
@@ -38,7 +40,8 @@ one-more : (m n : Bool) (p q : ℕ) (xs ys : List ℕ)
     → eqb p q && (m || n) || (among p xs || m && among p ys) ≡ among p (addIf n q xs) || m && among p (addIf (not n) q ys)
 one-more true true p q xs ys = taut3 (λ e x y. e && true || (x || y)) (λ e x y. e || x || y) refl (eqb p q) (among p xs) (among p ys)
 one-more true false p q xs ys = taut3 (λ e x y. e && true || (x || y)) (λ e x y. x || (e || y)) refl (eqb p q) (among p xs) (among p ys)
-one-more false true p q xs ys = taut3 (λ e x y. e && true || (x || false)) (λ e x y. e || x || false) refl (eqb p q) (among p xs) (among p ys)
+one-more false true p q xs ys = taut3 (λ e x y. e && true || (x || false)) (λ e x y. e || x || false) refl (eqb p q) (among p xs)
+    (among p ys)
 one-more false false p q xs ys = taut3 (λ e x y. e && false || (x || false)) (λ e x y. x || false) refl (eqb p q) (among p xs) (among p ys)
 
 pub clash-is : (c : Claim) (e : List Claim) → among (c .pin) (pinsOf (c .manner)) ≡ true → proper e ≡ true

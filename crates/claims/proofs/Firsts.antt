@@ -51,7 +51,8 @@ unless-first true k a b = refl
 unless-first false k a b = refl
 
 pub first-append :
-    (xs : List Made) (e : List Claim) (ys : List Made) → firstClash e (xs ++ ys) ≡ firstOf (firstClash e xs) (firstClash (onto (whats xs) e) ys)
+    (xs : List Made) (e : List Claim) (ys : List Made) → firstClash e (xs ++ ys)
+    ≡ firstOf (firstClash e xs) (firstClash (onto (whats xs) e) ys)
 first-append [] e ys = refl
 first-append (m ∷ xs) e ys =
     rw (first-append xs (m .what ∷ e) ys)

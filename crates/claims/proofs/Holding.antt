@@ -1,7 +1,7 @@
 -- One element's claims after those before: what is held after both, and the place of the first clash.
 -- Assumes nothing.
 use Prim.Native.Nat.{ℕ, _<_}
-use mathlib.Core.Path.{_≡_, refl, sym, _∙_}
+use mathlib.Core.Path.{_≡_, refl, _∙_}
 use mathlib.Core.Bool.{Bool, true, false, _&&_, not}
 use mathlib.Core.List.{List, [], _∷_, _++_}
 use mathlib.Core.Option.{Option, none, some}
@@ -13,7 +13,8 @@ use Rattle.format.specs.Rules.{unlessKept}
 use Rattle.format.specs.Claims.{Manner, shared, select, alone, Claim, Made, madeAt, firstClash}
 use Rattle.pinsets.specs.Sets.{pick}
 use Rattle.pinsets.proofs.Table.{and-left, and-right}
-use Rattle.claims.specs.Taken.{isAlone, addIf, alonePins, jointPins, pinsOf, proper, free, isNone, placeOr, lowPlaces, whats, ClaimsAre, HeldIs}
+use Rattle.claims.specs.Taken.{isAlone, addIf, alonePins, jointPins, pinsOf, proper, free, isNone, placeOr, lowPlaces, whats}
+use Rattle.claims.specs.Taken.{ClaimsAre, HeldIs}
 use Rattle.claims.specs.declared.Claims.{Claims}
 use Rattle.claims.specs.declared.Held.{Held}
 use Rattle.claims.proofs.Tests.{both}
@@ -52,12 +53,14 @@ within-add false p xs h k = k
 alone-within : (cs : List Claim) → proper cs ≡ true → within (alonePins cs) ≡ true
 alone-within [] h = refl
 alone-within (c ∷ cs) h =
-    within-add (isAlone (c .manner)) (c .pin) (alonePins cs) (in-every (c .manner) (c .pin) (first-pin c cs h)) (alone-within cs (rest c cs h))
+    within-add (isAlone (c .manner)) (c .pin) (alonePins cs) (in-every (c .manner) (c .pin) (first-pin c cs h))
+    (alone-within cs (rest c cs h))
 
 joint-within : (cs : List Claim) → proper cs ≡ true → within (jointPins cs) ≡ true
 joint-within [] h = refl
 joint-within (c ∷ cs) h =
-    within-add (not (isAlone (c .manner))) (c .pin) (jointPins cs) (in-every (c .manner) (c .pin) (first-pin c cs h)) (joint-within cs (rest c cs h))
+    within-add (not (isAlone (c .manner))) (c .pin) (jointPins cs) (in-every (c .manner) (c .pin) (first-pin c cs h))
+    (joint-within cs (rest c cs h))
 
 -- claims made at a place, after others
 whats-made : (ms : List Made) (at : ℕ) (cs : List Claim) → whats (ms ++ madeAt at cs) ≡ whats ms ++ cs
@@ -86,7 +89,8 @@ hits h c = bitOr (bitOr (bitAnd (c .joint) (h .alone)) (bitAnd (c .alone) (bitOr
 abbrev pub hit : Held → Claims → Bool
 hit h c = not (eqb (hits h c) 0) && eqb (h .clash) 65536
 
-module _ (h : Held) (c : Claims) (at : ℕ) (before : List Made) (cs : List Claim) (A : at < 65536) (H : HeldIs h before) (C : ClaimsAre c cs) where
+module _ (h : Held) (c : Claims) (at : ℕ) (before : List Made) (cs : List Claim) (A : at < 65536) (H : HeldIs h before)
+    (C : ClaimsAre c cs) where
   none-hit : eqb (hits h c) 0 ≡ free (onto (whats before) []) cs
   none-hit =
       rw (

@@ -12,7 +12,7 @@ use Rattle.format.specs.declared.pins.OptionalPin.{OptionalPin}
 use Rattle.format.specs.declared.pins.OptionalPin.the-variants.{Unused, Used}
 use Rattle.pinsets.proofs.Table.{and-left, and-right}
 use Rattle.claims.specs.Taken.{IsSet, alonePins, jointPins, proper, free, usedPin, ClaimsAre}
-use Rattle.claims.proofs.Tests.{both, taut1, taut3}
+use Rattle.claims.proofs.Tests.{taut1, taut3}
 use Rattle.claims.proofs.Bits.{or-zero}
 use Rattle.claims.proofs.Sets.{within, within-append, empty, union, apart, disjoint}
 

@@ -2,7 +2,7 @@
 ghost use mathlib.Core.Path.{_≡_};
 ghost use mathlib.Core.Bool.{true};
 ghost use mathlib.Core.List.{List, [], _∷_, _++_};
-ghost use Prim.Native.Nat.{ℕ, _<_};
+ghost use Prim.Native.Nat.{_<_};
 ghost use Rattle.format.specs.Pins.{allowed};
 ghost use Rattle.format.specs.declared.pins.Chip.{Chip};
 ghost use Rattle.format.specs.declared.pins.Use.the-variants.{AnaloguePin};
@@ -137,7 +137,8 @@ pub fn rgb_claims(c: RgbLed) -> Claims
 // One element's claims after those before: what is claimed jointly clashes with what is held alone, and what is claimed
 // alone with all.
 pub fn claim(h: Held, c: Claims, at: usize) -> Held
-    ensures { λ r. ⌜ ((before : List Made) (cs : List Claim) → at < 65536 → HeldIs h before → ClaimsAre c cs → HeldIs r (before ++ madeAt at cs)) ⌝ }
+    ensures { λ r. ⌜ ((before : List Made) (cs : List Claim) → at < 65536 → HeldIs h before → ClaimsAre c cs
+        → HeldIs r (before ++ madeAt at cs)) ⌝ }
 {
     let hit = (c.joint & h.alone) | (c.alone & (h.alone | h.joint)) | c.twice;
     Held {

@@ -11,7 +11,7 @@ use lib.Dec.{eqb}
 use borrow.Author.Tests.{ne-eqb, eqb-true}
 use Rattle.format.specs.Slots.{byte, written}
 use Rattle.format.specs.Records.{Record, elementOf}
-use Rattle.format.specs.Layout.{fixed, part, layout, layouts, opening}
+use Rattle.format.specs.Layout.{fixed, part, layouts, opening}
 use Rattle.format.specs.Verdict.{Accepts}
 use Rattle.format.specs.declared.pins.Chip.{Chip}
 use Rattle.format.specs.declared.settings.Settings.{Settings}
@@ -21,10 +21,10 @@ use Rattle.format.proofs.Written.{written-bytes}
 use Rattle.walking.specs.Walk.{Here}
 use Rattle.spelling.specs.Spelling.{decimal, hexPair, dash}
 use Rattle.listing.specs.Lines.{line}
-use Rattle.differing.specs.Fields.{shown, hex, contents, described, texts, ownNames, elementNames, descriptionNames, ascii}
-use Rattle.differing.specs.Differences.{difference, differing, kind, paired, partnerless, elementwise, descriptionwise, lineOf, lines}
+use Rattle.differing.specs.Fields.{hex, contents, described, texts, ownNames, elementNames, descriptionNames, ascii}
+use Rattle.differing.specs.Differences.{difference, differing, kind, paired, descriptionwise, lineOf, lines}
 use Rattle.differing.proofs.Ranges.{rooms, contents-in}
-use Rattle.differing.proofs.Equal.{Fair, AllFair, contents-length, range}
+use Rattle.differing.proofs.Equal.{Fair, contents-length, range}
 use Rattle.comparing.specs.Rows.{placeds, firsts, counts, rowsText, fieldsText, partText}
 use Rattle.comparing.specs.Lines.{idText, kindLine, pairText, besides, besidesText, At}
 use Rattle.comparing.proofs.Lined.{place-text}
@@ -36,7 +36,8 @@ id-text : (k : ℕ) → k < 15 → idText k ≡ hexPair k
 id-text k h = ap (λ (t : Bool). cond t dash (hexPair k)) (ne-eqb k 255 (omega arith))
 
 -- a pair
-module _ (c : Chip) (one two : List ℕ) (a b : ℕ) (x y : Record) (h : Here c one a x) (i : Here c two b y) (f : Fair c x) (g : Fair c y) where
+module _ (c : Chip) (one two : List ℕ) (a b : ℕ) (x y : Record) (h : Here c one a x) (i : Here c two b y) (f : Fair c x)
+    (g : Fair c y) where
   abbrev p : List ℕ
   p = written (part x)
 
@@ -48,29 +49,39 @@ module _ (c : Chip) (one two : List ℕ) (a b : ℕ) (x y : Record) (h : Here c 
 
   fields-meant :
       kind x ≡ kind y
-      → codesText a b (ownNames (kind x)) (map code (contents (elementOf x))) (map code (contents (elementOf y))) ≡ fieldsText one two a b (kind x)
+      → codesText a b (ownNames (kind x)) (map code (contents (elementOf x))) (map code (contents (elementOf y)))
+      ≡ fieldsText one two a b (kind x)
   fields-meant k =
       let k0 = getD placeds (kind x) 0 in
       let k1 = getD firsts (kind x) 0 in
       let k2 = getD counts (kind x) 0 in
       let u : map code (contents (elementOf x)) ≡ codesOf one a (kind x) = sym (codes-here c one a x h) in
-      let v : map code (contents (elementOf y)) ≡ codesOf two b (kind x) = sym (codes-here c two b y i) ∙ ap (λ (n : ℕ). codesOf two b n) (sym k) in
+      let v : map code (contents (elementOf y)) ≡ codesOf two b (kind x) = sym (codes-here c two b y i)
+      ∙ ap (λ (n : ℕ). codesOf two b n) (sym k) in
       (λ j. codesText a b (kind-names x j) (u j) (v j))
       ∙ rows-meant one two a b 0 k0 (namesFrom k1 k2) (codesFrom one a k1 k2) (codesFrom two b k1 k2)
       ∙ ap (λ (l : List ℕ). rowsText one two a b 0 k0 ++ l) (rows-alone one two a b k1 k2)
 
-  one-kind : kind x ≡ kind y → lines (differing (decimal a) (decimal b) (elementNames (kind x)) (texts x) (texts y)) ≡ fieldsText one two a b (kind x) ++ partText a b p q
+  one-kind :
+      kind x ≡ kind y
+      → lines (differing (decimal a) (decimal b) (elementNames (kind x)) (texts x) (texts y)) ≡ fieldsText one two a b (kind x)
+      ++ partText a b p q
   one-kind k =
-      let l : length (contents (elementOf y)) ≡ length (ownNames (kind x)) = contents-length (elementOf y) ∙ ap (λ (n : ℕ). length (ownNames n)) (sym k) in
+      let l : length (contents (elementOf y)) ≡ length (ownNames (kind x)) = contents-length (elementOf y)
+      ∙ ap (λ (n : ℕ). length (ownNames n)) (sym k) in
       let s = fields-meant k in
       let t = part-meant a b p q (written-bytes (part x) (f .partRoomy)) (written-bytes (part y) (g .partRoomy)) in
-      codes-meant 65536 (omega arith) a b (ownNames (kind x)) ("variable part" ∷ []) (contents (elementOf x)) (contents (elementOf y)) (hex p ∷ []) (hex q ∷ [])
+      codes-meant 65536 (omega arith) a b (ownNames (kind x)) ("variable part" ∷ []) (contents (elementOf x)) (contents (elementOf y))
+      (hex p ∷ []) (hex q ∷ [])
       (contents-length (elementOf x)) l
       (contents-in c x (rooms (fixed (elementOf x)) (f .fixedRoomy)) (f .pins))
       (contents-in c y (rooms (fixed (elementOf y)) (g .fixedRoomy)) (g .pins))
       ∙ (λ j. s j ++ t j)
 
-  two-kinds : a ≤ 4096 → b ≤ 4096 → lines (difference (decimal a) (decimal b) "kind" (hexPair (kind x)) (hexPair (kind y)) ∷ []) ≡ kindLine a b (kind x) (kind y)
+  two-kinds :
+      a ≤ 4096
+      → b ≤ 4096
+      → lines (difference (decimal a) (decimal b) "kind" (hexPair (kind x)) (hexPair (kind y)) ∷ []) ≡ kindLine a b (kind x) (kind y)
   unfolding lineOf
   two-kinds la lb =
       let u = place-text a la in
@@ -84,7 +95,8 @@ module _ (c : Chip) (one two : List ℕ) (a b : ℕ) (x y : Record) (h : Here c 
   unfolding paired
   pair-meant la lb = go (eqb (kind x) (kind y)) refl ∙ sym by-kind
     where
-      by-kind : pairText one two a b p q ≡ cond (eqb (kind x) (kind y)) (fieldsText one two a b (kind x) ++ partText a b p q) (kindLine a b (kind x) (kind y))
+      by-kind : pairText one two a b p q ≡ cond (eqb (kind x) (kind y)) (fieldsText one two a b (kind x) ++ partText a b p q)
+          (kindLine a b (kind x) (kind y))
       by-kind =
           let u = kind-here c one a x h in
           let v = kind-here c two b y i in
@@ -129,7 +141,10 @@ besides-meant c one two a b (some x) none h i f g la lb =
 besides-meant c one two a b (some x) (some y) h i f g la lb = pair-meant c one two a b x y (h .1) (i .1) f g la lb
 
 -- the descriptions
-over-opening : (σ : Settings) (t : List ℕ) (d : Description) (rs : List Record) → Accepts σ t d rs → Over (byte t) (opening d (16 + length (layouts rs)))
+over-opening :
+    (σ : Settings) (t : List ℕ) (d : Description) (rs : List Record)
+    → Accepts σ t d rs
+    → Over (byte t) (opening d (16 + length (layouts rs)))
 over-opening σ t d rs a =
     let o = opening d (16 + length (layouts rs)) in
     let s = starts-split t o (layouts rs) [] (a .fits) in
@@ -142,9 +157,12 @@ pub descriptions-meant :
     → lines (descriptionwise d d′) ≡ rowsText one two 0 0 5 8
 unfolding descriptionwise
 descriptions-meant σ one two d d′ rs rs′ a a′ =
-    let u : map code (described d) ≡ codesFrom one 0 5 8 = sym (codes-described one d (16 + length (layouts rs)) (over-opening σ one d rs a)) in
-    let v : map code (described d′) ≡ codesFrom two 0 5 8 = sym (codes-described two d′ (16 + length (layouts rs′)) (over-opening σ two d′ rs′ a′)) in
-    codes-meant 16777216 (omega arith) 0 0 descriptionNames [] (described d) (described d′) [] [] refl refl (range σ d rs (a .keeps)) (range σ d′ rs′ (a′ .keeps))
+    let u : map code (described d) ≡ codesFrom one 0 5 8 = sym
+    (codes-described one d (16 + length (layouts rs)) (over-opening σ one d rs a)) in
+    let v : map code (described d′) ≡ codesFrom two 0 5 8 = sym
+    (codes-described two d′ (16 + length (layouts rs′)) (over-opening σ two d′ rs′ a′)) in
+    codes-meant 16777216 (omega arith) 0 0 descriptionNames [] (described d) (described d′) [] [] refl refl (range σ d rs (a .keeps))
+    (range σ d′ rs′ (a′ .keeps))
     ∙ append-nil (codesText 0 0 descriptionNames (map code (described d)) (map code (described d′)))
     ∙ (λ j. codesText 0 0 (description-names j) (u j) (v j))
     ∙ rows-alone one two 0 0 5 8

@@ -1,13 +1,13 @@
 -- The lines of fields by their contents as numbers: comparing the numbers is comparing the texts.
 -- Assumes nothing.
-use Prim.Native.Nat.{ℕ, zero, suc, _+_, _-_, _<_, _≤_}
+use Prim.Native.Nat.{ℕ, zero, suc, _+_, _-_, _≤_}
 use Prim.Native.String.{String}
 use native.Mathlib.Omega.{arith}
 use mathlib.Core.Path.{_≡_, refl, sym, _∙_, ap}
 use mathlib.Core.Bool.{Bool, true, false, cond}
 use mathlib.Core.List.{List, [], _∷_, _++_, map, append-nil, append-assoc}
 use lib.ListN.{length, getD}
-use lib.Dec.{eqb, ltb}
+use lib.Dec.{eqb}
 use borrow.Author.Tests.{lt-ltb, le-ltb, eqb-true, eqb-false}
 use Rattle.format.specs.Slots.{Bytes}
 use Rattle.spelling.specs.Spelling.{decimal, pinOrDash}
@@ -63,10 +63,12 @@ module _ (m : ℕ) (top : m ≤ 16777216) (a b : ℕ) where
 
   one-line :
       (n : String) (k l : Content) → In m k → In m l
-      → cond (same (shown k) (shown l)) [] (lineOf (difference o o′ n (shown k) (shown l))) ≡ cond (eqb (code k) (code l)) [] (lineBy a b n (code k) (code l))
+      → cond (same (shown k) (shown l)) [] (lineOf (difference o o′ n (shown k) (shown l)))
+      ≡ cond (eqb (code k) (code l)) [] (lineBy a b n (code k) (code l))
   unfolding lineOf
   one-line n k l i j =
-      (λ x. cond (code-same top k l i j x) [] (line ((68 ∷ []) ∷ o ∷ o′ ∷ ascii n ∷ sym (code-text top k i) x ∷ sym (code-text top l j) x ∷ [])))
+      (λ x. cond (code-same top k l i j x) [] (line
+      ((68 ∷ []) ∷ o ∷ o′ ∷ ascii n ∷ sym (code-text top k i) x ∷ sym (code-text top l j) x ∷ [])))
 
   pub codes-meant :
       (ns ms : List String) (cs cs′ : List Content) (ts ts′ : List (List ℕ))
@@ -74,7 +76,8 @@ module _ (m : ℕ) (top : m ≤ 16777216) (a b : ℕ) where
       → length cs′ ≡ length ns
       → AllIn m cs
       → AllIn m cs′
-      → lines (differing o o′ (ns ++ ms) (map shown cs ++ ts) (map shown cs′ ++ ts′)) ≡ codesText a b ns (map code cs) (map code cs′) ++ lines (differing o o′ ms ts ts′)
+      → lines (differing o o′ (ns ++ ms) (map shown cs ++ ts) (map shown cs′ ++ ts′)) ≡ codesText a b ns (map code cs) (map code cs′)
+      ++ lines (differing o o′ ms ts ts′)
   codes-meant [] ms [] [] ts ts′ l l′ i i′ = refl
   codes-meant [] ms [] (c′ ∷ cs′) ts ts′ l l′ i i′ = absurd (omega arith)
   codes-meant [] ms (c ∷ cs) cs′ ts ts′ l l′ i i′ = absurd (omega arith)
@@ -86,7 +89,8 @@ module _ (m : ℕ) (top : m ≤ 16777216) (a b : ℕ) where
       let e = one-line n c c′ (i .0) (i′ .0) in
       chosen (same (shown c) (shown c′)) (difference o o′ n (shown c) (shown c′)) rest
       ∙ (λ x. e x ++ k x)
-      ∙ sym (append-assoc (cond (eqb (code c) (code c′)) [] (lineBy a b n (code c) (code c′))) (codesText a b ns (map code cs) (map code cs′)) (lines (differing o o′ ms ts ts′)))
+      ∙ sym (append-assoc (cond (eqb (code c) (code c′)) [] (lineBy a b n (code c) (code c′)))
+      (codesText a b ns (map code cs) (map code cs′)) (lines (differing o o′ ms ts ts′)))
 
 -- the variable parts
 pub part-meant :
@@ -96,7 +100,8 @@ unfolding lineOf
 part-meant a b p q h k =
     chosen (same (hex p) (hex q)) (difference (decimal a) (decimal b) "variable part" (hex p) (hex q)) []
     ∙ append-nil (cond (same (hex p) (hex q)) [] (line ((68 ∷ []) ∷ decimal a ∷ decimal b ∷ ascii "variable part" ∷ hex p ∷ hex q ∷ [])))
-    ∙ ap (λ (t : Bool). cond t [] (line ((68 ∷ []) ∷ decimal a ∷ decimal b ∷ ascii "variable part" ∷ hex p ∷ hex q ∷ []))) (parts-same p q h k)
+    ∙ ap (λ (t : Bool). cond t [] (line ((68 ∷ []) ∷ decimal a ∷ decimal b ∷ ascii "variable part" ∷ hex p ∷ hex q ∷ [])))
+    (parts-same p q h k)
 
 -- rows: their names, and their contents in a table
 abbrev pub namesFrom : ℕ → ℕ → List String
@@ -109,7 +114,8 @@ codesFrom t at i (suc n) = codeAt t at i ∷ codesFrom t at (i + 1) n
 
 pub rows-meant :
     (one two : List ℕ) (a b i n : ℕ) (ms : List String) (us us′ : List ℕ)
-    → codesText a b (namesFrom i n ++ ms) (codesFrom one a i n ++ us) (codesFrom two b i n ++ us′) ≡ rowsText one two a b i n ++ codesText a b ms us us′
+    → codesText a b (namesFrom i n ++ ms) (codesFrom one a i n ++ us) (codesFrom two b i n ++ us′) ≡ rowsText one two a b i n
+    ++ codesText a b ms us us′
 rows-meant one two a b i zero ms us us′ = refl
 rows-meant one two a b i (suc n) ms us us′ =
     ap (λ (l : List ℕ). rowText one two a b i ++ l) (rows-meant one two a b (i + 1) n ms us us′)

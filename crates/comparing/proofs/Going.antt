@@ -7,12 +7,12 @@ use mathlib.Core.Path.{_≡_, refl, sym, _∙_, ap, subst}
 use mathlib.Core.Bool.{Bool, true, false, _||_, false≢true}
 use mathlib.Core.List.{List, [], _∷_, _++_, append-assoc}
 use mathlib.Core.Option.{Option, none, some}
-use lib.ListN.{length, length-append, drop}
+use lib.ListN.{length, length-append}
 use lib.Dec.{ltb}
 use borrow.Author.Tests.{ltb-true, ltb-false, le-ltb}
 use Rattle.format.specs.Records.{Record}
 use Rattle.format.specs.Layout.{layout}
-use Rattle.format.specs.Verdict.{stated, Accepts, Verdict, accepted}
+use Rattle.format.specs.Verdict.{Accepts, Verdict, accepted}
 use Rattle.format.specs.declared.pins.Chip.{Chip}
 use Rattle.format.specs.declared.settings.Settings.{Settings}
 use Rattle.format.specs.declared.records.Description.{Description}
@@ -24,7 +24,7 @@ use Rattle.spelling.specs.Spelling.{Put}
 use Rattle.spelling.proofs.Putting.{then}
 use Rattle.differing.specs.Differences.{Difference, partnerless, elementwise, descriptionwise, differences, lineOf, lines}
 use Rattle.differing.specs.Compared.{archived}
-use Rattle.differing.proofs.Equal.{Fair, AllFair, fair}
+use Rattle.differing.proofs.Equal.{AllFair, fair}
 use Rattle.differing.proofs.Bound.{text-bound}
 use Rattle.comparing.specs.Rows.{rowsText}
 use Rattle.comparing.specs.Lines.{At, long, besides, besidesText, Compares, compared, secondRefused}
@@ -41,7 +41,12 @@ pub record Agreed (c : Chip) (one two : List ℕ) : Type 0 where
   pub first : Accepts (archived c) one d rs
   pub second : Accepts (archived c) two d′ rs′
 
-accepted-so : (c : Chip) (t : List ℕ) {σ : Settings} {a : Answer} {n : ℕ} → σ ≡ archived c → Verdict σ t a → a ≡ Accepted n → Verdict (archived c) t (Accepted n)
+accepted-so :
+    (c : Chip) (t : List ℕ) {σ : Settings} {a : Answer} {n : ℕ}
+    → σ ≡ archived c
+    → Verdict σ t a
+    → a ≡ Accepted n
+    → Verdict (archived c) t (Accepted n)
 accepted-so c t {σ} {a} {n} e v k = subst (λ (s : Settings). Verdict s t (Accepted n)) e (subst (λ (x : Answer). Verdict σ t x) k v)
 
 pub agreed :
@@ -58,7 +63,11 @@ agreed c one two e v k e′ v′ k′ = go (accepted-so c one e v k) (accepted-s
     go : {n m : ℕ} → Verdict (archived c) one (Accepted n) → Verdict (archived c) two (Accepted m) → Agreed c one two
     go (accepted d rs a) (accepted d′ rs′ a′) = record { d = d; d′ = d′; rs = rs; rs′ = rs′; first = a; second = a′ }
 
-pub refused-so : (c : Chip) (t : List ℕ) {σ : Settings} {k p : ℕ} → σ ≡ archived c → Verdict σ t (Refused k p) → Verdict (archived c) t (Refused k p)
+pub refused-so :
+    (c : Chip) (t : List ℕ) {σ : Settings} {k p : ℕ}
+    → σ ≡ archived c
+    → Verdict σ t (Refused k p)
+    → Verdict (archived c) t (Refused k p)
 refused-so c t {k = k} {p = p} e v = subst (λ (s : Settings). Verdict s t (Refused k p)) e v
 
 pub second-refused :
@@ -117,12 +126,17 @@ module _ (c : Chip) (t : List ℕ) (at : ℕ) where
       go false e = ltb-false at (length t) e
   at-now (r ∷ rs) w = first-left r rs w
 
-  onward-now : (left : List Record) {n : ℕ} → Walk (archived c) t at (Left left) → n ≡ at + long (head left) → Walk (archived c) t n (Left (tail left))
+  onward-now :
+      (left : List Record) {n : ℕ}
+      → Walk (archived c) t at (Left left)
+      → n ≡ at + long (head left)
+      → Walk (archived c) t n (Left (tail left))
   onward-now [] {n} w e = subst (λ (m : ℕ). Walk (archived c) t m (Left [])) (sym (e ∙ add-zero at)) w
   onward-now (r ∷ rs) {n} w e =
       let f = first-left r rs w in
       subst (λ (m : ℕ). Walk (archived c) t m (Left rs)) (sym e)
-      (onward (archived c) t at (Left (r ∷ rs)) w (Left rs) (f .0) (sym (f .1 .size)) (λ g. rest (g .r) r (g .others) rs (sym (g .same) ∙ w .state)))
+      (onward (archived c) t at (Left (r ∷ rs)) w (Left rs) (f .0) (sym (f .1 .size))
+      (λ g. rest (g .r) r (g .others) rs (sym (g .same) ∙ w .state)))
     where
       rest : (x y : Record) (xs ys : List Record) → x ∷ xs ≡ y ∷ ys → xs ≡ ys
       rest x y xs ys e = cc
@@ -148,7 +162,8 @@ alone a b (r ∷ rs) = refl
 
 unfolded :
     (a b : ℕ) (left left′ : List Record)
-    → elementwise a b left left′ ≡ besides a b (head left) (head left′) ++ elementwise (a + long (head left)) (b + long (head left′)) (tail left) (tail left′)
+    → elementwise a b left left′ ≡ besides a b (head left) (head left′)
+    ++ elementwise (a + long (head left)) (b + long (head left′)) (tail left) (tail left′)
 unfolded a b [] [] = refl
 unfolded a b [] (r′ ∷ rs′) = refl
 unfolded a b (r ∷ rs) [] = ap (λ (l : List Difference). besides a b (some r) none ++ l) (alone (a + length (layout r)) (b + 0) rs)
@@ -216,18 +231,24 @@ module _ (c : Chip) (one two : List ℕ) (g : Agreed c one two) where
     meant : lines (besides a b x y) ≡ besidesText one two a b x y
     unfolding x y
     meant =
-        besides-meant c one two a b (head (w .left)) (head (w .left′)) (at-now c one a (w .left) (w .here)) (at-now c two b (w .left′) (w .here′))
+        besides-meant c one two a b (head (w .left)) (head (w .left′)) (at-now c one a (w .left) (w .here))
+        (at-now c two b (w .left′) (w .here′))
         (fair-head c (w .left) (w .fairs) .0) (fair-head c (w .left′) (w .fairs′) .0) (w .low) (w .low′)
 
     pub split :
-        lines (elementwise a b (w .left) (w .left′)) ≡ besidesText one two a b x y ++ lines (elementwise (a + long x) (b + long y) (tail (w .left)) (tail (w .left′)))
+        lines (elementwise a b (w .left) (w .left′)) ≡ besidesText one two a b x y
+        ++ lines (elementwise (a + long x) (b + long y) (tail (w .left)) (tail (w .left′)))
     unfolding x y
     split =
         ap lines (unfolded a b (w .left) (w .left′))
-        ∙ lines-append (besides a b (head (w .left)) (head (w .left′))) (elementwise (a + long (head (w .left))) (b + long (head (w .left′))) (tail (w .left)) (tail (w .left′)))
-        ∙ ap (λ (l : List ℕ). l ++ lines (elementwise (a + long (head (w .left))) (b + long (head (w .left′))) (tail (w .left)) (tail (w .left′)))) meant
+        ∙ lines-append (besides a b (head (w .left)) (head (w .left′)))
+        (elementwise (a + long (head (w .left))) (b + long (head (w .left′))) (tail (w .left)) (tail (w .left′)))
+        ∙ ap (λ (l : List ℕ). l ++ lines (elementwise (a + long (head (w .left))) (b + long (head (w .left′))) (tail (w .left))
+        (tail (w .left′)))) meant
 
-    pub space : from ≡ 0 + length (rowsText one two 0 0 5 8) → (end + length (besidesText one two a b x y) ≤ 59016) × (length out ≡ length buf)
+    pub space :
+        from ≡ 0 + length (rowsText one two 0 0 5 8)
+        → (end + length (besidesText one two a b x y) ≤ 59016) × (length out ≡ length buf)
     space e =
         let r = room (w .midst) in (
           omega (
@@ -259,7 +280,8 @@ module _ (c : Chip) (one two : List ℕ) (g : Agreed c one two) where
           low′ = bound-now c two b (w .left′) (w .here′) (w .low′) f;
           fairs = fair-head c (w .left) (w .fairs) .1;
           fairs′ = fair-head c (w .left′) (w .fairs′) .1;
-          midst = subst (λ (l : List ℕ). Midst buf from all end′ out′ l) (λ j. lines (elementwise (sym e j) (sym f j) (tail (w .left)) (tail (w .left′)))) m;
+          midst = subst (λ (l : List ℕ). Midst buf from all end′ out′ l)
+              (λ j. lines (elementwise (sym e j) (sym f j) (tail (w .left)) (tail (w .left′)))) m;
         }
 
     -- each turn comes nearer to the end
@@ -296,7 +318,9 @@ module _ (c : Chip) (one two : List ℕ) (g : Agreed c one two) where
             → Compares c one two c₀ (outcome.Text end) out
         go [] [] h i m =
             let e : rowsText one two 0 0 5 8 ++ all ≡ lines (differences (g .d) (g .rs) (g .d′) (g .rs′)) =
-            ap (λ (l : List ℕ). l ++ all) (sym opened) ∙ sym (lines-append (descriptionwise (g .d) (g .d′)) (elementwise 16 16 (g .rs) (g .rs′))) in
-            compared (g .d) (g .d′) (g .rs) (g .rs′) (g .first) (g .second) (subst (λ (l : List ℕ). Put c₀ 0 l end out) e (then p (ended m)))
+            ap (λ (l : List ℕ). l ++ all) (sym opened)
+            ∙ sym (lines-append (descriptionwise (g .d) (g .d′)) (elementwise 16 16 (g .rs) (g .rs′))) in
+            compared (g .d) (g .d′) (g .rs) (g .rs′) (g .first) (g .second)
+            (subst (λ (l : List ℕ). Put c₀ 0 l end out) e (then p (ended m)))
         go [] (r′ ∷ rs′) h i m = absurd (omega (arith, i .0, none-left a b (length one) (length two) t))
         go (r ∷ rs) l′ h i m = absurd (omega (arith, h .0, none-left a b (length one) (length two) t))

@@ -1,12 +1,11 @@
 -- The lines of a field and of a part, put one text behind another; and one turn of the loop over rows.
 -- Assumes nothing.
-use Prim.Native.Nat.{ℕ, zero, suc, _+_, _-_, _*_, _<_, _≤_}
+use Prim.Native.Nat.{ℕ, suc, _+_, _-_, _*_, _<_, _≤_}
 use native.Mathlib.Omega.{arith}
 use mathlib.Core.Path.{_≡_, refl, sym, _∙_, ap, subst}
 use mathlib.Core.Bool.{Bool, true, false, cond}
-use mathlib.Core.List.{List, [], _∷_, _++_, append-nil, append-assoc}
+use mathlib.Core.List.{List, [], _∷_, _++_, append-assoc}
 use lib.ListN.{length, length-append}
-use lib.Dec.{eqb}
 use borrow.Author.Tests.{eq-eqb, ne-eqb}
 use Rattle.spelling.specs.Spelling.{Put, decimal}
 use Rattle.spelling.proofs.Putting.{then, put-none}
@@ -14,7 +13,7 @@ use Rattle.listing.specs.Lines.{line}
 use Rattle.differing.specs.Fields.{hex, ascii}
 use Rattle.differing.specs.Differences.{same}
 use Rattle.differing.proofs.Bound.{hex-length}
-use Rattle.comparing.specs.Rows.{nameText, codeText, codeAt, fieldLine, rowText, rowsText, partText}
+use Rattle.comparing.specs.Rows.{codeAt, fieldLine, rowText, rowsText, partText}
 use Rattle.comparing.specs.Lines.{placeText}
 use Rattle.comparing.proofs.Midst.{Midst, begun, more, ended, room}
 
@@ -90,7 +89,8 @@ module _ (one two : List ℕ) (a b : ℕ) where
       record {
         top = omega (arith, e);
         below = omega (arith, e);
-        midst = subst (λ (k : ℕ). Midst c at (rowsText one two a b from n) at c (rowsText one two a b from k)) m (begun c at (rowsText one two a b from n));
+        midst = subst (λ (k : ℕ). Midst c at (rowsText one two a b from n) at c (rowsText one two a b from k)) m
+            (begun c at (rowsText one two a b from n));
       }
 
   module _ {c : List ℕ} {at from n to end : ℕ} {out : List ℕ} {i : ℕ} (w : Rowed c at from n to end out i) where
@@ -103,7 +103,11 @@ module _ (one two : List ℕ) (a b : ℕ) where
     next : i < to → rowsText one two a b i (to - i) ≡ rowText one two a b i ++ rowsText one two a b (i + 1) (to - (i + 1))
     next h = let e : to - i ≡ suc (to - (i + 1)) = omega arith in ap (λ (k : ℕ). rowsText one two a b i k) e
 
-    pub row-turned : {end′ : ℕ} {out′ : List ℕ} → i < to → Put out end (rowText one two a b i) end′ out′ → Rowed c at from n to end′ out′ (i + 1)
+    pub row-turned :
+        {end′ : ℕ} {out′ : List ℕ}
+        → i < to
+        → Put out end (rowText one two a b i) end′ out′
+        → Rowed c at from n to end′ out′ (i + 1)
     row-turned {end′} {out′} h p =
         record {
           top = w .top;

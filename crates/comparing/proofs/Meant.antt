@@ -1,19 +1,19 @@
 -- What the rows read in the bytes of an element and of a description are the contents of its record; so the code's text is the one that
 -- the definition has.
 -- Assumes nothing.
-use Prim.Native.Nat.{ℕ, zero, suc, _+_, _*_, _/_, _%_, _<_, _≤_}
-use Prim.Native.String.{String}
+use Prim.Native.Nat.{ℕ, zero, suc, _+_, _*_, _/_, _%_}
 use native.Mathlib.Omega.{arith}
 use mathlib.Core.Path.{_≡_, refl, sym, _∙_, ap}
-use mathlib.Core.Bool.{Bool, true, false, _&&_, not, cond}
+use mathlib.Core.Bool.{Bool, true, cond}
 use mathlib.Core.List.{List, [], _∷_, _++_, map}
-use lib.ListN.{length, getD, drop}
+use lib.ListN.{getD, drop}
 use lib.Seq.{getD-drop}
 use lib.Dec.{eqb}
 use borrow.Author.Tests.{not-true}
-use Rattle.format.specs.Slots.{Slot, Holds, byte}
-use Rattle.format.specs.Records.{Record, digital, analogue, fan, led, water, pump, voltage, current, controller, tachometer, zone, string, external, rgb, elementOf}
-use Rattle.format.specs.Layout.{address, idOf, layout, opening}
+use Rattle.format.specs.Slots.{Holds, byte}
+use Rattle.format.specs.Records.{Record, digital, analogue, fan, led, water, pump, voltage, current, controller, tachometer, zone, string}
+use Rattle.format.specs.Records.{external, rgb, elementOf}
+use Rattle.format.specs.Layout.{address, layout, opening}
 use Rattle.format.specs.Rules.{ofItsBus, chosen, ofItsKind}
 use Rattle.format.specs.declared.pins.Chip.{Chip}
 use Rattle.format.specs.declared.records.Description.{Description}
@@ -78,7 +78,11 @@ abbrev rowsIn : (ℕ → ℕ) → ℕ → List ℕ
 rowsIn f id = codesIn f 0 (getD placeds id 0) ++ codesIn f (getD firsts id 0) (getD counts id 0)
 
 -- each kind
-kind-read : (c : Chip) (f : ℕ → ℕ) (x : Record) → Over f (layout x) → ofItsKind c x ≡ true → rowsIn f (kind x) ≡ map code (contents (elementOf x))
+kind-read :
+    (c : Chip) (f : ℕ → ℕ) (x : Record)
+    → Over f (layout x)
+    → ofItsKind c x ≡ true
+    → rowsIn f (kind x) ≡ map code (contents (elementOf x))
 unfolding ways offsets firsts counts placeds reading
 kind-read c f (digital d) o k =
     let g = over-at f (layout (digital d)) o in
@@ -129,7 +133,9 @@ kind-read c f (rgb r) o k =
     g 3 then g 4 then g 5 then g 6 then g 7 then pinned (g 8) then pinned (g 9) then pinned (g 10) then refl
 
 -- .. with its names
-pub kind-names : (x : Record) → ownNames (kind x) ≡ namesFrom 0 (getD placeds (kind x) 0) ++ namesFrom (getD firsts (kind x) 0) (getD counts (kind x) 0)
+pub kind-names :
+    (x : Record)
+    → ownNames (kind x) ≡ namesFrom 0 (getD placeds (kind x) 0) ++ namesFrom (getD firsts (kind x) 0) (getD counts (kind x) 0)
 unfolding names firsts counts placeds
 kind-names (digital d) = refl
 kind-names (analogue a) = refl
@@ -150,7 +156,8 @@ kind-names (rgb r) = refl
 pub codes-here :
     (c : Chip) (t : List ℕ) (at : ℕ) (x : Record)
     → Here c t at x
-    → codesFrom t at 0 (getD placeds (kind x) 0) ++ codesFrom t at (getD firsts (kind x) 0) (getD counts (kind x) 0) ≡ map code (contents (elementOf x))
+    → codesFrom t at 0 (getD placeds (kind x) 0) ++ codesFrom t at (getD firsts (kind x) 0) (getD counts (kind x) 0)
+    ≡ map code (contents (elementOf x))
 codes-here c t at x h =
     let f = byte (drop at t) in
     let p = codes-in t at 0 (getD placeds (kind x) 0) in

@@ -36,18 +36,24 @@ module _ (c : Chip) (b b′ buf : List ℕ) (small : Bytes b) (small′ : Bytes 
   only-outcome x y d e (compared {n = n} u u′ rs rs′ a a′ put) (compared {n = m} v v′ qs qs′ z z′ put′) =
       let p = only-one-list (archived c) b u v rs qs small a z in
       let q = only-one-list (archived c) b′ u′ v′ rs′ qs′ small′ a′ z′ in
-      let r = put-once buf (lines (differences u rs u′ rs′)) (lines (differences v qs v′ qs′)) 0 n m d e (λ i. lines (differences (p .0 i) (p .1 i) (q .0 i) (q .1 i))) put put′ in
+      let r = put-once buf (lines (differences u rs u′ rs′)) (lines (differences v qs v′ qs′)) 0 n m d e
+      (λ i. lines (differences (p .0 i) (p .1 i) (q .0 i) (q .1 i))) put put′ in
       (ap outcome.Text (r .0), r .1)
   only-outcome x y d e (compared u u′ rs rs′ a a′ put) (firstRefused v) = absurd (never-both (archived c) b u rs small a v)
   only-outcome x y d e (compared u u′ rs rs′ a a′ put) (secondRefused w qs z v) = absurd (never-both (archived c) b′ u′ rs′ small′ a′ v)
   only-outcome x y d e (firstRefused v) (compared u u′ rs rs′ a a′ put) = absurd (never-both (archived c) b u rs small a v)
-  only-outcome x y d e (firstRefused {k = k} {p = p} v) (firstRefused {k = k′} {p = p′} v′) =
-      (same-refusal b 1 k p k′ p′ small (firstRefused v) (unique (archived c) b (answer.Refused k p) (answer.Refused k′ p′) small v v′), refl)
+  only-outcome x y d e (firstRefused {k = k} {p = p} v) (firstRefused {k = k′} {p = p′} v′) = (
+    same-refusal b 1 k p k′ p′ small (firstRefused v) (unique (archived c) b (answer.Refused k p) (answer.Refused k′ p′) small v v′),
+    refl,
+  )
   only-outcome x y d e (firstRefused v) (secondRefused w qs z v′) = absurd (never-both (archived c) b w qs small z v)
   only-outcome x y d e (secondRefused w qs z v) (compared u u′ rs rs′ a a′ put) = absurd (never-both (archived c) b′ u′ rs′ small′ a′ v)
   only-outcome x y d e (secondRefused w qs z v) (firstRefused v′) = absurd (never-both (archived c) b w qs small z v′)
-  only-outcome x y d e (secondRefused {k = k} {p = p} w qs z v) (secondRefused {k = k′} {p = p′} w′ qs′ z′ v′) =
-      (same-refusal b′ 2 k p k′ p′ small′ (secondRefused w qs z v) (unique (archived c) b′ (answer.Refused k p) (answer.Refused k′ p′) small′ v v′), refl)
+  only-outcome x y d e (secondRefused {k = k} {p = p} w qs z v) (secondRefused {k = k′} {p = p′} w′ qs′ z′ v′) = (
+    same-refusal b′ 2 k p k′ p′ small′ (secondRefused w qs z v)
+        (unique (archived c) b′ (answer.Refused k p) (answer.Refused k′ p′) small′ v v′),
+    refl,
+  )
 
 -- the buffer keeps its length
 pub compares-long : (c : Chip) (b b′ buf : List ℕ) (x : Outcome) (after : List ℕ) → Compares c b b′ buf x after → length after ≡ length buf

@@ -3,16 +3,16 @@
 use Prim.Native.Nat.{ℕ, _+_, _<_, _≤_}
 use native.Mathlib.Omega.{arith}
 use native.Mathlib.Nat.{add-zero}
-use mathlib.Core.Path.{_≡_, refl, sym, _∙_, ap, subst}
-use mathlib.Core.Bool.{Bool, true, false, cond}
-use mathlib.Core.List.{List, [], _∷_, _++_}
+use mathlib.Core.Path.{_≡_, sym, _∙_, ap, subst}
+use mathlib.Core.Bool.{Bool, cond}
+use mathlib.Core.List.{List, _++_}
 use mathlib.Core.Option.{Option, none, some}
 use lib.ListN.{length, length-append, getD, drop}
 use lib.Seq.{getD-drop}
-use lib.Dec.{eqb}
 use borrow.Author.Tests.{eq-eqb, ne-eqb}
 use Rattle.format.specs.Slots.{byte, written}
-use Rattle.format.specs.Records.{Record, digital, analogue, fan, led, water, pump, voltage, current, controller, tachometer, zone, string, external, rgb}
+use Rattle.format.specs.Records.{Record, digital, analogue, fan, led, water, pump, voltage, current, controller, tachometer, zone, string}
+use Rattle.format.specs.Records.{external, rgb}
 use Rattle.format.specs.Layout.{part, layout}
 use Rattle.format.specs.declared.pins.Chip.{Chip}
 use Rattle.format.proofs.Slots.{starts-over}
@@ -26,10 +26,15 @@ use Rattle.comparing.proofs.Naming.{bounded}
 
 -- the rows of an identifier
 module _ (one two : List ℕ) (a b id : ℕ) {n : ℕ} (e : n ≡ getD placeds id 0) where
-  pub first-room : (at m : ℕ) → at + length (fieldsText one two a b id) + 68 ≤ m → id < 15 → (at + length (rowsText one two a b 0 n) + 68 ≤ m) × (0 + n ≤ 59)
+  pub first-room :
+      (at m : ℕ)
+      → at + length (fieldsText one two a b id) + 68 ≤ m
+      → id < 15
+      → (at + length (rowsText one two a b 0 n) + 68 ≤ m) × (0 + n ≤ 59)
   first-room at m h small =
       let l = length-append (rowsText one two a b 0 (getD placeds id 0)) (rowsText one two a b (getD firsts id 0) (getD counts id 0)) in
-      let q : length (rowsText one two a b 0 n) ≡ length (rowsText one two a b 0 (getD placeds id 0)) = ap (λ (k : ℕ). length (rowsText one two a b 0 k)) e in
+      let q : length (rowsText one two a b 0 n) ≡ length
+      (rowsText one two a b 0 (getD placeds id 0)) = ap (λ (k : ℕ). length (rowsText one two a b 0 k)) e in
       (omega (arith, l, q), omega (arith, e, bounded id small .0))
 
   module _ {f k : ℕ} (g : f ≡ getD firsts id 0) (i : k ≡ getD counts id 0) where
@@ -59,7 +64,8 @@ inside c t at x h = omega (arith, h .size, h .within)
 
 pub kind-here : (c : Chip) (t : List ℕ) (at : ℕ) (x : Record) → Here c t at x → byte t at ≡ kind x
 kind-here c t at x h =
-    ap (λ (n : ℕ). byte t n) (sym (add-zero at)) ∙ sym (getD-drop at t 0 0) ∙ starts-over (drop at t) (layout x) (h .stands .rest) (h .stands .starts) .0
+    ap (λ (n : ℕ). byte t n) (sym (add-zero at)) ∙ sym (getD-drop at t 0 0)
+    ∙ starts-over (drop at t) (layout x) (h .stands .rest) (h .stands .starts) .0
 
 pub kind-small : (x : Record) → kind x < 15
 kind-small (digital d) = omega arith
@@ -85,7 +91,11 @@ module _ (one two : List ℕ) (a b : ℕ) (p q : List ℕ) where
   pub of-one-kind : byte one a ≡ byte two b → pairText one two a b p q ≡ fieldsText one two a b (byte one a) ++ partText a b p q
   of-one-kind e = ap choice (eq-eqb (byte one a) (byte two b) e)
 
-  pub of-two-kinds : {c d : List ℕ} {at r : ℕ} → (byte one a ≡ byte two b → ⊥) → Put c at (kindLine a b (byte one a) (byte two b)) r d → Put c at (pairText one two a b p q) r d
+  pub of-two-kinds :
+      {c d : List ℕ} {at r : ℕ}
+      → (byte one a ≡ byte two b → ⊥)
+      → Put c at (kindLine a b (byte one a) (byte two b)) r d
+      → Put c at (pairText one two a b p q) r d
   of-two-kinds {c} {d} {at} {r} n put = subst (λ (l : List ℕ). Put c at l r d) (sym (ap choice (ne-eqb (byte one a) (byte two b) n))) put
 
   module _ {id : ℕ} (e : byte one a ≡ byte two b) (i : id ≡ byte one a) where
@@ -100,7 +110,15 @@ module _ (one two : List ℕ) (a b : ℕ) (p q : List ℕ) where
       pub part-room : at + length (pairText one two a b p q) + 68 ≤ length c → r + length (partText a b p′ q′) + 68 ≤ length d
       part-room h =
           let l : length (partText a b p′ q′) ≡ length (partText a b p q) = λ j. length (partText a b (x j) (y j)) in
-          omega (arith, l, same-fields, ap length (of-one-kind e), length-append (fieldsText one two a b (byte one a)) (partText a b p q), put .ends, put .long)
+          omega (
+            arith,
+            l,
+            same-fields,
+            ap length (of-one-kind e),
+            length-append (fieldsText one two a b (byte one a)) (partText a b p q),
+            put .ends,
+            put .long,
+          )
 
       pub pair-put : {r′ : ℕ} {o : List ℕ} → Put d r (partText a b p′ q′) r′ o → Put c at (pairText one two a b p q) r′ o
       pair-put {r′} {o} more =
@@ -139,7 +157,8 @@ module _ (one two : List ℕ) (a b : ℕ) where
     pub both-there :
         a < length one
         → b < length two
-        → ((c : Chip) (x y : Record) → Here c one a x → Here c two b y → Put buf at (pairText one two a b (written (part x)) (written (part y))) r out)
+        → ((c : Chip) (x y : Record) → Here c one a x → Here c two b y
+        → Put buf at (pairText one two a b (written (part x)) (written (part y))) r out)
         → Put buf at (besidesText one two a b x y) r out
     both-there i j f = go x y h k
       where
@@ -148,7 +167,11 @@ module _ (one two : List ℕ) (a b : ℕ) where
         go (some x) none h k = absurd (omega arith)
         go (some x) (some y) h k = f c x y (h .1) (k .1)
 
-    pub first-there : a < length one → length two ≤ b → Put buf at (kindLine a 65535 (byte one a) 255) r out → Put buf at (besidesText one two a b x y) r out
+    pub first-there :
+        a < length one
+        → length two ≤ b
+        → Put buf at (kindLine a 65535 (byte one a) 255) r out
+        → Put buf at (besidesText one two a b x y) r out
     first-there i j put = go x y h k
       where
         go : (x y : Option Record) → At c one a x → At c two b y → Put buf at (besidesText one two a b x y) r out
@@ -156,7 +179,11 @@ module _ (one two : List ℕ) (a b : ℕ) where
         go (some x) none h k = put
         go (some x) (some y) h k = absurd (omega (arith, k .0))
 
-    pub second-there : length one ≤ a → b < length two → Put buf at (kindLine 65535 b 255 (byte two b)) r out → Put buf at (besidesText one two a b x y) r out
+    pub second-there :
+        length one ≤ a
+        → b < length two
+        → Put buf at (kindLine 65535 b 255 (byte two b)) r out
+        → Put buf at (besidesText one two a b x y) r out
     second-there i j put = go x y h k
       where
         go : (x y : Option Record) → At c one a x → At c two b y → Put buf at (besidesText one two a b x y) r out
@@ -164,7 +191,13 @@ module _ (one two : List ℕ) (a b : ℕ) where
         go none (some y) h k = put
         go (some x) y h k = absurd (omega (arith, h .0))
 
-  pub none-there : (c : Chip) (x y : Option Record) {buf : List ℕ} {at : ℕ} → At c one a x → At c two b y → length one ≤ a → length two ≤ b → Put buf at (besidesText one two a b x y) at buf
+  pub none-there :
+      (c : Chip) (x y : Option Record) {buf : List ℕ} {at : ℕ}
+      → At c one a x
+      → At c two b y
+      → length one ≤ a
+      → length two ≤ b
+      → Put buf at (besidesText one two a b x y) at buf
   none-there c none none {buf} {at} h k i j = put-none buf at
   none-there c none (some y) h k i j = absurd (omega (arith, k .0))
   none-there c (some x) y h k i j = absurd (omega (arith, h .0))

@@ -4,7 +4,7 @@ use Prim.Native.Nat.{ℕ, suc, _+_, _-_, _*_, _<_, _≤_}
 use native.Mathlib.Omega.{arith}
 use native.Mathlib.Numerals.{add-one}
 use mathlib.Core.Path.{_≡_, refl, sym, _∙_, ap, subst}
-use mathlib.Core.Bool.{Bool, true, false, _&&_, false≢true}
+use mathlib.Core.Bool.{Bool, true, false, _&&_}
 use mathlib.Core.List.{List, [], _∷_, _++_}
 use lib.ListN.{length, getD, drop, drop-of-length-le}
 use lib.Seq.{slice, slice-cons, slice-empty, length-slice, drop-cons}
@@ -18,7 +18,7 @@ use Rattle.differing.proofs.Bound.{hex-length}
 use Rattle.comparing.specs.Rows.{nameText}
 use Rattle.comparing.specs.Letters.{starts, letters}
 use Rattle.comparing.proofs.Midst.{Midst, begun, more, ended, room}
-use Rattle.comparing.proofs.Naming.{Named, named, letters-length}
+use Rattle.comparing.proofs.Naming.{named, letters-length}
 
 -- a name
 pub record Lettered (c : List ℕ) (at i to : ℕ) (end : ℕ) (out : List ℕ) (j : ℕ) : Type 0 where
@@ -48,7 +48,12 @@ module _ {c : List ℕ} {at i to end : ℕ} {out : List ℕ} {j : ℕ} (w : Lett
       let r = room (w .midst) in
       (omega (arith, r .0, length-slice j to letters (omega (arith, letters-length, w .top)), named i (w .row) .long), r .1)
 
-  pub name-turned : {x end′ : ℕ} {out′ : List ℕ} → j < to → x ≡ getD letters j 0 → Put out end (x ∷ []) end′ out′ → Lettered c at i to end′ out′ (j + 1)
+  pub name-turned :
+      {x end′ : ℕ} {out′ : List ℕ}
+      → j < to
+      → x ≡ getD letters j 0
+      → Put out end (x ∷ []) end′ out′
+      → Lettered c at i to end′ out′ (j + 1)
   name-turned {x} {end′} {out′} h e p =
       let s : slice j to letters ≡ x ∷ [] ++ slice (j + 1) to letters =
       slice-cons j to letters 0 h (omega (arith, letters-length, w .top))
@@ -76,7 +81,11 @@ module _ {c : List ℕ} {at : ℕ} (p : List ℕ) {end : ℕ} {out : List ℕ} {
       let e = ap length (ap hex (drop-cons p i 0 h)) in
       (omega (arith, r .0, e, hex-length p), r .1)
 
-  pub part-turned : {end′ : ℕ} {out′ : List ℕ} → i < length p → Put out end (hexPair (getD p i 0)) end′ out′ → Midst c at (hex p) end′ out′ (hex (drop (i + 1) p))
+  pub part-turned :
+      {end′ : ℕ} {out′ : List ℕ}
+      → i < length p
+      → Put out end (hexPair (getD p i 0)) end′ out′
+      → Midst c at (hex p) end′ out′ (hex (drop (i + 1) p))
   part-turned {end′} {out′} h q =
       let s : hex (drop i p) ≡ hexPair (getD p i 0) ++ hex (drop (i + 1) p) =
       ap hex (drop-cons p i 0 h) ∙ ap (λ (m : ℕ). hexPair (getD p i 0) ++ hex (drop m p)) (sym (add-one i)) in
@@ -104,13 +113,15 @@ module _ (p q : List ℕ) (i : ℕ) (w : Alike p q i) (h : i < length p) where
       ∙ ap (λ (m : ℕ). eqb (getD p i 0) (getD q i 0) && same (drop m p) (drop m q)) (sym (add-one i))
 
   pub unlike-here : (getD p i 0 ≡ getD q i 0 → ⊥) → false ≡ same p q
-  unlike-here n = sym (ap (λ (b : Bool). b && same (drop (i + 1) p) (drop (i + 1) q)) (ne-eqb (getD p i 0) (getD q i 0) n)) ∙ sym there ∙ w .so-far
+  unlike-here n = sym (ap (λ (b : Bool). b && same (drop (i + 1) p) (drop (i + 1) q)) (ne-eqb (getD p i 0) (getD q i 0) n)) ∙ sym there
+      ∙ w .so-far
 
   pub alike-turned : getD p i 0 ≡ getD q i 0 → Alike p q (i + 1)
   alike-turned e =
       record {
         long = w .long;
-        so-far = sym (ap (λ (b : Bool). b && same (drop (i + 1) p) (drop (i + 1) q)) (eq-eqb (getD p i 0) (getD q i 0) e)) ∙ sym there ∙ w .so-far;
+        so-far = sym (ap (λ (b : Bool). b && same (drop (i + 1) p) (drop (i + 1) q)) (eq-eqb (getD p i 0) (getD q i 0) e)) ∙ sym there
+            ∙ w .so-far;
       }
 
 pub alike-ended : (p q : List ℕ) (i : ℕ) → Alike p q i → length p ≤ i → true ≡ same p q

@@ -2,12 +2,11 @@
 -- Assumes nothing.
 use Prim.Native.Nat.{ℕ, _+_, _<_, _≤_}
 use native.Mathlib.Omega.{arith}
-use mathlib.Core.Path.{_≡_, refl, sym, _∙_, ap}
+use mathlib.Core.Path.{_≡_, refl}
 use mathlib.Core.Option.{Option, none, some}
 use mathlib.Core.List.{List}
 use lib.ListN.{length, drop}
 use Rattle.format.specs.Records.{Record}
-use Rattle.format.specs.Layout.{layout}
 use Rattle.format.specs.Verdict.{stated}
 use Rattle.format.specs.declared.pins.Chip.{Chip}
 use Rattle.walking.specs.Walk.{Here}
@@ -27,10 +26,19 @@ pub missing : (c : Chip) (t : List ℕ) (at : ℕ) (o : Option Record) → At c 
 missing c t at none a h = refl
 missing c t at (some x) a h = absurd (omega (arith, a .0))
 
-pub framed : (c : Chip) (t : List ℕ) (at : ℕ) (o : Option Record) → At c t at o → at < length t → (at + 2 < length t) × (at + stated (drop at t) ≤ length t)
+pub framed :
+    (c : Chip) (t : List ℕ) (at : ℕ) (o : Option Record)
+    → At c t at o
+    → at < length t
+    → (at + 2 < length t) × (at + stated (drop at t) ≤ length t)
 framed c t at o a h = let f = found c t at o a h .here in omega (arith, f .size, f .within)
 
-pub step : (c : Chip) (t : List ℕ) (at : ℕ) (o : Option Record) {n : ℕ} → At c t at o → at < length t → n ≡ stated (drop at t) → at + n ≡ at + long o
+pub step :
+    (c : Chip) (t : List ℕ) (at : ℕ) (o : Option Record) {n : ℕ}
+    → At c t at o
+    → at < length t
+    → n ≡ stated (drop at t)
+    → at + n ≡ at + long o
 step c t at none a h e = absurd (omega arith)
 step c t at (some x) a h e = omega (arith, e, a .1 .size)
 

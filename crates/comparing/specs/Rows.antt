@@ -4,10 +4,10 @@ use Prim.Native.Nat.{ℕ, zero, suc, _+_, _-_, _*_, _/_, _%_}
 use Prim.Native.String.{String}
 use mathlib.Core.Bool.{cond}
 use mathlib.Core.List.{List, [], _∷_, _++_}
-use lib.ListN.{getD, take, drop}
+use lib.ListN.{getD}
 use lib.Dec.{eqb, ltb}
 use Rattle.format.specs.Slots.{byte}
-use Rattle.spelling.specs.Spelling.{decimal, hexPair, dash, pinOrDash}
+use Rattle.spelling.specs.Spelling.{decimal, pinOrDash}
 use Rattle.listing.specs.Lines.{line}
 use Rattle.differing.specs.Fields.{hex, ascii}
 use Rattle.differing.specs.Differences.{same}

@@ -82,8 +82,10 @@ fn after(t: &[u8], at: usize) -> usize
 
 // The lines of what stands at two places, one of which may be the end of its table.
 fn put_next(out: &mut [u8], at: usize, one: &[u8], two: &[u8], a: usize, b: usize) -> usize
-    requires { ⌜ ((c : Chip) × (x : Option Record) × (y : Option Record) × At c (now one) a x × At c (now two) b y × (a ≤ 4096) × (b ≤ 4096) × (at + length (besidesText (now one) (now two) a b x y) + 68 ≤ length (now out))) ⌝ }
-    ensures { λ r. ⌜ ((c : Chip) (x y : Option Record) → At c (now (one .entry)) a x → At c (now (two .entry)) b y → Put (now (out .entry)) at (besidesText (now (one .entry)) (now (two .entry)) a b x y) r (now (out .exit))) ⌝ }
+    requires { ⌜ ((c : Chip) × (x : Option Record) × (y : Option Record) × At c (now one) a x × At c (now two) b y × (a ≤ 4096)
+        × (b ≤ 4096) × (at + length (besidesText (now one) (now two) a b x y) + 68 ≤ length (now out))) ⌝ }
+    ensures { λ r. ⌜ ((c : Chip) (x y : Option Record) → At c (now (one .entry)) a x → At c (now (two .entry)) b y
+        → Put (now (out .entry)) at (besidesText (now (one .entry)) (now (two .entry)) a b x y) r (now (out .exit))) ⌝ }
 {
     if a < one.len() {
         if b < two.len() {
@@ -99,8 +101,11 @@ fn put_next(out: &mut [u8], at: usize, one: &[u8], two: &[u8], a: usize, b: usiz
 
 // The lines of two elements.
 fn put_pair(out: &mut [u8], at: usize, one: &[u8], two: &[u8], a: usize, b: usize) -> usize
-    requires { ⌜ ((c : Chip) × (x : Record) × (y : Record) × Here c (now one) a x × Here c (now two) b y × (a ≤ 4096) × (b ≤ 4096) × (at + length (pairText (now one) (now two) a b (written (part x)) (written (part y))) + 68 ≤ length (now out))) ⌝ }
-    ensures { λ r. ⌜ ((c : Chip) (x y : Record) → Here c (now (one .entry)) a x → Here c (now (two .entry)) b y → Put (now (out .entry)) at (pairText (now (one .entry)) (now (two .entry)) a b (written (part x)) (written (part y))) r (now (out .exit))) ⌝ }
+    requires { ⌜ ((c : Chip) × (x : Record) × (y : Record) × Here c (now one) a x × Here c (now two) b y × (a ≤ 4096) × (b ≤ 4096)
+        × (at + length (pairText (now one) (now two) a b (written (part x)) (written (part y))) + 68 ≤ length (now out))) ⌝ }
+    ensures { λ r. ⌜ ((c : Chip) (x y : Record) → Here c (now (one .entry)) a x → Here c (now (two .entry)) b y
+        → Put (now (out .entry)) at (pairText (now (one .entry)) (now (two .entry)) a b (written (part x)) (written (part y))) r
+        (now (out .exit))) ⌝ }
 {
     let k = one[a];
     let l = two[b];

@@ -1,6 +1,6 @@
 // The lines of a difference, put into a lent buffer.
 ghost use mathlib.Core.Path.{_≡_};
-ghost use mathlib.Core.List.{List, [], _∷_, _++_};
+ghost use mathlib.Core.List.{[], _∷_, _++_};
 ghost use Prim.Native.Nat.{_+_, _*_, _<_, _≤_};
 ghost use lib.ListN.{length};
 ghost use Rattle.spelling.specs.Spelling.{Put, decimal};
@@ -58,7 +58,8 @@ pub fn put_kind(out: &mut [u8], at: usize, a: usize, b: usize, k: u8, l: u8) -> 
 // `D` and both offsets, a tab behind each.
 fn put_front(out: &mut [u8], at: usize, a: usize, b: usize) -> usize
     requires { ⌜ (at + 20 ≤ length (now out)) × (a ≤ 4096) × (b ≤ 4096) ⌝ }
-    ensures { λ r. ⌜ Put (now (out .entry)) at (68 ∷ 9 ∷ [] ++ ((decimal a ++ 9 ∷ []) ++ (decimal b ++ 9 ∷ []))) r (now (out .exit)) × (r ≤ at + 20) ⌝ }
+    ensures { λ r. ⌜ Put (now (out .entry)) at (68 ∷ 9 ∷ [] ++ ((decimal a ++ 9 ∷ []) ++ (decimal b ++ 9 ∷ []))) r (now (out .exit))
+        × (r ≤ at + 20) ⌝ }
 {
     let e = put(out, at, &[68, 9]);
     let f = put_place(out, e, a);
@@ -114,7 +115,8 @@ pub fn put_rows(
     from: usize,
     n: usize,
 ) -> usize
-    requires { ⌜ (at + length (rowsText (now one) (now two) a b from n) + 68 ≤ length (now out)) × (a ≤ 4096) × (b ≤ 4096) × (from + n ≤ 59) ⌝ }
+    requires { ⌜ (at + length (rowsText (now one) (now two) a b from n) + 68 ≤ length (now out)) × (a ≤ 4096) × (b ≤ 4096)
+        × (from + n ≤ 59) ⌝ }
     ensures { λ r. ⌜ Put (now (out .entry)) at (rowsText (now (one .entry)) (now (two .entry)) a b from n) r (now (out .exit)) ⌝ }
 {
     let to = from + n;

@@ -1,7 +1,7 @@
 // The fields of each kind as rows of a constant table: how a field stands in the bytes, its offset, its name.
 ghost use mathlib.Core.Path.{_≡_};
 ghost use Prim.Native.Nat.{_+_, _<_, _≤_};
-ghost use lib.ListN.{length, getD};
+ghost use lib.ListN.{getD};
 ghost use Rattle.format.specs.Slots.{byte};
 ghost use Rattle.comparing.specs.Rows.{ways, offsets, firsts, counts, placeds, reading, codeAt};
 use words::wide;

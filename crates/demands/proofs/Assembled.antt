@@ -4,11 +4,12 @@ use Prim.Native.Nat.{ℕ, _+_}
 use native.Mathlib.Omega.{arith}
 use mathlib.Core.Path.{_≡_, refl, sym, _∙_, ap}
 use mathlib.Core.Bool.{true}
-use mathlib.Core.List.{List, [], _∷_, _++_, map}
+use mathlib.Core.List.{List, _∷_, _++_, map}
 use mathlib.Core.Option.{none, some}
 use lib.ListN.{length, length-append}
 use Rattle.format.specs.Slots.{Slot, whole, word, written, allRoomy, byte}
-use Rattle.format.specs.Records.{Record, digital, analogue, fan, led, water, pump, voltage, current, controller, tachometer, zone, string, external, rgb, elementOf}
+use Rattle.format.specs.Records.{Record, digital, analogue, fan, led, water, pump, voltage, current, controller, tachometer, zone, string}
+use Rattle.format.specs.Records.{external, rgb, elementOf}
 use Rattle.format.specs.Layout.{fixed, part, entries, blocks, body, layout, idOf, headed}
 use Rattle.format.specs.Rules.{ofItsKind}
 use Rattle.format.specs.Table.{elementBreaks}
@@ -67,7 +68,8 @@ pub append-reads-back :
     (chip : Chip) (r : Record) (more : List ℕ)
     → allRoomy (layout r) ≡ true
     → ofItsKind chip r ≡ true
-    → decode chip (byte (written (elementSlots (elementOf r) (written (part r))) ++ more) 0) (content (written (elementSlots (elementOf r) (written (part r))) ++ more))
+    → decode chip (byte (written (elementSlots (elementOf r) (written (part r))) ++ more) 0)
+    (content (written (elementSlots (elementOf r) (written (part r))) ++ more))
     ≡ some r
 append-reads-back chip r more h k =
     ap (λ (l : List ℕ). decode chip (byte (l ++ more) 0) (content (l ++ more))) (slots-written r) ∙ record-reads-back chip r more h k

@@ -9,11 +9,13 @@ use borrow.Author.Tests.{not-true}
 use mathlib.Core.List.{List}
 use lib.Dec.{eqb}
 use Rattle.format.specs.Slots.{bit, byte}
-use Rattle.format.specs.Records.{Record, digital, analogue, fan, led, water, pump, voltage, current, controller, tachometer, zone, string, external, rgb, elementOf}
+use Rattle.format.specs.Records.{Record, digital, analogue, fan, led, water, pump, voltage, current, controller, tachometer, zone, string}
+use Rattle.format.specs.Records.{external, rgb, elementOf}
 use Rattle.format.specs.Layout.{idOf, optionalByte}
 use Rattle.format.specs.Pins.{ofChip, standing}
 use Rattle.format.specs.Rules.{ofItsBus, chosen, ofItsMotor, ofItsKind, descriptionKind}
-use Rattle.format.specs.Decode.{pinOf, optionalOf, digitalOf, analogueOf, fanOf, lampOf, ledOf, waterOf, voltageOf, currentOf, deviceOf, externalOf, rgbOf, descriptionOf, readFan}
+use Rattle.format.specs.Decode.{pinOf, optionalOf, digitalOf, analogueOf, fanOf, lampOf, ledOf, waterOf, voltageOf, currentOf, deviceOf}
+use Rattle.format.specs.Decode.{externalOf, rgbOf, descriptionOf, readFan}
 use Rattle.format.specs.declared.pins.Chip.{Chip}
 use Rattle.format.specs.declared.pins.Chip.the-variants.{C8051F320, C8051F321}
 use Rattle.format.specs.declared.pins.Pin.{Pin}
@@ -24,7 +26,8 @@ use Rattle.format.specs.declared.records.Address.{Address}
 use Rattle.format.specs.declared.records.Address.the-variants.{Bus, Select}
 use Rattle.format.specs.declared.records.Lamp.{Lamp}
 use Rattle.format.specs.declared.records.PwmFan.{PwmFan}
-use Rattle.format.specs.declared.records.Element.the-variants.{Digital, Analogue, Fan, Led, Water, Pump, Voltage, Current, Controller, Tachometer, External, Rgb}
+use Rattle.format.specs.declared.records.Element.the-variants.{Digital, Analogue, Fan, Led, Water, Pump, Voltage, Current, Controller}
+use Rattle.format.specs.declared.records.Element.the-variants.{Tachometer, External, Rgb}
 use Rattle.format.proofs.Kept.{and-true}
 use Rattle.format.proofs.EachKind.{pin-only}
 use Rattle.numbers.specs.declared.MaybeElement.the-variants.{Element as Found}
@@ -75,16 +78,19 @@ module _ (c : Chip) where
   motor-back : (f : PwmFan) → ofItsMotor c f ≡ true → readFan (named c) (byte (padded (motorNumbers f) (chipNumber c))) ≡ f
   motor-back f h =
       let q = and-true (ofChip c (f .pwm)) (standing c (f .tachometer)) h in
-      λ i. fanOf (f .placement) (pin-back (f .pwm) (q .0) i) (optional-back (f .tachometer) (q .1) i) (f .ppr) (two (f .minrpm .0) i) (two (f .maxrpm .0) i) (f .duty)
+      λ i. fanOf (f .placement) (pin-back (f .pwm) (q .0) i) (optional-back (f .tachometer) (q .1) i) (f .ppr) (two (f .minrpm .0) i)
+      (two (f .maxrpm .0) i) (f .duty)
 
   pub from-into :
       (x : Record) (p : List ℕ)
       → ofItsKind c x ≡ true
       → elementFrom (idOf (elementOf x)) (elementInto c (elementOf x) p) ≡ Found (elementOf x)
   from-into (digital d) p h =
-      λ i. Found (Digital (digitalOf (d .placement) (d .bus) (address-back (d .bus) (d .address) h i) (two (d .lsb) i) (two (d .msb) i) (two (d .minvalue) i) (d .mintemp .0) (two (d .maxvalue) i) (d .maxtemp .0)))
+      λ i. Found (Digital (digitalOf (d .placement) (d .bus) (address-back (d .bus) (d .address) h i) (two (d .lsb) i) (two (d .msb) i)
+      (two (d .minvalue) i) (d .mintemp .0) (two (d .maxvalue) i) (d .maxtemp .0)))
   from-into (analogue a) p h =
-      λ i. Found (Analogue (analogueOf (a .placement) (a .thermal) (pin-back (a .pin) h i) (two (a .at0 .0) i) (two (a .at25 .0) i) (two (a .at50 .0) i) (two (a .at75 .0) i) (two (a .at100 .0) i)))
+      λ i. Found (Analogue (analogueOf (a .placement) (a .thermal) (pin-back (a .pin) h i) (two (a .at0 .0) i) (two (a .at25 .0) i)
+      (two (a .at50 .0) i) (two (a .at75 .0) i) (two (a .at100 .0) i)))
   from-into (fan f) p h = λ i. Found (Fan (motor-back f h i))
   from-into (led l) p h =
       let q = and-true (standing c (l .one .pin)) (standing c (l .two .pin) && standing c (l .three .pin)) h in
@@ -115,4 +121,5 @@ module _ (c : Chip) where
       let q = and-true (standing c (d .revision0)) (standing c (d .revision1) && standing c (d .revision2)) h in
       let r = and-true (standing c (d .revision1)) (standing c (d .revision2)) (q .1) in
       λ i.
-      descriptionOf (d .device) (d .string) (four (d .serial) i) (flag (d .spwr) i) (d .power .0) (optional-back (d .revision0) (q .0) i) (optional-back (d .revision1) (r .0) i) (optional-back (d .revision2) (r .1) i)
+      descriptionOf (d .device) (d .string) (four (d .serial) i) (flag (d .spwr) i) (d .power .0) (optional-back (d .revision0) (q .0) i)
+      (optional-back (d .revision1) (r .0) i) (optional-back (d .revision2) (r .1) i)

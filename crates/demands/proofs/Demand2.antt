@@ -33,7 +33,8 @@ pub opening-roomy : (d : Description) (n : ℕ) → allRoomy (opening d n) ≡ t
 opening-roomy d n h = roomy-split (whole 1 ∷ word n) (drop 3 (opening d 16)) h .1
 
 pub starts :
-    (chip : Chip) (d : Description) (c : List ℕ) → 16 ≤ length c → descriptionRoomy d ≡ true → descriptionBreaks chip d ≡ none → startAnswer chip c d ≡ Length 16
+    (chip : Chip) (d : Description) (c : List ℕ) → 16 ≤ length c → descriptionRoomy d ≡ true → descriptionBreaks chip d ≡ none
+    → startAnswer chip c d ≡ Length 16
 unfolding startAnswer
 starts chip d c long h k = rw (le-leb 16 (length c) long, h, k) refl
 
@@ -58,7 +59,8 @@ records-written-again chip b c d rs w ws c₁ after a long st run =
     let answer : w ≡ Length 16 = st .answer ∙ starts chip d c (omega (arith, size, long)) (opening-roomy d n (split .0)) (k .described) in
     let left : c₁ ≡ standing d [] c = st .leaves ∙ ap (λ (v : Written). startLeaves v c d) answer in
     let more =
-    appended chip d [] rs c ws after (k .passed) (split .1) (omega (arith, size, long)) (omega (arith, k .limit, length-append (opening d n) (layouts rs))) (subst (λ (l : List ℕ). Appends chip l rs ws after) left run) in
+    appended chip d [] rs c ws after (k .passed) (split .1) (omega (arith, size, long))
+    (omega (arith, k .limit, length-append (opening d n) (layouts rs))) (subst (λ (l : List ℕ). Appends chip l rs ws after) left run) in
     record {
       started = answer;
       each = more .0;

@@ -2,17 +2,17 @@
 -- where there is no such record: `assemble`, which append's words use, said without the reader's cut. A part has no reserved
 -- place, so that bytes which fit it are what is written of it.
 -- Assumes nothing.
-use Prim.Native.Nat.{ℕ, zero, suc, _<_}
+use Prim.Native.Nat.{ℕ, suc}
 use native.Mathlib.Omega.{arith}
 use mathlib.Core.Path.{_≡_, refl, sym, _∙_, ap, subst}
 use mathlib.Core.Bool.{Bool, true, false, _&&_, false≢true}
 use mathlib.Core.List.{List, [], _∷_, _++_, map}
 use mathlib.Core.Option.{Option, none, some}
 use lib.ListN.{length}
-use lib.Dec.{ltb}
 use borrow.Author.Tests.{lt-ltb}
 use Rattle.format.specs.Slots.{Slot, whole, low, high, halves, flag, reserved, written, Fits, allRoomy, Bytes}
-use Rattle.format.specs.Records.{Block, Record, digital, analogue, fan, led, water, pump, voltage, current, controller, tachometer, zone, string, external, rgb, elementOf}
+use Rattle.format.specs.Records.{Block, Record, digital, analogue, fan, led, water, pump, voltage, current, controller, tachometer, zone}
+use Rattle.format.specs.Records.{string, external, rgb, elementOf}
 use Rattle.format.specs.Layout.{pairs, entries, blocks, part}
 use Rattle.format.specs.Decode.{bind, whenNil, cutBlocks, cutTwo, cutThree}
 use Rattle.format.specs.Writing.{assemble}
@@ -20,7 +20,8 @@ use Rattle.format.specs.declared.records.RegisterPair.{RegisterPair}
 use Rattle.format.specs.declared.records.BusDevice.{BusDevice}
 use Rattle.format.specs.declared.records.ExternalRgb.{ExternalRgb}
 use Rattle.format.specs.declared.records.Element.{Element}
-use Rattle.format.specs.declared.records.Element.the-variants.{Digital, Analogue, Fan, Led, Water, Pump, Voltage, Current, Controller, Tachometer, Zone, Text, External, Rgb}
+use Rattle.format.specs.declared.records.Element.the-variants.{Digital, Analogue, Fan, Led, Water, Pump, Voltage, Current, Controller}
+use Rattle.format.specs.declared.records.Element.the-variants.{Tachometer, Zone, Text, External, Rgb}
 use Rattle.format.proofs.Kept.{and-true}
 use Rattle.format.proofs.Blocks.{BlocksFit, blocks-fits, TwoFit, two-fits, ThreeFit, three-fits}
 use Rattle.format.proofs.Whole.{written-whole}
@@ -108,7 +109,11 @@ module _ (r : Record) where
       subst (MadeOf e []) z (record { element = q; as-written = ap written w })
   bare x e (b ∷ p) q w h = never h
 
-  cut : (d : BusDevice) (p : List ℕ) (o : Option (List Block)) → BlocksFit p o → bind o (λ l. some (controller d l)) ≡ some r → MadeOf (Controller d) p r
+  cut :
+      (d : BusDevice) (p : List ℕ) (o : Option (List Block))
+      → BlocksFit p o
+      → bind o (λ l. some (controller d l)) ≡ some r
+      → MadeOf (Controller d) p r
   cut d p none f h = never h
   cut d p (some l) f h =
       let z : controller d l ≡ r = cc in
@@ -123,7 +128,11 @@ module _ (r : Record) where
   cut-two d p (some t) f h =
       let z : tachometer d (t .0) (t .1) ≡ r = cc in
       subst (MadeOf (Tachometer d) p) z
-      (record { element = refl; as-written = fits-written p (entries (t .0) ++ entries (t .1)) (part-plain (tachometer d (t .0) (t .1))) f })
+      (record {
+        element = refl;
+        as-written = fits-written p (entries (t .0) ++ entries (t .1))
+            (part-plain (tachometer d (t .0) (t .1))) f;
+      })
 
   cut-three :
       (x : ExternalRgb) (p : List ℕ) (o : Option (List RegisterPair × List RegisterPair × List RegisterPair))

@@ -18,7 +18,8 @@ use Rattle.format.specs.declared.pins.Chip.{Chip}
 use Rattle.format.specs.declared.records.Element.the-variants.{Text}
 use Rattle.format.specs.declared.answers.Written.the-variants.{Length, Refused}
 
-module _ (chip : Chip) (b p : List ℕ) (room : leb 16 (length b) ≡ true) (so-far : lengthStands b ≡ true) (shape : shaped (string p) ≡ true) (number : not (eqb (stringNumber p) 0) ≡ true) where
+module _ (chip : Chip) (b p : List ℕ) (room : leb 16 (length b) ≡ true) (so-far : lengthStands b ≡ true)
+    (shape : shaped (string p) ≡ true) (number : not (eqb (stringNumber p) 0) ≡ true) where
   malformed : wellFormed (textOf p) ≡ false → appendAnswer chip b Text p ≡ Refused 9 (stated b)
   unfolding appendAnswer partBreaks ownRules
   malformed w = rw (room, so-far, shape, number, w) refl

@@ -2,7 +2,7 @@
 -- these stands in no list that keeps the rules, and what it takes breaks none of them.
 -- Assumes nothing.
 use Prim.Native.Nat.{ℕ, _+_}
-use mathlib.Core.Path.{_≡_, refl, sym, _∙_, ap, subst}
+use mathlib.Core.Path.{_≡_, refl, sym, subst}
 use mathlib.Core.Bool.{Bool, true, false}
 use mathlib.Core.List.{List, [], _∷_, _++_, append-nil, append-assoc}
 use mathlib.Core.Option.{Option, none, some}
@@ -37,9 +37,13 @@ module _ (σ : Settings) where
       → elementBreaks σ (xs ++ before) r ≡ none
   passed-at xs [] r after h = subst (λ (l : List Record). elementBreaks σ l r ≡ none) (sym (append-nil xs)) (h .1)
   passed-at xs (x ∷ before) r after h =
-      subst (λ (l : List Record). elementBreaks σ l r ≡ none) (append-assoc xs (x ∷ []) before) (passed-at (xs ++ x ∷ []) before r after (h .2))
+      subst (λ (l : List Record). elementBreaks σ l r ≡ none) (append-assoc xs (x ∷ []) before)
+      (passed-at (xs ++ x ∷ []) before r after (h .2))
 
-  pub layout-roomy : (d : Description) (before : List Record) (r : Record) (after : List Record) → Keeps σ d (before ++ r ∷ after) → allRoomy (layout r) ≡ true
+  pub layout-roomy :
+      (d : Description) (before : List Record) (r : Record) (after : List Record)
+      → Keeps σ d (before ++ r ∷ after)
+      → allRoomy (layout r) ≡ true
   layout-roomy d before r after k =
       let rs = before ++ r ∷ after in
       let h = roomy-split (opening d (16 + length (layouts rs))) (layouts rs) (k .roomy-25) .1 in
@@ -51,7 +55,10 @@ module _ (chip : Chip) where
     pub keeps : elementRoomy (elementOf r) ≡ true
     pub whole : partBreaks (writing chip) (elementOf r) (written (part r)) ≡ none
 
-  pub kept-unrefused : (d : Description) (before : List Record) (r : Record) (after : List Record) → Keeps (writing chip) d (before ++ r ∷ after) → Unrefused r
+  pub kept-unrefused :
+      (d : Description) (before : List Record) (r : Record) (after : List Record)
+      → Keeps (writing chip) d (before ++ r ∷ after)
+      → Unrefused r
   kept-unrefused d before r after k =
       let q = roomy-split (fixed (elementOf r)) (part r) (body-roomy r (layout-roomy (writing chip) d before r after k)) in
       record { keeps = q .0; whole = kept-break (writing chip) before r (passed-at (writing chip) [] before r after (k .passed)) (q .1) }
@@ -61,7 +68,11 @@ module _ (chip : Chip) where
   ofTheBuffer (Length n) = true
   ofTheBuffer (Refused k p) = among k (1 ∷ 3 ∷ 16 ∷ [])
 
-  or-buffer : (t : Bool) (k : ℕ) (w : Written) → among k (1 ∷ 3 ∷ 16 ∷ []) ≡ true → ofTheBuffer w ≡ true → ofTheBuffer (orRefused t k 0 w) ≡ true
+  or-buffer :
+      (t : Bool) (k : ℕ) (w : Written)
+      → among k (1 ∷ 3 ∷ 16 ∷ []) ≡ true
+      → ofTheBuffer w ≡ true
+      → ofTheBuffer (orRefused t k 0 w) ≡ true
   or-buffer true k w h g = g
   or-buffer false k w h g = h
 
@@ -98,6 +109,10 @@ module _ (chip : Chip) where
   unfolding partBreaks
   part-eight e p f n = rw (none-made e p f n) refl
 
-  pub part-faults : (e : Element) (p : List ℕ) (r : Record) → Bytes p → MadeOf e p r → partBreaks (writing chip) e p ≡ firstBroken (ownRules (writing chip) r)
+  pub part-faults :
+      (e : Element) (p : List ℕ) (r : Record)
+      → Bytes p
+      → MadeOf e p r
+      → partBreaks (writing chip) e p ≡ firstBroken (ownRules (writing chip) r)
   unfolding partBreaks
   part-faults e p r f m = rw (made r e p f m) refl

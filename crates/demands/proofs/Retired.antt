@@ -2,15 +2,15 @@
 -- nothing retired are written again; and of one that holds it, each such record is refused by append, with 23 at the length so far.
 -- Assumes nothing.
 use Prim.Native.Nat.{ℕ, _≤_}
-use mathlib.Core.Path.{_≡_, refl, sym, _∙_, ap, subst}
+use mathlib.Core.Path.{_≡_, refl, _∙_, ap}
 use mathlib.Core.Bool.{true, false}
-use mathlib.Core.List.{List, [], _∷_, _++_, append-nil, append-assoc}
-use mathlib.Core.Option.{none, some}
+use mathlib.Core.List.{List, [], _∷_, _++_}
+use mathlib.Core.Option.{some}
 use lib.ListN.{length}
 use borrow.Author.Tests.{le-leb}
-use Rattle.format.specs.Slots.{Slot, written, allRoomy}
+use Rattle.format.specs.Slots.{written}
 use Rattle.format.specs.Records.{Record, elementOf}
-use Rattle.format.specs.Layout.{opening, fixed, part, layout, layouts}
+use Rattle.format.specs.Layout.{fixed, part}
 use Rattle.format.specs.Rules.{inUse}
 use Rattle.format.specs.Table.{Keeps}
 use Rattle.format.specs.Verdict.{stated, Accepts}

@@ -30,9 +30,17 @@ use Rattle.format.specs.declared.pins.Chip.{Chip}
 table-length : (d : Description) (rs : List Record) → length (written (table d rs)) ≡ 16 + length (layouts rs)
 table-length d rs = length-written (table d rs) ∙ length-append (opening d (16 + length (layouts rs))) (layouts rs)
 
-pub standing-length : (d : Description) (rs : List Record) (c : List ℕ) → 16 + length (layouts rs) ≤ length c → length (standing d rs c) ≡ length c
+pub standing-length :
+    (d : Description) (rs : List Record) (c : List ℕ)
+    → 16 + length (layouts rs) ≤ length c
+    → length (standing d rs c) ≡ length c
 standing-length d rs c h =
-    omega (arith, length-append (written (table d rs)) (drop (16 + length (layouts rs)) c), table-length d rs, length-drop (16 + length (layouts rs)) c)
+    omega (
+      arith,
+      length-append (written (table d rs)) (drop (16 + length (layouts rs)) c),
+      table-length d rs,
+      length-drop (16 + length (layouts rs)) c,
+    )
 
 standing-stated : (d : Description) (rs : List Record) (c : List ℕ) → stated (standing d rs c) ≡ 16 + length (layouts rs)
 standing-stated d rs c = omega arith
@@ -43,9 +51,12 @@ behind w x c m e =
     let a : take m (w ++ c) ≡ w = take-at w c m e in
     let b : drop (m + length x) (w ++ c) ≡ drop (length x) c =
     sym (drop-drop (length x) m (w ++ c)) ∙ ap (λ (l : List ℕ). drop (length x) l) (drop-at w c m e) in
-    ap (λ (l : List ℕ). (l ++ x) ++ drop (m + length x) (w ++ c)) a ∙ ap (λ (l : List ℕ). (w ++ x) ++ l) b ∙ append-assoc w x (drop (length x) c)
+    ap (λ (l : List ℕ). (l ++ x) ++ drop (m + length x) (w ++ c)) a ∙ ap (λ (l : List ℕ). (w ++ x) ++ l) b
+    ∙ append-assoc w x (drop (length x) c)
 
-relength : (d : Description) (m n : ℕ) (t : List ℕ) → overwritten 1 (written (word n)) (written (opening d m) ++ t) ≡ written (opening d n) ++ t
+relength :
+    (d : Description) (m n : ℕ) (t : List ℕ)
+    → overwritten 1 (written (word n)) (written (opening d m) ++ t) ≡ written (opening d n) ++ t
 relength d m n t = refl
 
 rejoined : (o l x z : List ℕ) → o ++ (l ++ (x ++ z)) ≡ (o ++ (l ++ x)) ++ z
@@ -61,7 +72,9 @@ snoc-written d rs r n e =
     ∙ ap (λ (m : ℕ). written (opening d m) ++ written (layouts (rs ++ r ∷ []))) e
     ∙ sym (written-append (opening d (16 + length (layouts (rs ++ r ∷ [])))) (layouts (rs ++ r ∷ [])))
 
-snoc-length : (rs : List Record) (r : Record) → 16 + length (layouts rs) + length (written (layout r)) ≡ 16 + length (layouts (rs ++ r ∷ []))
+snoc-length :
+    (rs : List Record) (r : Record)
+    → 16 + length (layouts rs) + length (written (layout r)) ≡ 16 + length (layouts (rs ++ r ∷ []))
 snoc-length rs r =
     omega (arith, ap length (layouts-snoc rs r), length-append (layouts rs) (layout r), length-written (layout r))
 
@@ -81,7 +94,8 @@ leaves-standing d rs r c n e =
     ∙ append-assoc o l (x ++ z) in
     let rest : z ≡ drop (16 + length (layouts (rs ++ r ∷ []))) c =
     drop-drop (length x) m c ∙ ap (λ (k : ℕ). drop k c) (snoc-length rs r) in
-    ap (λ (k : ℕ). overwritten 1 (written (word n)) (overwritten k (written (elementSlots (elementOf r) (written (part r)))) (standing d rs c))) (standing-stated d rs c)
+    ap (λ (k : ℕ). overwritten 1 (written (word n))
+    (overwritten k (written (elementSlots (elementOf r) (written (part r)))) (standing d rs c))) (standing-stated d rs c)
     ∙ ap (λ (y : List ℕ). overwritten 1 (written (word n)) (overwritten m y (standing d rs c))) (slots-written r)
     ∙ ap (λ (b : List ℕ). overwritten 1 (written (word n)) b) inner
     ∙ relength d m n (l ++ (x ++ z))
@@ -109,7 +123,17 @@ module _ (chip : Chip) where
       let lb : length b ≡ length c = standing-length d rs c (omega (arith, g, long)) in
       let new : newLength b (elementOf r) (written (part r)) ≡ 16 + length (layouts (rs ++ r ∷ [])) =
       omega (arith, s, slots-length r, g) in
-      rw (le-leb 16 (length b) (omega (arith, lb, g, long)), le-leb 16 (stated b) (omega (arith, s)), le-leb (stated b) 4096 (omega (arith, s, g, top)), le-leb (stated b) (length b) (omega (arith, s, lb, g, long)), q .0, kept-break (writing chip) rs r h (q .1), new, le-leb (16 + length (layouts (rs ++ r ∷ []))) (length b) (omega (arith, lb, long)), le-leb (16 + length (layouts (rs ++ r ∷ []))) 4096 top) refl
+      rw (
+        le-leb 16 (length b) (omega (arith, lb, g, long)),
+        le-leb 16 (stated b) (omega (arith, s)),
+        le-leb (stated b) 4096 (omega (arith, s, g, top)),
+        le-leb (stated b) (length b) (omega (arith, s, lb, g, long)),
+        q .0,
+        kept-break (writing chip) rs r h (q .1),
+        new,
+        le-leb (16 + length (layouts (rs ++ r ∷ []))) (length b) (omega (arith, lb, long)),
+        le-leb (16 + length (layouts (rs ++ r ∷ []))) 4096 top,
+      ) refl
 
 -- all records of the list, each in turn
 rejoin : (before : List Record) (r : Record) (rs : List Record) → before ++ r ∷ rs ≡ (before ++ r ∷ []) ++ rs
@@ -144,5 +168,8 @@ appended chip d before (r ∷ rs) c (w ∷ ws) after k h long top run =
     ∙ ap (λ (v : Written). appendLeaves v (standing d before c) e p) answer
     ∙ leaves-standing d before r c n refl in
     let more =
-    appended chip d next rs c ws after (k .2) (split .1) (subst (λ (l : List Record). 16 + length (layouts l) ≤ length c) (rejoin before r rs) long) (subst (λ (l : List Record). 16 + length (layouts l) ≤ 4096) (rejoin before r rs) top) (subst (λ (l : List ℕ). Appends chip l rs ws after) leaves (run .2)) in
+    appended chip d next rs c ws after (k .2) (split .1)
+    (subst (λ (l : List Record). 16 + length (layouts l) ≤ length c) (rejoin before r rs) long)
+    (subst (λ (l : List Record). 16 + length (layouts l) ≤ 4096) (rejoin before r rs) top)
+    (subst (λ (l : List ℕ). Appends chip l rs ws after) leaves (run .2)) in
     (((n, answer), more .0), more .1 ∙ ap (λ (l : List Record). standing d l c) (sym (rejoin before r rs)))

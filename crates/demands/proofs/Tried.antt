@@ -16,7 +16,6 @@ use Rattle.format.specs.Known.{tableA}
 use Rattle.format.specs.declared.records.Description.{Description}
 use Rattle.format.proofs.Written.{written-fits, written-bytes}
 use Rattle.format.specs.declared.pins.Chip.{Chip}
-use Rattle.format.specs.declared.pins.Chip.the-variants.{C8051F320, C8051F321}
 use Rattle.format.specs.declared.pins.OptionalPin.the-variants.{Unused}
 use Rattle.format.specs.Writing.{writing}
 

@@ -17,12 +17,15 @@ use Rattle.format.specs.declared.pins.Chip.{Chip}
 use Rattle.format.specs.declared.settings.Settings.{Settings}
 use Rattle.format.specs.declared.records.Description.{Description}
 use Rattle.format.specs.declared.records.Element.{Element}
-use Rattle.format.specs.declared.records.Element.the-variants.{Digital, Analogue, Fan, Led, Water, Pump, Voltage, Current, Controller, Tachometer, Zone, Text, External, Rgb}
+use Rattle.format.specs.declared.records.Element.the-variants.{Digital, Analogue, Fan, Led, Water, Pump, Voltage, Current, Controller}
+use Rattle.format.specs.declared.records.Element.the-variants.{Tachometer, Zone, Text, External, Rgb}
 use Rattle.format.proofs.Written.{length-written}
 use Rattle.format.proofs.Lengths.{at-most-96}
 use Rattle.spelling.specs.Spelling.{digit, digitAt, decimal, hexPair, dash, pinText, pinOrDash}
-use Rattle.differing.specs.Fields.{Content, number, pin, shown, hex, contents, described, texts, ownNames, descriptionNames, elementNames, ascii}
-use Rattle.differing.specs.Differences.{Difference, difference, exchanged, same, differing, kind, paired, partnerless, elementwise, descriptionwise, differences, lineOf, lines}
+use Rattle.differing.specs.Fields.{Content, number, pin, shown, hex, contents, described, texts, ownNames, descriptionNames}
+use Rattle.differing.specs.Fields.{elementNames, ascii}
+use Rattle.differing.specs.Differences.{Difference, difference, exchanged, same, differing, kind, paired, partnerless, elementwise}
+use Rattle.differing.specs.Differences.{descriptionwise, differences, lineOf, lines}
 use Rattle.differing.proofs.Tells.{In, AllIn}
 use Rattle.differing.proofs.Ranges.{rooms, contents-in}
 use Rattle.differing.proofs.Equal.{Fair, AllFair, fair, contents-length}
@@ -91,7 +94,8 @@ hex-length (b ∷ bs) = let h = hex-length bs in omega arith
 line-length :
     (d : Difference)
     → length (lineOf d)
-    ≡ 7 + length (d .first .offset) + length (d .second .offset) + length (ascii (d .name)) + length (d .first .content) + length (d .second .content)
+    ≡ 7 + length (d .first .offset) + length (d .second .offset) + length (ascii (d .name)) + length (d .first .content) + length
+    (d .second .content)
 unfolding lineOf
 line-length d = simp length-append (omega arith)
 
@@ -103,7 +107,14 @@ lines-append (d ∷ ds) es =
 lines-exchanged : (ds : List Difference) → length (lines (map exchanged ds)) ≡ length (lines ds)
 lines-exchanged [] = refl
 lines-exchanged (d ∷ ds) =
-    omega (arith, length-append (lineOf (exchanged d)) (lines (map exchanged ds)), length-append (lineOf d) (lines ds), line-length d, line-length (exchanged d), lines-exchanged ds)
+    omega (
+      arith,
+      length-append (lineOf (exchanged d)) (lines (map exchanged ds)),
+      length-append (lineOf d) (lines ds),
+      line-length d,
+      line-length (exchanged d),
+      lines-exchanged ds,
+    )
 
 -- what lines with these names cost beside their contents: x bytes and the name each
 abbrev cost : ℕ → List String → ℕ
@@ -126,7 +137,11 @@ differing-length x o o′ (n ∷ ns) (t ∷ ts) (t′ ∷ ts′) h = go (same t 
         ≤ cost x (n ∷ ns) + size (t ∷ ts) + size (t′ ∷ ts′)
     go true k = omega arith
     go false k =
-        omega (arith, length-append (lineOf (difference o o′ n t t′)) (lines (differing o o′ ns ts ts′)), line-length (difference o o′ n t t′))
+        omega (
+          arith,
+          length-append (lineOf (difference o o′ n t t′)) (lines (differing o o′ ns ts ts′)),
+          line-length (difference o o′ n t t′),
+        )
 
 -- the costliest kind is 01h: 525 bytes at 21 bytes of layout in each table
 names-cost : (e : Element) → cost 15 (elementNames (idOf e)) + 10 * length (contents e) ≤ 441 + 4 * (3 + length (fixed e))
@@ -149,7 +164,13 @@ texts-size : (c : Chip) (r : Record) → Fair c r → size (texts r) ≤ 5 * len
 texts-size c r f =
     let e = elementOf r in
     let p = written (part r) in
-    omega (arith, size-append (map shown (contents e)) (hex p ∷ []), size-5 (contents e) (contents-in c r (rooms (fixed e) (f .fixedRoomy)) (f .pins)), hex-length p, length-written (part r))
+    omega (
+      arith,
+      size-append (map shown (contents e)) (hex p ∷ []),
+      size-5 (contents e) (contents-in c r (rooms (fixed e) (f .fixedRoomy)) (f .pins)),
+      hex-length p,
+      length-written (part r),
+    )
 
 -- a pair
 paired-length :
@@ -183,7 +204,16 @@ paired-length c at at′ r r′ h h′ f f′ = go (eqb (kind r) (kind r′)) re
         let m : cost 15 (elementNames (kind r′)) ≡ cost 15 (elementNames (kind r)) = ap (λ (id : ℕ). cost 15 (elementNames id)) (sym k) in
         let n : length (contents x′) ≡ length (contents x) =
         contents-length x′ ∙ ap (λ (id : ℕ). length (ownNames id)) (sym k) ∙ sym (contents-length x) in
-        omega (arith, differing-length 15 (decimal at) (decimal at′) (elementNames (kind r)) (texts r) (texts r′) (omega (arith, o, o′)), texts-size c r f, texts-size c r′ f′, names-cost x, names-cost x′, length-append (fixed x) (part r), length-append (fixed x′) (part r′))
+        omega (
+          arith,
+          differing-length 15 (decimal at) (decimal at′) (elementNames (kind r)) (texts r) (texts r′) (omega (arith, o, o′)),
+          texts-size c r f,
+          texts-size c r′ f′,
+          names-cost x,
+          names-cost x′,
+          length-append (fixed x) (part r),
+          length-append (fixed x′) (part r′),
+        )
     go false e =
         let d = difference (decimal at) (decimal at′) "kind" (hexPair (kind r)) (hexPair (kind r′)) in
         omega (arith, length-append (lineOf d) [], line-length d, o, o′)
@@ -195,7 +225,13 @@ partnerless-length at (r ∷ rs) h =
     let d = difference (decimal at) dash "kind" (hexPair (kind r)) dash in
     let m = at + length (layout r) in
     let l = length-append (layout r) (layouts rs) in
-    omega (arith, length-append (lineOf d) (lines (partnerless m rs)), line-length d, decimal-length at .2 (omega arith), partnerless-length m rs (omega arith))
+    omega (
+      arith,
+      length-append (lineOf d) (lines (partnerless m rs)),
+      line-length d,
+      decimal-length at .2 (omega arith),
+      partnerless-length m rs (omega arith),
+    )
 
 elementwise-length :
     (c : Chip) (n at at′ : ℕ) (rs rs′ : List Record)
@@ -224,9 +260,19 @@ descriptionwise-length : (d d′ : Description) → length (lines (descriptionwi
 unfolding descriptionwise
 descriptionwise-length d d′ =
     let o = decimal-length 0 .2 (omega arith) in
-    omega (arith, differing-length 15 (decimal 0) (decimal 0) descriptionNames (map shown (described d)) (map shown (described d′)) (omega arith), size-8 (described d), size-8 (described d′))
+    omega (
+      arith,
+      differing-length 15 (decimal 0) (decimal 0) descriptionNames (map shown (described d)) (map shown (described d′))
+          (omega arith),
+      size-8 (described d),
+      size-8 (described d′),
+    )
 
-pub text-bound : (s : Settings) (d d′ : Description) (rs rs′ : List Record) → Keeps s d rs → Keeps s d′ rs′ → length (lines (differences d rs d′ rs′)) ≤ 59016
+pub text-bound :
+    (s : Settings) (d d′ : Description) (rs rs′ : List Record)
+    → Keeps s d rs
+    → Keeps s d′ rs′
+    → length (lines (differences d rs d′ rs′)) ≤ 59016
 text-bound s d d′ rs rs′ k k′ =
     let l = length-append (opening d (16 + length (layouts rs))) (layouts rs) in
     let l′ = length-append (opening d′ (16 + length (layouts rs′))) (layouts rs′) in
@@ -234,4 +280,9 @@ text-bound s d d′ rs rs′ k k′ =
     let t′ : 16 + length (layouts rs′) ≤ 4096 = omega (arith, k′ .limit) in
     let m : length rs ≤ 96 = omega (arith, at-most-96 s [] rs (omega arith) (k .passed)) in
     let m′ : length rs′ ≤ 96 = omega (arith, at-most-96 s [] rs′ (omega arith) (k′ .passed)) in
-    omega (arith, lines-append (descriptionwise d d′) (elementwise 16 16 rs rs′), descriptionwise-length d d′, elementwise-length (s .chip) 96 16 16 rs rs′ m m′ t t′ (fair s d rs k) (fair s d′ rs′ k′))
+    omega (
+      arith,
+      lines-append (descriptionwise d d′) (elementwise 16 16 rs rs′),
+      descriptionwise-length d d′,
+      elementwise-length (s .chip) 96 16 16 rs rs′ m m′ t t′ (fair s d rs k) (fair s d′ rs′ k′),
+    )

@@ -1,18 +1,18 @@
 -- For the code to come: texts are compared by comparing the contents themselves.
 -- Assumes nothing.
-use Prim.Native.Nat.{ℕ, _<_, _≤_}
+use Prim.Native.Nat.{ℕ, _<_}
 use native.Mathlib.Omega.{arith}
-use mathlib.Core.Path.{_≡_, refl, sym, _∙_, ap}
+use mathlib.Core.Path.{_≡_, refl, ap}
 use mathlib.Core.Bool.{Bool, true, false}
 use mathlib.Core.List.{List}
 use lib.Dec.{eqb}
 use borrow.Author.Tests.{eqb-true, eqb-false}
 use Rattle.format.specs.Slots.{Bytes}
 use Rattle.spelling.specs.Spelling.{decimal, pinOrDash}
-use Rattle.differing.specs.Fields.{Content, number, pin, shown, hex}
+use Rattle.differing.specs.Fields.{number, pin, hex}
 use Rattle.differing.specs.Differences.{same}
 use Rattle.differing.proofs.Nothing.{same-refl, same-true}
-use Rattle.differing.proofs.Tells.{plain, In, shown-tells, hex-tells}
+use Rattle.differing.proofs.Tells.{plain, shown-tells, hex-tells}
 
 -- a test that is true of equal texts alone answers as `same` does
 pub by-test : (s t : List ℕ) (b : Bool) → (b ≡ true → s ≡ t) → (b ≡ false → s ≡ t → ⊥) → same s t ≡ b

@@ -18,7 +18,8 @@ use Rattle.format.specs.declared.pins.Chip.{Chip}
 use Rattle.format.specs.declared.settings.Settings.{Settings}
 use Rattle.format.specs.declared.records.Description.{Description}
 use Rattle.format.specs.declared.records.Element.{Element}
-use Rattle.format.specs.declared.records.Element.the-variants.{Digital, Analogue, Fan, Led, Water, Pump, Voltage, Current, Controller, Tachometer, Zone, Text, External, Rgb}
+use Rattle.format.specs.declared.records.Element.the-variants.{Digital, Analogue, Fan, Led, Water, Pump, Voltage, Current, Controller}
+use Rattle.format.specs.declared.records.Element.the-variants.{Tachometer, Zone, Text, External, Rgb}
 use Rattle.format.proofs.Slots.{roomy-split}
 use Rattle.format.proofs.Kept.{own-kept, own-unbroken, description-kept}
 use Rattle.format.proofs.Written.{written-fits, written-bytes, length-written}
@@ -52,7 +53,13 @@ contents-length (Rgb r) = refl
 texts-length : (r : Record) → length (texts r) ≡ length (elementNames (kind r))
 texts-length r =
     let cs = contents (elementOf r) in
-    omega (arith, length-append (map shown cs) (hex (written (part r)) ∷ []), length-map cs shown, contents-length (elementOf r), length-append (ownNames (kind r)) ("variable part" ∷ []))
+    omega (
+      arith,
+      length-append (map shown cs) (hex (written (part r)) ∷ []),
+      length-map cs shown,
+      contents-length (elementOf r),
+      length-append (ownNames (kind r)) ("variable part" ∷ []),
+    )
 
 -- what is used of a record that keeps the rules: 25 and 10
 pub record Fair (c : Chip) (r : Record) : Type 0 where
@@ -84,13 +91,20 @@ written-layout : (r : Record) → written (layout r) ≡ headedFrom (kind r) (wr
 unfolding headedFrom
 written-layout r = rw (sym (written-append (fixed (elementOf r)) (part r)), length-written (body r)) refl
 
-record-told : (c : Chip) (r r′ : Record) → Fair c r → Fair c r′ → kind r ≡ kind r′ → texts r ≡ texts r′ → written (layout r) ≡ written (layout r′)
+record-told :
+    (c : Chip) (r r′ : Record)
+    → Fair c r
+    → Fair c r′
+    → kind r ≡ kind r′
+    → texts r ≡ texts r′
+    → written (layout r) ≡ written (layout r′)
 record-told c r r′ f f′ k e =
     let x = elementOf r in
     let x′ = elementOf r′ in
     let p = written (part r) in
     let p′ = written (part r′) in
-    let l : length (contents x) ≡ length (contents x′) = contents-length x ∙ ap (λ (id : ℕ). length (ownNames id)) k ∙ sym (contents-length x′) in
+    let l : length (contents x) ≡ length (contents x′) = contents-length x ∙ ap (λ (id : ℕ). length (ownNames id)) k
+    ∙ sym (contents-length x′) in
     let t = contents-tell (omega arith) (contents x) (contents x′) (hex p ∷ []) (hex p′ ∷ []) l
     (contents-in c r (rooms (fixed x) (f .fixedRoomy)) (f .pins))
     (contents-in c r′ (rooms (fixed x′) (f′ .fixedRoomy)) (f′ .pins)) e in
@@ -118,7 +132,8 @@ paired-nothing c at at′ r r′ f f′ h = go (eqb (kind r) (kind r′)) refl h
     go true e h =
         let k = eqb-true (kind r) (kind r′) e in
         let l : length (texts r′) ≡ length (elementNames (kind r)) = texts-length r′ ∙ ap (λ (id : ℕ). length (elementNames id)) (sym k) in
-        record-told c r r′ f f′ k (differing-nothing (decimal at) (decimal at′) (elementNames (kind r)) (texts r) (texts r′) (texts-length r) l h)
+        record-told c r r′ f f′ k (differing-nothing (decimal at) (decimal at′) (elementNames (kind r)) (texts r) (texts r′)
+        (texts-length r) l h)
     go false e h = let z : _≡_ {A = ℕ} 0 1 = cc in absurd (omega arith)
 
 elementwise-nothing :
@@ -149,11 +164,13 @@ pub fair : (s : Settings) (d : Description) (rs : List Record) → Keeps s d rs 
 fair s d rs k = all-fair s [] rs (roomy-split (opening d (16 + length (layouts rs))) (layouts rs) (k .roomy-25) .1) (k .passed)
 
 descriptionwise-nothing :
-    (s : Settings) (d d′ : Description) (rs rs′ : List Record) → Keeps s d rs → Keeps s d′ rs′ → descriptionwise d d′ ≡ [] → described d ≡ described d′
+    (s : Settings) (d d′ : Description) (rs rs′ : List Record) → Keeps s d rs → Keeps s d′ rs′ → descriptionwise d d′ ≡ [] → described d
+    ≡ described d′
 unfolding descriptionwise
 descriptionwise-nothing s d d′ rs rs′ k k′ h =
     let e = differing-nothing (decimal 0) (decimal 0) descriptionNames (map shown (described d)) (map shown (described d′)) refl refl h in
-    contents-tell (omega arith) (described d) (described d′) [] [] refl (range s d rs k) (range s d′ rs′ k′) (ap (λ (l : List (List ℕ)). l ++ []) e) .0
+    contents-tell (omega arith) (described d) (described d′) [] [] refl (range s d rs k) (range s d′ rs′ k′)
+    (ap (λ (l : List (List ℕ)). l ++ []) e) .0
 
 -- tables that are written alike have the same records: 'There is then only one such list'
 written-alike :
@@ -168,7 +185,8 @@ written-alike s d d′ rs rs′ k k′ e w =
     let n = 16 + length (layouts rs) in
     let n′ = 16 + length (layouts rs′) in
     let l : n ≡ n′ = omega (arith, length-written (layouts rs), length-written (layouts rs′), ap length w) in
-    let o : written (opening d n) ≡ written (opening d′ n′) = opening-bytes d n ∙ (λ i. openingFrom (l i) (e i)) ∙ sym (opening-bytes d′ n′) in
+    let o : written (opening d n) ≡ written (opening d′ n′) = opening-bytes d n ∙ (λ i. openingFrom (l i) (e i))
+    ∙ sym (opening-bytes d′ n′) in
     let q : b ≡ written (table d′ rs′) =
     written-append (opening d n) (layouts rs) ∙ (λ i. o i ++ w i) ∙ sym (written-append (opening d′ n′) (layouts rs′)) in
     only-one-list s b d d′ rs rs′ (written-bytes (table d rs) (k .roomy-25))

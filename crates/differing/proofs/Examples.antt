@@ -20,11 +20,13 @@ a serial p = descriptionOf 2 0 serial true 0 (optionalOf C8051F320 p) Unused Unu
 abbrev f : ℕ → ℕ → Record
 f x z = fan (fanOf (placementOf 0 x 0xff 0xff z) (pinOf C8051F320 0x05) (Used (pinOf C8051F320 0x06)) 2 300 1500 64)
 
-described-so : lines (differences (a 7 0xff) [] (a 41 0x30) []) ≡ ascii "D\t0\t0\tserial number\t7\t41\nD\t0\t0\thardware revision 0\t-\tP3.0\n"
+described-so : lines (differences (a 7 0xff) [] (a 41 0x30) [])
+    ≡ ascii "D\t0\t0\tserial number\t7\t41\nD\t0\t0\thardware revision 0\t-\tP3.0\n"
 unfolding lineOf descriptionwise paired decimal
 described-so = refl
 
-moved-so : lines (differences (a 7 0xff) (f 0xff 1 ∷ []) (a 7 0xff) (f 120 2 ∷ [])) ≡ ascii "D\t16\t16\tx pos\t255\t120\nD\t16\t16\tzone identifier\t1\t2\n"
+moved-so : lines (differences (a 7 0xff) (f 0xff 1 ∷ []) (a 7 0xff) (f 120 2 ∷ []))
+    ≡ ascii "D\t16\t16\tx pos\t255\t120\nD\t16\t16\tzone identifier\t1\t2\n"
 unfolding lineOf descriptionwise paired decimal
 moved-so = refl
 

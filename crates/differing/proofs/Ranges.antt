@@ -9,7 +9,8 @@ use lib.ListN.{drop}
 use lib.Dec.{eqb, ltb}
 use borrow.Author.Tests.{ltb-true, eqb-true}
 use Rattle.format.specs.Slots.{Slot, whole, low, high, halves, flag, reserved, bit, roomy, allRoomy}
-use Rattle.format.specs.Records.{Record, digital, analogue, fan, led, water, pump, voltage, current, controller, tachometer, zone, string, external, rgb, elementOf}
+use Rattle.format.specs.Records.{Record, digital, analogue, fan, led, water, pump, voltage, current, controller, tachometer, zone, string}
+use Rattle.format.specs.Records.{external, rgb, elementOf}
 use Rattle.format.specs.Layout.{optionalByte, address, placement, motor, fixed, opening}
 use Rattle.format.specs.Pins.{among, ofChip, permitted, allowed, allowedOrUnused}
 use Rattle.format.specs.Rules.{selected, strapped, fanned, pinned, rises}
@@ -25,7 +26,8 @@ use Rattle.format.specs.declared.records.Placement.{Placement}
 use Rattle.format.specs.declared.records.PwmFan.{PwmFan}
 use Rattle.format.specs.declared.records.Address.{Address}
 use Rattle.format.specs.declared.records.Address.the-variants.{Bus, Select}
-use Rattle.format.specs.declared.records.Element.the-variants.{Digital, Analogue, Led, Water, Voltage, Current, Controller, Tachometer, External, Rgb}
+use Rattle.format.specs.declared.records.Element.the-variants.{Digital, Analogue, Led, Water, Voltage, Current, Controller, Tachometer}
+use Rattle.format.specs.declared.records.Element.the-variants.{External, Rgb}
 use Rattle.format.proofs.Kept.{and-true}
 use Rattle.differing.specs.Fields.{Content, addressed, placed, driven, contents, described}
 use Rattle.differing.proofs.Tells.{plain, In, AllIn}

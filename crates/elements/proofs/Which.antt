@@ -2,7 +2,7 @@
 -- Assumes nothing.
 use Prim.Native.Nat.{ℕ, _≤_}
 use native.Mathlib.Omega.{arith}
-use mathlib.Core.Path.{_≡_, refl, sym, _∙_, ap}
+use mathlib.Core.Path.{_≡_, refl, _∙_, ap}
 use mathlib.Core.Bool.{Bool, true, false}
 use mathlib.Core.List.{List}
 use mathlib.Core.Option.{Option, none, some}
@@ -10,11 +10,14 @@ use lib.ListN.{length, drop}
 use lib.Dec.{eqb, leb}
 use borrow.Author.Tests.{eqb-true, leb-true, ne-eqb}
 use Rattle.format.specs.Slots.{byte}
-use Rattle.format.specs.Records.{Record, digital, analogue, fan, led, water, pump, voltage, current, controller, tachometer, zone, string, external, rgb, elementOf}
-use Rattle.format.specs.Decode.{readDigital, readAnalogue, readFan, readLed, readWater, readVoltage, readCurrent, readDevice, readExternal, readRgb, guard, bind, pick, cutBlocks, cutTwo, cutThree, decode}
+use Rattle.format.specs.Records.{Record, digital, analogue, fan, led, water, pump, voltage, current, controller, tachometer, zone, string}
+use Rattle.format.specs.Records.{external, rgb, elementOf}
+use Rattle.format.specs.Decode.{readDigital, readAnalogue, readFan, readLed, readWater, readVoltage, readCurrent, readDevice}
+use Rattle.format.specs.Decode.{readExternal, readRgb, guard, bind, pick, cutBlocks, cutTwo, cutThree, decode}
 use Rattle.format.specs.declared.pins.Chip.{Chip}
 use Rattle.format.specs.declared.records.Element.{Element}
-use Rattle.format.specs.declared.records.Element.the-variants.{Digital, Analogue, Fan, Led, Water, Pump, Voltage, Current, Controller, Tachometer, Zone, Text, External, Rgb}
+use Rattle.format.specs.declared.records.Element.the-variants.{Digital, Analogue, Fan, Led, Water, Pump, Voltage, Current, Controller}
+use Rattle.format.specs.declared.records.Element.the-variants.{Tachometer, Zone, Text, External, Rgb}
 
 guard-some : {A : Type 0} (t : Bool) (o : Option A) (x : A) → guard t o ≡ some x → (t ≡ true) × (o ≡ some x)
 guard-some true o x h = (refl, h)
@@ -76,20 +79,32 @@ module _ (chip : Chip) (c : List ℕ) (x : Record) where
   pub is-controller : decode chip 9 c ≡ some x → (8 ≤ length c) × (Controller (readDevice chip (byte c)) ≡ elementOf x)
   unfolding decode
   is-controller h =
-      let p = guard-some (leb 8 (length c)) (bind (cutBlocks (length c) (drop 8 c)) (λ l. some (controller (readDevice chip (byte c)) l))) x h in
-      (leb-true 8 (length c) (p .0), bind-element (cutBlocks (length c) (drop 8 c)) (λ l. controller (readDevice chip (byte c)) l) (Controller (readDevice chip (byte c))) x (λ l. refl) (p .1))
+      let p = guard-some (leb 8 (length c)) (bind (cutBlocks (length c) (drop 8 c)) (λ l. some (controller (readDevice chip (byte c)) l)))
+      x h in (
+        leb-true 8 (length c) (p .0),
+        bind-element (cutBlocks (length c) (drop 8 c)) (λ l. controller (readDevice chip (byte c)) l)
+            (Controller (readDevice chip (byte c))) x (λ l. refl) (p .1),
+      )
 
   pub is-tachometer : decode chip 10 c ≡ some x → (9 ≤ length c) × (Tachometer (readDevice chip (byte c)) ≡ elementOf x)
   unfolding decode
   is-tachometer h =
-      let p = guard-some (leb 9 (length c)) (bind (cutTwo (drop 9 c)) (λ t. some (tachometer (readDevice chip (byte c)) (t .0) (t .1)))) x h in
-      (leb-true 9 (length c) (p .0), bind-element (cutTwo (drop 9 c)) (λ t. tachometer (readDevice chip (byte c)) (t .0) (t .1)) (Tachometer (readDevice chip (byte c))) x (λ t. refl) (p .1))
+      let p = guard-some (leb 9 (length c)) (bind (cutTwo (drop 9 c)) (λ t. some (tachometer (readDevice chip (byte c)) (t .0) (t .1)))) x
+      h in (
+        leb-true 9 (length c) (p .0),
+        bind-element (cutTwo (drop 9 c)) (λ t. tachometer (readDevice chip (byte c)) (t .0) (t .1))
+            (Tachometer (readDevice chip (byte c))) x (λ t. refl) (p .1),
+      )
 
   pub is-external : decode chip 13 c ≡ some x → (9 ≤ length c) × (External (readExternal chip (byte c)) ≡ elementOf x)
   unfolding decode
   is-external h =
-      let p = guard-some (leb 9 (length c)) (bind (cutThree (drop 9 c)) (λ t. some (external (readExternal chip (byte c)) (t .0) (t .1) (t .2)))) x h in
-      (leb-true 9 (length c) (p .0), bind-element (cutThree (drop 9 c)) (λ t. external (readExternal chip (byte c)) (t .0) (t .1) (t .2)) (External (readExternal chip (byte c))) x (λ t. refl) (p .1))
+      let p = guard-some (leb 9 (length c)) (bind (cutThree (drop 9 c))
+      (λ t. some (external (readExternal chip (byte c)) (t .0) (t .1) (t .2)))) x h in (
+        leb-true 9 (length c) (p .0),
+        bind-element (cutThree (drop 9 c)) (λ t. external (readExternal chip (byte c)) (t .0) (t .1) (t .2))
+            (External (readExternal chip (byte c))) x (λ t. refl) (p .1),
+      )
 
   pub is-text : decode chip 12 c ≡ some x → Text ≡ elementOf x
   unfolding decode
@@ -116,7 +131,21 @@ module _ (chip : Chip) (c : List ℕ) (x : Record) where
   unfolding decode
   is-zone id a b d e f g i j k l m n o h =
       go (eqb id 11)
-      (rw (ne-eqb id 1 a, ne-eqb id 2 b, ne-eqb id 3 d, ne-eqb id 4 e, ne-eqb id 5 f, ne-eqb id 6 g, ne-eqb id 7 i, ne-eqb id 8 j, ne-eqb id 9 k, ne-eqb id 10 l, ne-eqb id 12 m, ne-eqb id 13 n, ne-eqb id 14 o) at h)
+      (rw (
+        ne-eqb id 1 a,
+        ne-eqb id 2 b,
+        ne-eqb id 3 d,
+        ne-eqb id 4 e,
+        ne-eqb id 5 f,
+        ne-eqb id 6 g,
+        ne-eqb id 7 i,
+        ne-eqb id 8 j,
+        ne-eqb id 9 k,
+        ne-eqb id 10 l,
+        ne-eqb id 12 m,
+        ne-eqb id 13 n,
+        ne-eqb id 14 o,
+      ) at h)
     where
       go : (t : Bool) → pick t (some (zone c)) none ≡ some x → Zone ≡ elementOf x
       go true q = let z : zone c ≡ x = cc in ap elementOf z

@@ -1,6 +1,5 @@
 // An element's bytes as a case of the element enum, where its variable part starts, its identifier and its position.
 ghost use mathlib.Core.Path.{_≡_};
-ghost use mathlib.Core.Bool.{true};
 ghost use mathlib.Core.Option.{some};
 ghost use Rattle.format.specs.Records.{Record, elementOf, unknownPosition};
 ghost use Rattle.format.specs.Layout.{idOf, optionalByte};

@@ -1,29 +1,27 @@
 -- What the answer says of the records: it is that of a walk over all elements; the position is that of a fan or a pump of the zone,
 -- before which there is none; and of a zone that nobody declares it is no, after all elements.
 -- Assumes nothing.
-use Prim.Native.Nat.{ℕ, zero, suc, _+_, _≤_}
+use Prim.Native.Nat.{ℕ, suc, _+_, _≤_}
 use native.Mathlib.Omega.{arith}
 use native.Mathlib.Numerals.{add-one}
 use mathlib.Core.Path.{_≡_, refl, sym, _∙_, ap, subst}
-use mathlib.Core.Bool.{Bool, true, false, _||_, _&&_, cond, false≢true}
+use mathlib.Core.Bool.{Bool, true, false, _||_, cond, false≢true}
 use mathlib.Core.List.{List, [], _∷_}
 use mathlib.Core.Logic.{_⊎_, inl, inr}
 use mathlib.Core.Option.{Option, none, some}
 use lib.ListN.{length, take}
-use lib.Dec.{eqb}
 use borrow.Author.Tests.{eqb-true}
 use Rattle.format.specs.Records.{Record}
 use Rattle.format.specs.Layout.{layout}
 use Rattle.format.specs.Pins.{among}
 use Rattle.format.specs.Rules.{unlessKept}
-use Rattle.format.specs.ZonesAndStrings.{Role, placed, role, zoneNamed, zones, allAmong, firstNaming}
+use Rattle.format.specs.ZonesAndStrings.{role, zoneNamed, zones, allAmong, firstNaming}
 use Rattle.format.specs.Verdict.{Accepts}
 use Rattle.format.specs.Asked.{nth}
 use Rattle.format.specs.declared.settings.Settings.{Settings}
 use Rattle.format.specs.declared.records.Description.{Description}
 use Rattle.format.proofs.Kept.{and-true}
 use Rattle.fans.specs.InZone.{motorIn, later, firstMotor, visit, visits, inZone, anyMotor}
-use Rattle.fans.specs.declared.Visit.{Visit}
 use Rattle.fans.proofs.Telling.{Motor, Other, either}
 
 -- 'The answer equals that of a walk over all elements'

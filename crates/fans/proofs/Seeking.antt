@@ -32,7 +32,8 @@ pub begun : (t : List ℕ) (z : ℕ) → Seeking t z 16 0
 begun t z σ d rs a = record { d = d; done = []; left = rs; accepts = a; place = refl; state = (sym (stops z rs), refl) }
 
 -- the element at this place: the bytes that a visit is lent are its own, and no 97th is visited
-module _ (σ : Settings) (t : List ℕ) (z at count : ℕ) (rs : List Record) (w : Walk σ t at (Sought z rs count)) (g : Next σ t at (w .done) (w .left)) where
+module _ (σ : Settings) (t : List ℕ) (z at count : ℕ) (rs : List Record) (w : Walk σ t at (Sought z rs count))
+    (g : Next σ t at (w .done) (w .left)) where
   few : count < 96
   few =
       omega (

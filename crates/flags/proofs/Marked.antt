@@ -5,7 +5,7 @@ use native.Mathlib.Omega.{arith}
 use mathlib.Core.Path.{_≡_, refl, sym, _∙_}
 use mathlib.Core.Bool.{Bool, true, false, _||_, false≢true}
 use mathlib.Core.List.{List, [], _∷_, _++_, append-nil}
-use lib.ListN.{length, getD, set, length-set, replicate, length-replicate, getD-replicate}
+use lib.ListN.{getD, set, length-set, replicate, length-replicate, getD-replicate}
 use lib.Seq.{getD-set-same, getD-set-other}
 use lib.Dec.{eqb}
 use borrow.Author.Tests.{eqb-true, eqb-false}
@@ -35,7 +35,12 @@ or-not false = refl
 
 pub marks-put : (l : List Bool) (ns : List ℕ) (x : ℕ) → x < 256 → Marks l ns → Marks (set l x true) (ns ++ x ∷ [])
 marks-put l ns x s m =
-    record { size = length-set l x true ∙ m .size; low = λ i h. below i (among i ns) refl (eqb i x) refl (sym (among-snoc i ns x) ∙ h); flag = λ i h. go i h (eqb i x) refl }
+    record {
+      size = length-set l x true ∙ m .size;
+      low = λ i h. below i (among i ns) refl (eqb i x) refl
+          (sym (among-snoc i ns x) ∙ h);
+      flag = λ i h. go i h (eqb i x) refl;
+    }
   where
     below : (i : ℕ) (a : Bool) → among i ns ≡ a → (b : Bool) → eqb i x ≡ b → among i ns || eqb i x ≡ true → i < 256
     below i true p b q h = m .low i p

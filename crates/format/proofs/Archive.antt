@@ -7,22 +7,23 @@ use native.Mathlib.Omega.{arith}
 use mathlib.Core.Path.{_≡_, refl}
 use mathlib.Core.Bool.{Bool, true, false, _||_, not}
 use mathlib.Core.List.{List, [], _∷_, _++_}
-use mathlib.Core.Option.{Option, none, some}
-use Rattle.format.specs.Records.{Record, digital, analogue, fan, led, water, pump, voltage, current, controller, tachometer, zone, string, external, rgb, elementOf}
+use mathlib.Core.Option.{Option, some}
+use Rattle.format.specs.Records.{Record, digital, analogue, fan, led, water, pump, voltage, current, controller, tachometer, zone}
+use Rattle.format.specs.Records.{string, external, rgb, elementOf}
 use Rattle.format.specs.Pins.{among}
-use Rattle.format.specs.Rules.{rule, unlessKept, firstBroken, ownRules, shaped, coded, inUse, pinned, busTypes, ofItsBus, addressed, filled, chipIdentifiers}
+use Rattle.format.specs.Rules.{rule, unlessKept, firstBroken, ownRules, shaped, coded, inUse, pinned, busTypes}
 use Rattle.format.specs.ZonesAndStrings.{rulesAgainst}
-use Rattle.format.specs.Table.{elementBreaks, PassKept, Keeps}
-use Rattle.format.specs.Verdict.{Breaks, header, crowded, unknown, unlaid, faulty, Passed, Accepts, Verdict, accepted, short, unrevised, missized, misdescribed, stopped, unzoned, unnamed, clashing}
+use Rattle.format.specs.Table.{elementBreaks, PassKept}
+use Rattle.format.specs.Verdict.{Breaks, header, crowded, unknown, unlaid, faulty, Passed, Accepts, Verdict, accepted, short}
+use Rattle.format.specs.Verdict.{unrevised, missized, misdescribed, stopped, unzoned, unnamed, clashing}
 use Rattle.format.specs.Answers.{numberOf}
 use Rattle.format.specs.Archive.{withRules, NoneRetired}
 use Rattle.format.specs.declared.settings.Settings.{Settings}
 use Rattle.format.specs.declared.settings.Rules.{Rules}
 use Rattle.format.specs.declared.settings.Rules.the-variants.{Ordinary, Archive}
 use Rattle.format.specs.declared.records.Description.{Description}
-use Rattle.format.specs.declared.records.Address.{Address}
 use Rattle.format.specs.declared.answers.Answer.{Answer}
-use Rattle.format.proofs.Kept.{and-true, own-kept, own-unbroken}
+use Rattle.format.proofs.Kept.{own-kept, own-unbroken}
 
 -- a test or its opposite
 pub either-way : (t : Bool) → not t || t ≡ true
@@ -68,7 +69,8 @@ module _ (s : Settings) (j k : Rules) where
       → elementBreaks (withRules k s) before r ≡ x
   unfolding ownRules
   element-under before r f h n =
-      other-test (shaped r) (coded r) (inUse j (elementOf r)) (inUse k (elementOf r)) (firstBroken (rule 10 (pinned (s .chip) r) ∷ rulesAgainst before r)) f h n
+      other-test (shaped r) (coded r) (inUse j (elementOf r)) (inUse k (elementOf r))
+      (firstBroken (rule 10 (pinned (s .chip) r) ∷ rulesAgainst before r)) f h n
 
   abbrev EachInUse : List Record → Type 0
   EachInUse [] = Unit {0}
@@ -82,7 +84,11 @@ module _ (s : Settings) (j k : Rules) where
     passed-under (before ++ r ∷ []) rs (f .1) (h .2),
   )
 
-  accepts-under : (b : List ℕ) (d : Description) (rs : List Record) → EachInUse rs → Accepts (withRules j s) b d rs → Accepts (withRules k s) b d rs
+  accepts-under :
+      (b : List ℕ) (d : Description) (rs : List Record)
+      → EachInUse rs
+      → Accepts (withRules j s) b d rs
+      → Accepts (withRules k s) b d rs
   accepts-under b d rs f a =
       let h = a .keeps in
       record {
@@ -111,7 +117,10 @@ module _ (s : Settings) where
   kept-archive : (before rs : List Record) → PassKept (withRules Ordinary s) before rs → PassKept (withRules Archive s) before rs
   kept-archive before rs h = passed-under s Ordinary Archive before rs (each-coded rs) h
 
-  passed-archive : (b : List ℕ) (d : Description) (rs : List Record) → Passed (withRules Ordinary s) b d rs → Passed (withRules Archive s) b d rs
+  passed-archive :
+      (b : List ℕ) (d : Description) (rs : List Record)
+      → Passed (withRules Ordinary s) b d rs
+      → Passed (withRules Archive s) b d rs
   passed-archive b d rs p =
       record { limit = p .limit; fits = p .fits; described = p .described; passed = kept-archive [] rs (p .passed) }
 
@@ -124,8 +133,10 @@ module _ (s : Settings) where
 
   none-retired : (before rs : List Record) → PassKept (withRules Ordinary s) before rs → NoneRetired rs
   none-retired before [] h = tt
-  none-retired before (r ∷ rs) h =
-      (own-kept (withRules Ordinary s) r (own-unbroken (withRules Ordinary s) before r (h .1)) .use-23, none-retired (before ++ r ∷ []) rs (h .2))
+  none-retired before (r ∷ rs) h = (
+    own-kept (withRules Ordinary s) r (own-unbroken (withRules Ordinary s) before r (h .1)) .use-23,
+    none-retired (before ++ r ∷ []) rs (h .2),
+  )
 
   pub ordinary-current : (b : List ℕ) (d : Description) (rs : List Record) → Accepts (withRules Ordinary s) b d rs → NoneRetired rs
   ordinary-current b d rs a = none-retired [] rs (a .keeps .passed)

@@ -2,7 +2,7 @@
 -- Assumes nothing.
 use Prim.Native.Nat.{ℕ, zero, suc}
 use native.Mathlib.Omega.{arith}
-use mathlib.Core.Path.{_≡_, refl, sym, _∙_, ap}
+use mathlib.Core.Path.{_≡_, refl, ap}
 use mathlib.Core.List.{List, [], _∷_, _++_}
 use mathlib.Core.Option.{Option, none, some}
 use lib.ListN.{take, drop}
@@ -96,7 +96,12 @@ module _ (s : Settings) where
   pub gives-some : (b : List ℕ) (k : ℕ) → Bytes b → (r : Asked) × (bs : List ℕ) × Gives s b k r bs
   gives-some b k small = go (verdictOf s b) (meets s b small)
     where
-      among-all : (d : Fields) (rs : List Record) → Accepts s b d rs → (o : Option Record) → nth rs k ≡ o → (r : Asked) × (bs : List ℕ) × Gives s b k r bs
+      among-all :
+          (d : Fields) (rs : List Record)
+          → Accepts s b d rs
+          → (o : Option Record)
+          → nth rs k ≡ o
+          → (r : Asked) × (bs : List ℕ) × Gives s b k r bs
       among-all d rs a none e = (NotGiven 17 0, [], past d rs a e)
       among-all d rs a (some x) e = (Element (elementOf x), written (part x), given d rs a e)
 

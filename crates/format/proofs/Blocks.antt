@@ -1,13 +1,13 @@
 -- The blocks of register pairs: those that fit are those that are cut, and those that are cut fit.
 -- Assumes nothing.
-use Prim.Native.Nat.{ℕ, zero, suc, _+_, _-_, _*_, _/_, _%_, _≤_, _<_}
+use Prim.Native.Nat.{ℕ, zero, suc, _+_, _-_, _*_, _≤_}
 use native.Mathlib.Omega.{arith}
 use mathlib.Core.Path.{_≡_, refl, sym, _∙_, ap}
 use mathlib.Core.Bool.{Bool, true, false}
-use mathlib.Core.List.{List, [], _∷_, _++_, append-nil}
+use mathlib.Core.List.{List, [], _∷_, _++_}
 use mathlib.Core.Option.{Option, none, some}
-use lib.Dec.{eqb, ltb, leb}
-use lib.ListN.{length, take, drop, length-take, length-drop, length-append}
+use lib.Dec.{leb}
+use lib.ListN.{length, drop, length-drop}
 use lib.Seq.{drop-drop}
 use borrow.Author.Tests.{leb-true, le-leb}
 use Rattle.format.specs.Slots.{Slot, word, Starts, Fits, byte, Bytes}
@@ -15,7 +15,8 @@ use Rattle.format.specs.Records.{Block}
 use Rattle.format.specs.Layout.{pairs, entries, blocks}
 use Rattle.format.specs.declared.records.RegisterPair.{RegisterPair}
 use Rattle.format.specs.Decode.{wordAt, pairOf, blockOf, readPairs, guard, bind, cutEntries, cutBlocks, cutTwo, cutThree, whenNil}
-use Rattle.format.proofs.Slots.{bytes-drop, Over, starts-over, over-starts, starts-rest, starts-length, starts-count, starts-append, starts-split}
+use Rattle.format.proofs.Slots.{bytes-drop, starts-over, over-starts, starts-rest, starts-length, starts-count, starts-append}
+use Rattle.format.proofs.Slots.{starts-split}
 
 drop-same : (bs : List ℕ) (m n : ℕ) → m ≡ n → drop m bs ≡ drop n bs
 drop-same bs m n e = ap (λ (k : ℕ). drop k bs) e
@@ -38,7 +39,8 @@ pairs-fits (suc n) bs small h =
     let f = byte bs in
     let p = pairOf (wordAt f 0) (wordAt f 2) in
     let k = pairs-fits n (drop 4 bs) (bytes-drop 4 bs small) (omega (arith, length-drop 4 bs)) in
-    let here : drop (4 * n) (drop 4 bs) ≡ drop (4 * suc n) bs = drop-drop (4 * n) 4 bs ∙ drop-same bs (4 + 4 * n) (4 * suc n) (omega arith) in
+    let here : drop (4 * n) (drop 4 bs) ≡ drop (4 * suc n) bs = drop-drop (4 * n) 4 bs
+    ∙ drop-same bs (4 + 4 * n) (4 * suc n) (omega arith) in
     starts-append bs (one p) (pairs (readPairs n (drop 4 bs))) (drop 4 bs) (drop (4 * suc n) bs)
     (over-starts bs (one p) (omega arith) (omega (arith, small 0, small 2)))
     (rw here at k)
@@ -123,15 +125,26 @@ TwoFit bs (some t) = Fits bs (entries (t .0) ++ entries (t .1))
 pub two-fits : (bs : List ℕ) → Bytes bs → TwoFit bs (cutTwo bs)
 two-fits bs small = first (cutEntries bs) (entries-fits bs small)
   where
-    last : (c : List RegisterPair × List ℕ) (d : List RegisterPair) (r : List ℕ) → Starts bs (entries (c .0)) (c .1) → Starts (c .1) (entries d) r → TwoFit bs (whenNil r (c .0, d))
+    last :
+        (c : List RegisterPair × List ℕ) (d : List RegisterPair) (r : List ℕ)
+        → Starts bs (entries (c .0)) (c .1)
+        → Starts (c .1) (entries d) r
+        → TwoFit bs (whenNil r (c .0, d))
     last c d [] s t = starts-append bs (entries (c .0)) (entries d) (c .1) [] s t
     last c d (x ∷ r) s t = tt
 
-    second : (c : List RegisterPair × List ℕ) (d : Option (List RegisterPair × List ℕ)) → Starts bs (entries (c .0)) (c .1) → EntriesFit (c .1) d → TwoFit bs (bind d (λ d. whenNil (d .1) (c .0, d .0)))
+    second :
+        (c : List RegisterPair × List ℕ) (d : Option (List RegisterPair × List ℕ))
+        → Starts bs (entries (c .0)) (c .1)
+        → EntriesFit (c .1) d
+        → TwoFit bs (bind d (λ d. whenNil (d .1) (c .0, d .0)))
     second c none s e = tt
     second c (some d) s e = last c (d .0) (d .1) s (e .0)
 
-    first : (c : Option (List RegisterPair × List ℕ)) → EntriesFit bs c → TwoFit bs (bind c (λ c. bind (cutEntries (c .1)) (λ d. whenNil (d .1) (c .0, d .0))))
+    first :
+        (c : Option (List RegisterPair × List ℕ))
+        → EntriesFit bs c
+        → TwoFit bs (bind c (λ c. bind (cutEntries (c .1)) (λ d. whenNil (d .1) (c .0, d .0))))
     first none e = tt
     first (some c) e = second c (cutEntries (c .1)) (e .0) (entries-fits (c .1) (e .1))
 
@@ -148,11 +161,18 @@ ThreeFit bs (some t) = Fits bs (entries (t .0) ++ (entries (t .1) ++ entries (t 
 pub three-fits : (bs : List ℕ) → Bytes bs → ThreeFit bs (cutThree bs)
 three-fits bs small = first (cutEntries bs) (entries-fits bs small)
   where
-    rest : (c : List RegisterPair × List ℕ) (t : Option (List RegisterPair × List RegisterPair)) → Starts bs (entries (c .0)) (c .1) → TwoFit (c .1) t → ThreeFit bs (bind t (λ t. some (c .0, t .0, t .1)))
+    rest :
+        (c : List RegisterPair × List ℕ) (t : Option (List RegisterPair × List RegisterPair))
+        → Starts bs (entries (c .0)) (c .1)
+        → TwoFit (c .1) t
+        → ThreeFit bs (bind t (λ t. some (c .0, t .0, t .1)))
     rest c none s f = tt
     rest c (some t) s f = starts-append bs (entries (c .0)) (entries (t .0) ++ entries (t .1)) (c .1) [] s f
 
-    first : (c : Option (List RegisterPair × List ℕ)) → EntriesFit bs c → ThreeFit bs (bind c (λ c. bind (cutTwo (c .1)) (λ t. some (c .0, t .0, t .1))))
+    first :
+        (c : Option (List RegisterPair × List ℕ))
+        → EntriesFit bs c
+        → ThreeFit bs (bind c (λ c. bind (cutTwo (c .1)) (λ t. some (c .0, t .0, t .1))))
     first none e = tt
     first (some c) e = rest c (cutTwo (c .1)) (e .0) (two-fits (c .1) (e .1))
 

@@ -5,23 +5,25 @@
 use Prim.Native.Nat.{ℕ, suc, _+_, _≤_}
 use native.Mathlib.Omega.{arith}
 use mathlib.Core.Path.{_≡_, refl, sym, _∙_, ap, subst}
-use mathlib.Core.Bool.{Bool, true, false, _&&_, _||_, not}
-use mathlib.Core.List.{List, [], _∷_, _++_, map}
-use mathlib.Core.Option.{Option, none, some}
+use mathlib.Core.Bool.{Bool, true, false, _&&_, _||_}
+use mathlib.Core.List.{List, [], _∷_, _++_}
+use mathlib.Core.Option.{none}
 use lib.ListN.{length}
 use lib.Dec.{eqb, ltb}
 use Rattle.format.specs.Slots.{Slot, Fits, Bytes, allRoomy}
-use Rattle.format.specs.Records.{Record, digital, analogue, fan, led, water, pump, voltage, current, controller, tachometer, zone, string, external, rgb, elementOf}
-use Rattle.format.specs.Layout.{optionalPinSlot, address, layout, layouts, opening, table}
+use Rattle.format.specs.Records.{Record, digital, analogue, fan, led, water, pump, voltage, current, controller, tachometer, zone}
+use Rattle.format.specs.Records.{string, external, rgb, elementOf}
+use Rattle.format.specs.Layout.{optionalPinSlot, address, layout, layouts, table}
 use Rattle.format.specs.Pins.{among, onChip, keptIf, only, listed, permitted, ofChip, allowed, unused, allowedOrUnused}
-use Rattle.format.specs.Rules.{unlessKept, firstBroken, descriptionRules, ownRules, shaped, coded, inUse, pinned, selected, rises, fanned, ofItsBus}
-use Rattle.format.specs.ZonesAndStrings.{Role, role, zoneDeclared, stringDeclared, gathered, zones, strings, rulesAgainst, zoneNamed, stringNamed, allAmong, firstNaming, zoneless, nameless}
+use Rattle.format.specs.Rules.{unlessKept, ownRules, shaped, coded, inUse, pinned, selected, rises, fanned, ofItsBus}
+use Rattle.format.specs.ZonesAndStrings.{Role, role, zoneDeclared, stringDeclared, gathered, zones, strings, rulesAgainst}
+use Rattle.format.specs.ZonesAndStrings.{zoneNamed, stringNamed, allAmong, firstNaming, zoneless, nameless}
 use Rattle.format.specs.FanList.{usedPin, fanPins, allFanPins}
-use Rattle.format.specs.Claims.{Made, madeAt, ownUsed, onBus, claimsOf, firstClaims, claimsFrom, contested}
-use Rattle.format.specs.Table.{elementBreaks, descriptionBreaks, PassKept, Keeps}
+use Rattle.format.specs.Claims.{Made, madeAt, ownUsed, onBus, claimsOf, claimsFrom, contested}
+use Rattle.format.specs.Table.{elementBreaks, descriptionBreaks, PassKept}
 use Rattle.format.specs.Verdict.{Accepts, Verdict, accepted}
 use Rattle.format.specs.Known.{tableA}
-use Rattle.format.specs.Chips.{withChip, pinOn, optionalOn, addressOn, deviceOn, lampOn, motorOn, recordOn, recordsOn, descriptionOn}
+use Rattle.format.specs.Chips.{withChip, pinOn, optionalOn, addressOn, motorOn, recordOn, recordsOn, descriptionOn}
 use Rattle.format.specs.declared.pins.Chip.{Chip}
 use Rattle.format.specs.declared.pins.Chip.the-variants.{C8051F320, C8051F321}
 use Rattle.format.specs.declared.pins.Use.{Use}
@@ -36,7 +38,7 @@ use Rattle.format.specs.declared.records.PwmFan.{PwmFan}
 use Rattle.format.specs.declared.records.Address.{Address}
 use Rattle.format.specs.declared.records.Address.the-variants.{Bus, Select}
 use Rattle.format.specs.declared.answers.Answer.the-variants.{Accepted}
-use Rattle.format.proofs.Kept.{and-true, EachKept, each-kept, kept-each, kept-split, kept-join, own-kept, description-kept, kept-description}
+use Rattle.format.proofs.Kept.{and-true, EachKept, each-kept, kept-each, kept-split, kept-join, description-kept, kept-description}
 use Rattle.format.proofs.KnownTables.{small-bytes, chips-apart}
 use Rattle.format.proofs.Demand3.{unique, only-one-list}
 
@@ -182,7 +184,8 @@ module _ (c : Chip) where
       → firstNaming names declared at (recordsOn c rs) ≡ firstNaming names declared at rs
   naming-on names declared at [] = refl
   naming-on names declared at (r ∷ rs) =
-      (λ i. unlessKept (allAmong (names (role-on r i)) declared) at (firstNaming names declared (at + length (layout-on r i)) (recordsOn c rs)))
+      (λ i. unlessKept (allAmong (names (role-on r i)) declared) at (firstNaming names declared (at + length (layout-on r i))
+      (recordsOn c rs)))
       ∙ ap (unlessKept (allAmong (names (role r)) declared) at) (naming-on names declared (at + length (layout r)) rs)
 
   claims-from-on : (at : ℕ) (rs : List Record) → claimsFrom at (recordsOn c rs) ≡ claimsFrom at rs
@@ -226,7 +229,13 @@ module _ (c : Chip) where
 
   against-on : (before : List Record) (r : Record) → rulesAgainst (recordsOn c before) (recordOn c r) ≡ rulesAgainst before r
   unfolding rulesAgainst
-  against-on before r = rw (all-fan-pins-on before, fan-pins-on r, role-on r, gathered-on zoneDeclared before, gathered-on stringDeclared before) refl
+  against-on before r = rw (
+    all-fan-pins-on before,
+    fan-pins-on r,
+    role-on r,
+    gathered-on zoneDeclared before,
+    gathered-on stringDeclared before,
+  ) refl
 
 -- A pin that a chip permits is one of the list, all of which the 320 has.
 or-larger : (t u v : Bool) → (u ≡ true → v ≡ true) → t || u ≡ true → t || v ≡ true
@@ -268,7 +277,8 @@ optional-larger u (Used p) h = allowed-larger u p h
 three-larger :
     (u : Use) (p q r : OptionalPin)
     → allowedOrUnused small u p && (allowedOrUnused small u q && allowedOrUnused small u r) ≡ true
-    → allowedOrUnused large u (optionalOn large p) && (allowedOrUnused large u (optionalOn large q) && allowedOrUnused large u (optionalOn large r)) ≡ true
+    → allowedOrUnused large u (optionalOn large p) &&
+    (allowedOrUnused large u (optionalOn large q) && allowedOrUnused large u (optionalOn large r)) ≡ true
 three-larger u p q r h =
     let k = and-true (allowedOrUnused small u p) (allowedOrUnused small u q && allowedOrUnused small u r) h in
     let l = and-true (allowedOrUnused small u q) (allowedOrUnused small u r) (k .1) in
@@ -310,7 +320,10 @@ pinned-larger (rgb r) h =
     simp (allowed-larger FanPin (r .red) (p .0), allowed-larger FanPin (r .green) (q .0), allowed-larger FanPin (r .blue) (t .0), t .1)
 
 -- So do the rules of a record, of the description and of the pass.
-own-larger : (s : Settings) (r : Record) → EachKept (ownRules (withChip small s) r) → EachKept (ownRules (withChip large s) (recordOn large r))
+own-larger :
+    (s : Settings) (r : Record)
+    → EachKept (ownRules (withChip small s) r)
+    → EachKept (ownRules (withChip large s) (recordOn large r))
 unfolding ownRules
 own-larger s r k =
     let used : inUse (s .rules) (elementOf (recordOn large r)) ≡ true = rw (in-use-on large (s .rules) r) (k .1 .1 .0) in
@@ -349,7 +362,8 @@ passed-larger s before [] k = tt
 passed-larger s before (r ∷ rs) k = (
   omega (arith, count-on large before, k .0),
   element-larger s before r (k .1),
-  subst (λ (l : List Record). PassKept (withChip large s) l (recordsOn large rs)) (snoc-on large before r) (passed-larger s (before ++ r ∷ []) rs (k .2)),
+  subst (λ (l : List Record). PassKept (withChip large s) l (recordsOn large rs)) (snoc-on large before r)
+      (passed-larger s (before ++ r ∷ []) rs (k .2)),
 )
 
 -- 'what the 321 accepts the 320 accepts': the same records but for the chip
@@ -397,7 +411,8 @@ abbrev witness : List ℕ
 witness = tableA 0x01 0x10 0x80 0x25
 
 pub larger-alone :
-    (s : Settings) → Verdict (withChip C8051F320 s) witness (Accepted 0) × ((n : ℕ) → Verdict (withChip C8051F321 s) witness (Accepted n) → ⊥)
+    (s : Settings) → Verdict (withChip C8051F320 s) witness (Accepted 0)
+    × ((n : ℕ) → Verdict (withChip C8051F321 s) witness (Accepted n) → ⊥)
 larger-alone s = (
   chips-apart (withChip large s) .1 .1 .0,
   λ n v.

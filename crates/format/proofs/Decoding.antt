@@ -1,27 +1,32 @@
 -- The record that is decoded fits the bytes, and a record that fits them and is of its kind is decoded.
 -- Assumes nothing.
-use Prim.Native.Nat.{ℕ, _+_, _-_, _*_, _≤_, _<_}
+use Prim.Native.Nat.{ℕ, _+_, _-_, _≤_}
 use native.Mathlib.Omega.{arith}
 use mathlib.Core.Path.{_≡_, refl, sym, _∙_, ap}
 use mathlib.Core.Bool.{Bool, true, false}
 use mathlib.Core.List.{List, [], _∷_, _++_}
 use mathlib.Core.Option.{Option, none, some}
-use lib.ListN.{length, take, drop, length-take, length-drop, drop-of-length-le}
+use lib.ListN.{length, drop, length-take, length-drop, drop-of-length-le}
 use lib.Dec.{eqb, leb}
 use borrow.Author.Tests.{eqb-true, le-leb, leb-true}
 use Rattle.format.specs.Slots.{Slot, whole, reserved, word, Starts, Fits, byte, Bytes}
-use Rattle.format.specs.Records.{Block, Record, digital, analogue, fan, led, water, pump, voltage, current, controller, tachometer, zone, string, external, rgb, elementOf}
-use Rattle.format.specs.Layout.{fixed, part, entries, blocks, idOf, body, layout}
+use Rattle.format.specs.Records.{Block, Record, digital, analogue, fan, led, water, pump, voltage, current, controller, tachometer}
+use Rattle.format.specs.Records.{zone, string, external, rgb, elementOf}
+use Rattle.format.specs.Layout.{fixed, entries, blocks, idOf, body, layout}
 use Rattle.format.specs.Rules.{ofItsKind}
 use Rattle.format.specs.Verdict.{stated, Stands}
-use Rattle.format.specs.Decode.{readDigital, readAnalogue, readFan, readLed, readWater, readVoltage, readCurrent, readDevice, readExternal, readRgb, content, guard, bind, cutBlocks, cutTwo, cutThree, pick, decode}
-use Rattle.format.specs.declared.records.BusDevice.{BusDevice}
+use Rattle.format.specs.Decode.{readDigital, readAnalogue, readFan, readLed, readWater, readVoltage, readCurrent, readDevice}
+use Rattle.format.specs.Decode.{readExternal, readRgb, content, guard, bind, cutBlocks, cutTwo, cutThree, pick, decode}
 use Rattle.format.specs.declared.records.RegisterPair.{RegisterPair}
 use Rattle.format.specs.declared.records.Element.the-variants.{Controller, Tachometer, External}
 use Rattle.format.proofs.Lengths.{fits-length}
-use Rattle.format.proofs.Slots.{Over, bytes-drop, bytes-take, starts-over, over-starts, over-at, starts-rest, starts-length, starts-count, starts-split, starts-append, take-fits, fits-take}
+use Rattle.format.proofs.Slots.{Over, bytes-drop, bytes-take, starts-over, over-starts, over-at, starts-rest, starts-length}
+use Rattle.format.proofs.Slots.{starts-count, starts-split, starts-append, take-fits, fits-take}
 use Rattle.format.proofs.Blocks.{BlocksFit, blocks-fits, blocks-only, TwoFit, two-fits, two-only, ThreeFit, three-fits, three-only}
-use Rattle.format.proofs.EachKind.{chip-same, optional-standing, address-kind, digital-only, digital-fits, analogue-only, analogue-fits, fan-only, fan-fits, led-only, led-fits, water-only, water-fits, voltage-only, voltage-fits, current-only, current-fits, rgb-only, rgb-fits, device-only, controller-fits, tachometer-fits, external-only, external-fits, whole-only, whole-fits}
+use Rattle.format.proofs.EachKind.{chip-same, optional-standing, address-kind, digital-only, digital-fits, analogue-only}
+use Rattle.format.proofs.EachKind.{analogue-fits, fan-only, fan-fits, led-only, led-fits, water-only, water-fits, voltage-only}
+use Rattle.format.proofs.EachKind.{voltage-fits, current-only, current-fits, rgb-only, rgb-fits, device-only, controller-fits}
+use Rattle.format.proofs.EachKind.{tachometer-fits, external-only, external-fits, whole-only, whole-fits}
 use Rattle.format.specs.declared.pins.Chip.{Chip}
 
 -- what decoding says of the bytes after a header
@@ -77,8 +82,11 @@ two-read :
     → Reads k id c (bind t (λ t. some (tachometer (readDevice k (byte c)) (t .0) (t .1))))
 two-read k id c at long none f = tt
 two-read k id c at long (some t) f =
-    let ss = fixed (Tachometer (readDevice k (byte c))) in
-    (at, starts-append c ss (entries (t .0) ++ entries (t .1)) (drop 9 c) [] (over-starts c ss long (tachometer-fits k (byte c))) f, address-kind k (byte c))
+    let ss = fixed (Tachometer (readDevice k (byte c))) in (
+      at,
+      starts-append c ss (entries (t .0) ++ entries (t .1)) (drop 9 c) [] (over-starts c ss long (tachometer-fits k (byte c))) f,
+      address-kind k (byte c),
+    )
 
 three-read :
     (k : Chip) (id : ℕ) (c : List ℕ)
@@ -89,8 +97,12 @@ three-read :
     → Reads k id c (bind t (λ t. some (external (readExternal k (byte c)) (t .0) (t .1) (t .2))))
 three-read k id c at long none f = tt
 three-read k id c at long (some t) f =
-    let ss = fixed (External (readExternal k (byte c))) in
-    (at, starts-append c ss (entries (t .0) ++ (entries (t .1) ++ entries (t .2))) (drop 9 c) [] (over-starts c ss long (external-fits k (byte c))) f, address-kind k (byte c))
+    let ss = fixed (External (readExternal k (byte c))) in (
+      at,
+      starts-append c ss (entries (t .0) ++ (entries (t .1) ++ entries (t .2))) (drop 9 c) []
+          (over-starts c ss long (external-fits k (byte c))) f,
+      address-kind k (byte c),
+    )
 
 decode-reads : (k : Chip) (id : ℕ) (c : List ℕ) → Bytes c → Reads k id c (decode k id c)
 unfolding decode
@@ -100,10 +112,13 @@ decode-reads k id c small =
     let P = Reads k id c in
     pick-cases P id 1 _ _ (λ at. even-fits k id c 18 (digital (readDigital k f)) refl (address-kind k f) at (digital-fits k f small))
     (pick-cases P id 2 _ _ (λ at. even-fits k id c 17 (analogue (readAnalogue k f)) refl (chip-same k) at (analogue-fits k f small))
-    (pick-cases P id 3 _ _ (λ at. even-fits k id c 13 (fan (readFan k f)) refl (simp (chip-same k, optional-standing k (f 6))) at (fan-fits k f small))
-    (pick-cases P id 4 _ _ (λ at. even-fits k id c 11 (led (readLed k f)) refl (simp (optional-standing k (f 5), optional-standing k (f 7), optional-standing k (f 9))) at (led-fits k f small))
+    (pick-cases P id 3 _ _ (λ at. even-fits k id c 13 (fan (readFan k f)) refl
+    (simp (chip-same k, optional-standing k (f 6))) at (fan-fits k f small))
+    (pick-cases P id 4 _ _ (λ at. even-fits k id c 11 (led (readLed k f)) refl
+    (simp (optional-standing k (f 5), optional-standing k (f 7), optional-standing k (f 9))) at (led-fits k f small))
     (pick-cases P id 5 _ _ (λ at. even-fits k id c 12 (water (readWater k f)) refl (chip-same k) at (water-fits k f small))
-    (pick-cases P id 6 _ _ (λ at. even-fits k id c 13 (pump (readFan k f)) refl (simp (chip-same k, optional-standing k (f 6))) at (fan-fits k f small))
+    (pick-cases P id 6 _ _ (λ at. even-fits k id c 13 (pump (readFan k f)) refl
+    (simp (chip-same k, optional-standing k (f 6))) at (fan-fits k f small))
     (pick-cases P id 7 _ _ (λ at. even-fits k id c 8 (voltage (readVoltage k f)) refl (chip-same k) at (voltage-fits k f small))
     (pick-cases P id 8 _ _ (λ at. even-fits k id c 11 (current (readCurrent k f)) refl (chip-same k) at (current-fits k f small))
     (pick-cases P id 9 _ _
@@ -142,19 +157,31 @@ decode-finds k c (controller d l) h kind =
     let ss = fixed (Controller d) in
     let m = starts-split c ss (blocks l) [] h in
     let f : Fits (drop 8 c) (blocks l) = rw (starts-rest c ss (m .0) (m .1)) at (m .2) in
-    simp (le-leb 8 (length c) (starts-length c ss (m .0) (m .1)), blocks-only l (length c) (drop 8 c) (omega (arith, length-drop 8 c)) f, device-only k (byte c) d (blocks l) (starts-over c (body (controller d l)) [] h) kind)
+    simp (
+      le-leb 8 (length c) (starts-length c ss (m .0) (m .1)),
+      blocks-only l (length c) (drop 8 c) (omega (arith, length-drop 8 c)) f,
+      device-only k (byte c) d (blocks l) (starts-over c (body (controller d l)) [] h) kind,
+    )
 decode-finds k c (tachometer d a b) h kind =
     let ss = fixed (Tachometer d) in
     let m = starts-split c ss (entries a ++ entries b) [] h in
     let f : Fits (drop 9 c) (entries a ++ entries b) = rw (starts-rest c ss (m .0) (m .1)) at (m .2) in
-    simp (le-leb 9 (length c) (starts-length c ss (m .0) (m .1)), two-only (drop 9 c) a b f, device-only k (byte c) d (reserved ∷ entries a ++ entries b) (starts-over c (body (tachometer d a b)) [] h) kind)
+    simp (
+      le-leb 9 (length c) (starts-length c ss (m .0) (m .1)),
+      two-only (drop 9 c) a b f,
+      device-only k (byte c) d (reserved ∷ entries a ++ entries b) (starts-over c (body (tachometer d a b)) [] h) kind,
+    )
 decode-finds k c (zone z) h kind = ap (λ (l : List ℕ). some (zone l)) (sym (whole-only c z h))
 decode-finds k c (string z) h kind = ap (λ (l : List ℕ). some (string l)) (sym (whole-only c z h))
 decode-finds k c (external x r g b) h kind =
     let ss = fixed (External x) in
     let m = starts-split c ss (entries r ++ (entries g ++ entries b)) [] h in
     let f : Fits (drop 9 c) (entries r ++ (entries g ++ entries b)) = rw (starts-rest c ss (m .0) (m .1)) at (m .2) in
-    simp (le-leb 9 (length c) (starts-length c ss (m .0) (m .1)), three-only (drop 9 c) r g b f, external-only k (byte c) x (entries r ++ (entries g ++ entries b)) (starts-over c (body (external x r g b)) [] h) kind)
+    simp (
+      le-leb 9 (length c) (starts-length c ss (m .0) (m .1)),
+      three-only (drop 9 c) r g b f,
+      external-only k (byte c) x (entries r ++ (entries g ++ entries b)) (starts-over c (body (external x r g b)) [] h) kind,
+    )
 decode-finds k c (rgb x) h kind = simp (fits-length c (body (rgb x)) h, rgb-only k (byte c) x (starts-over c (body (rgb x)) [] h) kind)
 
 -- The header, once for all kinds: a record that fits has the length that stands in its header, and its body fits what follows.
@@ -204,7 +231,8 @@ StandsIf c bs (some r) = Stands c bs r
 pub decoded-stands :
     (c : Chip) (bs : List ℕ) → Bytes bs → 3 ≤ stated bs → stated bs ≤ length bs → StandsIf c bs (decode c (byte bs 0) (content bs))
 decoded-stands c bs small least most =
-    go (decode c (byte bs 0) (content bs)) (decode-reads c (byte bs 0) (content bs) (bytes-take (stated bs - 3) (drop 3 bs) (bytes-drop 3 bs small)))
+    go (decode c (byte bs 0) (content bs)) (decode-reads c (byte bs 0) (content bs)
+    (bytes-take (stated bs - 3) (drop 3 bs) (bytes-drop 3 bs small)))
   where
     go : (o : Option Record) → Reads c (byte bs 0) (content bs) o → StandsIf c bs o
     go none h = tt

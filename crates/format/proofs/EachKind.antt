@@ -1,19 +1,22 @@
 -- For each kind of element and each chip: a record that fits the bytes and is of its kind is the one that is read, and the one that is
 -- read fits.
 -- Assumes nothing.
-use Prim.Native.Nat.{ℕ, suc, _+_, _*_, _/_, _%_, _≤_, _<_}
+use Prim.Native.Nat.{ℕ, _+_, _*_, _/_, _%_, _<_}
 use native.Mathlib.Omega.{arith}
-use mathlib.Core.Path.{_≡_, refl, sym, _∙_, ap}
+use mathlib.Core.Path.{_≡_, refl, sym, ap}
 use mathlib.Core.Bool.{Bool, true, false, _&&_, not, false≢true}
 use mathlib.Core.List.{List, [], _∷_, _++_, map}
 use lib.Dec.{eqb, leb}
 use borrow.Author.Tests.{eqb-true, not-true, leb-true, leb-false, le-leb, lt-leb}
-use Rattle.format.specs.Slots.{Slot, whole, reserved, bit, Holds, Fits}
+use Rattle.format.specs.Slots.{Slot, whole, bit, Holds, Fits}
 use Rattle.format.specs.Layout.{pinSlot, optionalPinSlot, address, device, placement, fixed, opening}
 use Rattle.format.specs.Pins.{sameChip, ofChip, standing}
-use Rattle.format.specs.Rules.{ofItsBus, chosen, ofItsDevice, ofItsKind, descriptionKind}
+use Rattle.format.specs.Rules.{ofItsBus, ofItsDevice, ofItsKind, descriptionKind}
 use Rattle.format.specs.Records.{digital, analogue, fan, led, water, voltage, current, rgb}
-use Rattle.format.specs.Decode.{pinOf, pickPin, optionalOf, placementOf, digitalOf, analogueOf, fanOf, lampOf, ledOf, waterOf, voltageOf, currentOf, deviceOf, externalOf, rgbOf, descriptionOf, wordAt, pickAddress, readPlacement, readAddress, readDigital, readAnalogue, readFan, readLed, readWater, readVoltage, readCurrent, readDevice, readExternal, readRgb, readDescription}
+use Rattle.format.specs.Decode.{pinOf, pickPin, optionalOf, placementOf, digitalOf, analogueOf, fanOf, lampOf, ledOf, waterOf}
+use Rattle.format.specs.Decode.{voltageOf, currentOf, deviceOf, externalOf, rgbOf, descriptionOf, wordAt, pickAddress, readAddress}
+use Rattle.format.specs.Decode.{readDigital, readAnalogue, readFan, readLed, readWater, readVoltage, readCurrent, readDevice}
+use Rattle.format.specs.Decode.{readExternal, readRgb, readDescription}
 use Rattle.format.specs.declared.pins.Chip.{Chip}
 use Rattle.format.specs.declared.pins.Chip.the-variants.{C8051F320, C8051F321}
 use Rattle.format.specs.declared.pins.Pin.{Pin}
@@ -34,7 +37,8 @@ use Rattle.format.specs.declared.records.ExternalRgb.{ExternalRgb}
 use Rattle.format.specs.declared.records.RgbLed.{RgbLed}
 use Rattle.format.specs.declared.records.Address.{Address}
 use Rattle.format.specs.declared.records.Address.the-variants.{Bus, Select}
-use Rattle.format.specs.declared.records.Element.the-variants.{Digital, Analogue, Fan, Led, Water, Voltage, Current, Controller, Tachometer, External, Rgb}
+use Rattle.format.specs.declared.records.Element.the-variants.{Digital, Analogue, Fan, Led, Water, Voltage, Current, Controller}
+use Rattle.format.specs.declared.records.Element.the-variants.{Tachometer, External, Rgb}
 use Rattle.format.proofs.Slots.{Over, over-at}
 use Rattle.format.proofs.Kept.{and-true}
 
@@ -122,8 +126,19 @@ module _ (c : Chip) where
       h
 
   pub digital-fits : (f : ℕ → ℕ) → Small f → Over f (fixed (Digital (readDigital c f)))
-  digital-fits f small =
-      (refl, (refl, (refl, (refl, (refl, (refl, (address-fits (eqb (f 5 % 16) 3) (f 6), (tt, omega (arith, small 8, small 10, small 12, small 15)))))))))
+  digital-fits f small = (
+    refl,
+    (
+      refl,
+      (
+        refl,
+        (
+          refl,
+          (refl, (refl, (address-fits (eqb (f 5 % 16) 3) (f 6), (tt, omega (arith, small 8, small 10, small 12, small 15))))),
+        ),
+      ),
+    ),
+  )
 
   -- 02h
   pub analogue-only :
@@ -172,8 +187,28 @@ module _ (c : Chip) where
       h
 
   pub led-fits : (f : ℕ → ℕ) → Small f → Over f (fixed (Led (readLed c f)))
-  led-fits f small =
-      (refl, (refl, (refl, (refl, (refl, (optional-fits (f 5), ((refl, refl), (optional-fits (f 7), ((refl, refl), (optional-fits (f 9), ((refl, refl), tt)))))))))))
+  led-fits f small = (
+    refl,
+    (
+      refl,
+      (
+        refl,
+        (
+          refl,
+          (
+            refl,
+            (
+              optional-fits (f 5),
+              (
+                (refl, refl),
+                (optional-fits (f 7), ((refl, refl), (optional-fits (f 9), ((refl, refl), tt)))),
+              ),
+            ),
+          ),
+        ),
+      ),
+    ),
+  )
 
   -- 05h
   pub water-only : (f : ℕ → ℕ) (x : WaterLevel) → Over f (fixed (Water x)) → ofItsKind c (water x) ≡ true → x ≡ readWater c f
@@ -317,7 +352,10 @@ module _ (c : Chip) where
                 omega (arith, small 5, small 6),
                 (
                   omega (arith, small 5, small 6),
-                  ((flag-fits (f 8) (small 8), refl), (optional-fits c (f 9), (optional-fits c (f 10), (optional-fits c (f 11), (tt, (tt, (tt, (tt, tt)))))))),
+                  (
+                    (flag-fits (f 8) (small 8), refl),
+                    (optional-fits c (f 9), (optional-fits c (f 10), (optional-fits c (f 11), (tt, (tt, (tt, (tt, tt))))))),
+                  ),
                 ),
               ),
             ),

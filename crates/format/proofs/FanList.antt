@@ -3,13 +3,14 @@
 -- Assumes nothing.
 use Prim.Native.Nat.{ℕ}
 use mathlib.Core.Path.{_≡_, refl, sym, _∙_, subst}
-use mathlib.Core.Bool.{Bool, true, _&&_}
+use mathlib.Core.Bool.{true, _&&_}
 use mathlib.Core.List.{List, [], _∷_, _++_}
 use mathlib.Core.Option.{none}
 use lib.Dec.{ltb}
-use Rattle.format.specs.Records.{Record, digital, analogue, fan, led, water, pump, voltage, current, controller, tachometer, zone, string, external, rgb}
+use Rattle.format.specs.Records.{Record, digital, analogue, fan, led, water, pump, voltage, current, controller, tachometer, zone}
+use Rattle.format.specs.Records.{string, external, rgb}
 use Rattle.format.specs.Pins.{allowed, allowedOrUnused}
-use Rattle.format.specs.Rules.{firstBroken, pinned, rises}
+use Rattle.format.specs.Rules.{pinned, rises}
 use Rattle.format.specs.FanList.{usedPin, fanPins, allFanPins, lastPin, lastUsed, comesAfter, inOrder, rise}
 use Rattle.format.specs.ZonesAndStrings.{rulesAgainst}
 use Rattle.format.specs.Table.{elementBreaks, PassKept}
@@ -31,7 +32,8 @@ two-rise p q Unused h k = simp h
 two-rise p q (Used r) h k = simp (h, k)
 
 fan-within :
-    (c : Chip) (f : PwmFan) (p : ℕ) → pinned c (fan f) ≡ true → ltb p (f .pwm .0) ≡ true → rise p (f .pwm .0 ∷ usedPin (f .tachometer)) ≡ true
+    (c : Chip) (f : PwmFan) (p : ℕ) → pinned c (fan f) ≡ true → ltb p (f .pwm .0) ≡ true → rise p (f .pwm .0 ∷ usedPin (f .tachometer))
+    ≡ true
 fan-within c f p k h =
     let a = and-true (allowed c FanPin (f .pwm)) (allowedOrUnused c FanPin (f .tachometer) && rises (f .pwm) (f .tachometer)) k in
     let b = and-true (allowedOrUnused c FanPin (f .tachometer)) (rises (f .pwm) (f .tachometer)) (a .1) in
@@ -55,7 +57,8 @@ within c (rgb r) p k h =
     let up = ltb (r .red .0) (r .green .0) && ltb (r .green .0) (r .blue .0) in
     let a = and-true (allowed c FanPin (r .red)) (allowed c FanPin (r .green) && (allowed c FanPin (r .blue) && up)) k in
     let b = and-true (allowed c FanPin (r .green)) (allowed c FanPin (r .blue) && up) (a .1) in
-    let t = and-true (ltb (r .red .0) (r .green .0)) (ltb (r .green .0) (r .blue .0)) (and-true (allowed c FanPin (r .blue)) up (b .1) .1) in
+    let t = and-true (ltb (r .red .0) (r .green .0)) (ltb (r .green .0) (r .blue .0))
+    (and-true (allowed c FanPin (r .blue)) up (b .1) .1) in
     simp (h, t .0, t .1)
 
 -- one element after others

@@ -67,10 +67,56 @@ each-right c (row ∷ rows) h = (right c row (h .0), each-right c rows (h .1))
 
 -- one element of each of the fourteen kinds, on each chip
 agree : (c : Chip) → EachAgrees c (fieldRows c)
-agree C8051F320 =
-    (omega arith, (omega arith, (omega arith, (omega arith, (omega arith, (omega arith, (omega arith, (omega arith, (omega arith, (omega arith, (omega arith, (omega arith, (omega arith, (omega arith, (omega arith, tt)))))))))))))))
-agree C8051F321 =
-    (omega arith, (omega arith, (omega arith, (omega arith, (omega arith, (omega arith, (omega arith, (omega arith, (omega arith, (omega arith, (omega arith, (omega arith, (omega arith, (omega arith, (omega arith, tt)))))))))))))))
+agree C8051F320 = (
+  omega arith,
+  (
+    omega arith,
+    (
+      omega arith,
+      (
+        omega arith,
+        (
+          omega arith,
+          (
+            omega arith,
+            (
+              omega arith,
+              (
+                omega arith,
+                (omega arith, (omega arith, (omega arith, (omega arith, (omega arith, (omega arith, (omega arith, tt))))))),
+              ),
+            ),
+          ),
+        ),
+      ),
+    ),
+  ),
+)
+agree C8051F321 = (
+  omega arith,
+  (
+    omega arith,
+    (
+      omega arith,
+      (
+        omega arith,
+        (
+          omega arith,
+          (
+            omega arith,
+            (
+              omega arith,
+              (
+                omega arith,
+                (omega arith, (omega arith, (omega arith, (omega arith, (omega arith, (omega arith, (omega arith, tt))))))),
+              ),
+            ),
+          ),
+        ),
+      ),
+    ),
+  ),
+)
 
 pub field-rows : (c : Chip) → EachRight c (fieldRows c)
 field-rows c = each-right c (fieldRows c) (agree c)
@@ -80,7 +126,12 @@ pub record Opens (c : Chip) (b : List ℕ) (d : Description) : Type 0 where
   pub fits : Fits b (opening d 16)
   pub only : (e : Description) (rest : List ℕ) → Starts b (opening e 16) rest → descriptionKind c e ≡ true → e ≡ d
 
-opens : (c : Chip) (b : List ℕ) (d : Description) → 16 ≡ length b → Over (byte b) (opening d 16) → bit (descriptionKind c d) ≡ 1 → Opens c b d
+opens :
+    (c : Chip) (b : List ℕ) (d : Description)
+    → 16 ≡ length b
+    → Over (byte b) (opening d 16)
+    → bit (descriptionKind c d) ≡ 1
+    → Opens c b d
 opens c b d n o k =
     record {
       fits = over-fits b (opening d 16) n o;
@@ -91,7 +142,11 @@ opens c b d n o k =
           cc;
     }
 
-open-row : (c : Chip) (power : ℕ) (spwr : Bool) → power / 128 ≡ bit spwr → power % 128 ≡ 0x36 → Opens c (openingRow power) (descriptionRow c spwr)
+open-row :
+    (c : Chip) (power : ℕ) (spwr : Bool)
+    → power / 128 ≡ bit spwr
+    → power % 128 ≡ 0x36
+    → Opens c (openingRow power) (descriptionRow c spwr)
 open-row C8051F320 power spwr h k = opens C8051F320 (openingRow power) (descriptionRow C8051F320 spwr) refl (omega arith) refl
 open-row C8051F321 power spwr h k = opens C8051F321 (openingRow power) (descriptionRow C8051F321 spwr) refl (omega arith) refl
 

@@ -11,7 +11,7 @@ use Rattle.format.specs.Records.{Record}
 use Rattle.format.specs.Layout.{layout, layouts, placeAfter}
 use Rattle.format.specs.ZonesAndStrings.{Role, role, gathered}
 use Rattle.format.specs.FanList.{fanPins, allFanPins, lastPin, lastUsed}
-use Rattle.format.specs.Claims.{Claim, Made, madeAt, claimsOf, firstClaims, claimsFrom, claims}
+use Rattle.format.specs.Claims.{madeAt, claimsOf, firstClaims, claimsFrom, claims}
 use Rattle.format.specs.Table.{elementBreaks, PassKept}
 use Rattle.format.specs.declared.records.Description.{Description}
 use Rattle.format.proofs.Lengths.{snoc-length}
@@ -37,7 +37,8 @@ claims-from at (r ∷ rs) ss =
     let e : at + length (layout r) + length (layouts rs) ≡ at + length (layout r ++ layouts rs) =
     omega (arith, length-append (layout r) (layouts rs)) in
     rw (claims-from (at + length (layout r)) rs ss, e)
-    (sym (append-assoc (madeAt at (claimsOf r)) (claimsFrom (at + length (layout r)) rs) (claimsFrom (at + length (layout r ++ layouts rs)) ss)))
+    (sym (append-assoc (madeAt at (claimsOf r)) (claimsFrom (at + length (layout r)) rs)
+    (claimsFrom (at + length (layout r ++ layouts rs)) ss)))
 
 pub claims-snoc :
     (d : Description) (rs : List Record) (r : Record) → claims d (rs ++ r ∷ []) ≡ claims d rs ++ madeAt (placeAfter rs) (claimsOf r)

@@ -1,17 +1,20 @@
 -- Lists of rules, whichever rules they are: where none is broken each is kept, and of two lists the first is asked first. What a
 -- list holds is named here, and nowhere above.
 -- Assumes nothing.
-use Prim.Native.Nat.{ℕ, suc, _<_}
-use mathlib.Core.Path.{_≡_, refl, sym, _∙_, ap}
+use Prim.Native.Nat.{ℕ, _<_}
+use mathlib.Core.Path.{_≡_, refl, sym, _∙_}
 use mathlib.Core.Bool.{Bool, true, false, _&&_, not, false≢true}
 use lib.Dec.{eqb, ltb}
 use borrow.Author.Tests.{eqb-true}
 use mathlib.Core.List.{List, [], _∷_, _++_}
 use mathlib.Core.Option.{Option, none, some}
 use native.Mathlib.Omega.{arith}
-use Rattle.format.specs.Records.{Record, digital, analogue, fan, led, water, pump, voltage, current, controller, tachometer, zone, string, external, rgb, elementOf}
-use Rattle.format.specs.Rules.{Rule, unlessKept, firstBroken, numbered, descriptionRules, typed, powered, strapped, ownRules, shaped, coded, inUse, pinned, busTypes, ofItsBus, chosen, addressed, selected, rises, fanned, filled, chipIdentifiers, ofItsDevice, ofItsMotor, ofItsKind, descriptionKind}
-use Rattle.format.specs.Pins.{among, ofChip, allowed, unused, allowedOrUnused, standing, permitted}
+use Rattle.format.specs.Records.{Record, digital, analogue, fan, led, water, pump, voltage, current, controller, tachometer, zone}
+use Rattle.format.specs.Records.{string, external, rgb, elementOf}
+use Rattle.format.specs.Rules.{Rule, unlessKept, firstBroken, numbered, descriptionRules, typed, powered, strapped, ownRules}
+use Rattle.format.specs.Rules.{shaped, coded, inUse, pinned, busTypes, ofItsBus, chosen, addressed, selected, rises, fanned, filled}
+use Rattle.format.specs.Rules.{chipIdentifiers, ofItsDevice, ofItsMotor, ofItsKind, descriptionKind}
+use Rattle.format.specs.Pins.{among, ofChip, allowed, allowedOrUnused, standing, permitted}
 use Rattle.format.specs.declared.pins.Chip.{Chip}
 use Rattle.format.specs.declared.pins.Chip.the-variants.{C8051F320, C8051F321}
 use Rattle.format.specs.declared.pins.Use.{Use}
@@ -59,7 +62,11 @@ kept-join [] ss h k = k
 kept-join (r ∷ rs) ss h k = (h .0, kept-join rs ss (h .1) k)
 
 -- two lists, one after the other
-unless-some : (t : Bool) (k : ℕ) (a b : Option ℕ) {n : ℕ} → (a ≡ some n → b ≡ some n) → unlessKept t k a ≡ some n → unlessKept t k b ≡ some n
+unless-some :
+    (t : Bool) (k : ℕ) (a b : Option ℕ) {n : ℕ}
+    → (a ≡ some n → b ≡ some n)
+    → unlessKept t k a ≡ some n
+    → unlessKept t k b ≡ some n
 unless-some true k a b f h = f h
 unless-some false k a b f h = h
 

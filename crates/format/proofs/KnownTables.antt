@@ -1,7 +1,7 @@
 -- Rows of bytes and answers: the reader computes them all, and its answer is the only one. The starred rows are one statement,
 -- of whatever settings.
 -- Assumes nothing.
-use Prim.Native.Nat.{ℕ, zero, suc, _<_}
+use Prim.Native.Nat.{ℕ, zero, suc}
 use native.Mathlib.Omega.{arith}
 use mathlib.Core.Path.{_≡_, refl}
 use mathlib.Core.Bool.{Bool, true, false, _&&_}
@@ -66,8 +66,10 @@ pub right-each : (s : Settings) (rs : List Row) → right s rs ≡ true → Each
 right-each s [] h = tt
 right-each s (r ∷ rs) h =
     let t = and-true (small (r .bytes) && same (verdictOf s (r .bytes)) (r .answer)) (right s rs) h in
-    let u = and-true (small (r .bytes)) (same (verdictOf s (r .bytes)) (r .answer)) (t .0) in
-    (rw (same-is (verdictOf s (r .bytes)) (r .answer) (u .1)) at (meets s (r .bytes) (small-bytes (r .bytes) (u .0))), right-each s rs (t .1))
+    let u = and-true (small (r .bytes)) (same (verdictOf s (r .bytes)) (r .answer)) (t .0) in (
+      rw (same-is (verdictOf s (r .bytes)) (r .answer) (u .1)) at (meets s (r .bytes) (small-bytes (r .bytes) (u .0))),
+      right-each s rs (t .1),
+    )
 
 -- the settings of a chip and rules
 abbrev on : Chip → Rules → Settings

@@ -17,7 +17,8 @@ fits-length c ss h = omega (arith, starts-count c ss [] h)
 
 pub layouts-append : (rs ss : List Record) → layouts (rs ++ ss) ≡ layouts rs ++ layouts ss
 layouts-append [] ss = refl
-layouts-append (r ∷ rs) ss = ap (λ (l : List Slot). layout r ++ l) (layouts-append rs ss) ∙ sym (append-assoc (layout r) (layouts rs) (layouts ss))
+layouts-append (r ∷ rs) ss = ap (λ (l : List Slot). layout r ++ l) (layouts-append rs ss)
+    ∙ sym (append-assoc (layout r) (layouts rs) (layouts ss))
 
 -- one element more
 pub layouts-snoc : (rs : List Record) (r : Record) → layouts (rs ++ r ∷ []) ≡ layouts rs ++ layout r

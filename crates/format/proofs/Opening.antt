@@ -1,10 +1,10 @@
 -- The description: one that starts the bytes is the one that is read, and the one that is read starts them.
 -- Assumes nothing.
-use Prim.Native.Nat.{ℕ, _+_, _*_, _≤_, _<_}
+use Prim.Native.Nat.{ℕ, _+_, _≤_}
 use native.Mathlib.Omega.{arith}
-use mathlib.Core.Path.{_≡_, refl, sym, subst}
+use mathlib.Core.Path.{_≡_, sym, subst}
 use mathlib.Core.Bool.{true}
-use mathlib.Core.List.{List, [], _∷_, _++_}
+use mathlib.Core.List.{List, []}
 use lib.ListN.{length, drop, length-append}
 use Rattle.format.specs.Slots.{Starts, Fits, byte, Bytes}
 use Rattle.format.specs.Records.{Record}
@@ -35,7 +35,8 @@ pub opened-fits :
 opened-fits c b small long one len top =
     record {
       limit = omega arith;
-      starts = over-starts b (opening (readDescription c (byte b)) (length b)) (omega arith) (description-fits c (byte b) (length b) small one len);
+      starts = over-starts b (opening (readDescription c (byte b)) (length b)) (omega arith)
+          (description-fits c (byte b) (length b) small one len);
       kind = description-standing c (byte b);
     }
 
@@ -70,12 +71,22 @@ table-split c b d rs top f k =
     let m = starts-split b (opening d (16 + length (layouts rs))) (layouts rs) [] f in
     record {
       rest = m .0;
-      opened = record { limit = top; starts = subst (λ (n : ℕ). Starts b (opening d n) (m .0)) (sym (table-length b d rs f)) (m .1); kind = k };
+      opened = record {
+        limit = top;
+        starts = subst (λ (n : ℕ). Starts b (opening d n) (m .0)) (sym (table-length b d rs f))
+            (m .1);
+        kind = k;
+      };
       fits = m .2;
     }
 
-pub table-join : (c : Chip) (b : List ℕ) (d : Description) (rs : List Record) (rest : List ℕ) → Opened c b d rest → Fits rest (layouts rs) → Fits b (table d rs)
+pub table-join :
+    (c : Chip) (b : List ℕ) (d : Description) (rs : List Record) (rest : List ℕ)
+    → Opened c b d rest
+    → Fits rest (layouts rs)
+    → Fits b (table d rs)
 table-join c b d rs rest o f =
     let n : length b ≡ 16 + length (layouts rs) =
     omega (arith, starts-count b (opening d (length b)) rest (o .starts), starts-count rest (layouts rs) [] f) in
-    starts-append b (opening d (16 + length (layouts rs))) (layouts rs) rest [] (subst (λ (n : ℕ). Starts b (opening d n) rest) n (o .starts)) f
+    starts-append b (opening d (16 + length (layouts rs))) (layouts rs) rest []
+    (subst (λ (n : ℕ). Starts b (opening d n) rest) n (o .starts)) f

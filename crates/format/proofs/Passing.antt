@@ -71,7 +71,8 @@ module _ (s : Settings) where
   pass-meets (suc n) before at [] small h = ([], refl, tt, sym (append-nil before))
   pass-meets (suc n) before at (b ∷ bs) small h =
       next-ends n before at (b ∷ bs) _ h
-      (λ r f. pass-meets n (before ++ r ∷ []) (at + stated (b ∷ bs)) (drop (stated (b ∷ bs)) (b ∷ bs)) (bytes-drop (stated (b ∷ bs)) (b ∷ bs) small) f)
+      (λ r f. pass-meets n (before ++ r ∷ []) (at + stated (b ∷ bs)) (drop (stated (b ∷ bs)) (b ∷ bs))
+      (bytes-drop (stated (b ∷ bs)) (b ∷ bs) small) f)
       (step s before (b ∷ bs))
       (step-meets s before (b ∷ bs) small (omega arith))
 

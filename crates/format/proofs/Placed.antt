@@ -1,12 +1,12 @@
 -- A record with another placement: its layout differs in bytes 3 to 7 alone, and no rule of the record alone looks at them. By
 -- cases, each computed.
 -- Assumes nothing.
-use Prim.Native.Nat.{ℕ}
 use mathlib.Core.Path.{_≡_, refl}
-use mathlib.Core.List.{List, [], _∷_, _++_}
+use mathlib.Core.List.{List, _++_}
 use lib.ListN.{take, drop}
 use Rattle.format.specs.Slots.{Slot}
-use Rattle.format.specs.Records.{Record, digital, analogue, fan, led, water, pump, voltage, current, controller, tachometer, zone, string, external, rgb}
+use Rattle.format.specs.Records.{Record, digital, analogue, fan, led, water, pump, voltage, current, controller, tachometer, zone}
+use Rattle.format.specs.Records.{string, external, rgb}
 use Rattle.format.specs.Layout.{placement, layout}
 use Rattle.format.specs.Rules.{ownRules}
 use Rattle.format.specs.ZonesAndStrings.{Role, placed, zoning, naming, role}

@@ -4,13 +4,14 @@ use Prim.Native.Nat.{ℕ, suc, _+_, _-_, _*_, _/_, _%_, _<_, _≤_}
 use native.Mathlib.Omega.{arith}
 use mathlib.Core.Path.{_≡_, refl, sym, _∙_, ap}
 use mathlib.Core.Logic.{_↔_}
-use mathlib.Core.Bool.{Bool, true, false, _&&_, _||_, not, cond, and-false, false≢true}
+use mathlib.Core.Bool.{Bool, true, false, _&&_, _||_, cond, false≢true}
 use mathlib.Core.List.{List, [], _∷_, _++_}
 use lib.ListN.{length}
 use lib.Dec.{eqb, ltb, leb}
-use borrow.Author.Tests.{le-leb, lt-leb, lt-ltb, le-ltb, leb-true, leb-false, ltb-true, ltb-false, eqb-true}
+use borrow.Author.Tests.{le-leb, lt-ltb, le-ltb, leb-true, leb-false, ltb-true, ltb-false, eqb-true}
 use Rattle.format.specs.Slots.{Bytes}
-use Rattle.format.specs.Utf16.{units, highSurrogate, lowSurrogate, agrees, pairedAfter, paired, wellFormed, scalar, unitsOf, utf16, scalars}
+use Rattle.format.specs.Utf16.{units, highSurrogate, lowSurrogate, agrees, pairedAfter, paired, wellFormed, scalar, unitsOf, utf16}
+use Rattle.format.specs.Utf16.{scalars}
 use Rattle.format.proofs.Kept.{and-true}
 use Rattle.format.proofs.Utf16.{within-run, below-run, above-run}
 

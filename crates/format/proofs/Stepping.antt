@@ -1,19 +1,20 @@
 -- One step of the pass: what `step` answers holds of what stands there, and nothing else does.
 -- Assumes nothing.
-use Prim.Native.Nat.{ℕ, _+_, _*_, _≤_, _<_}
+use Prim.Native.Nat.{ℕ, _≤_, _<_}
 use native.Mathlib.Omega.{arith}
-use mathlib.Core.Path.{_≡_, refl, sym, _∙_}
+use mathlib.Core.Path.{_≡_, refl}
 use mathlib.Core.Bool.{Bool, true, false, _&&_}
-use mathlib.Core.List.{List, [], _∷_}
+use mathlib.Core.List.{List}
 use mathlib.Core.Option.{Option, none, some}
 use lib.ListN.{length, drop}
 use lib.Dec.{ltb, leb}
 use borrow.Author.Tests.{le-ltb, lt-ltb, ltb-true, ltb-false, le-leb, leb-true}
 use Rattle.format.specs.Slots.{Starts, byte, Bytes}
-use Rattle.format.specs.Records.{Record, digital, analogue, fan, led, water, pump, voltage, current, controller, tachometer, zone, string, external, rgb, elementOf}
+use Rattle.format.specs.Records.{Record, digital, analogue, fan, led, water, pump, voltage, current, controller, tachometer, zone}
+use Rattle.format.specs.Records.{string, external, rgb, elementOf}
 use Rattle.format.specs.Layout.{layout, idOf}
 use Rattle.format.specs.Table.{elementBreaks}
-use Rattle.format.specs.Verdict.{stated, framed, known, Stands, Breaks, header, crowded, unknown, unlaid, faulty}
+use Rattle.format.specs.Verdict.{stated, framed, known, Breaks, header, crowded, unknown, unlaid, faulty}
 use Rattle.format.specs.Decode.{content, decode}
 use Rattle.format.specs.Reader.{Outcome, took, stop, orStop, unlessBroken, judge, step}
 use Rattle.format.proofs.Slots.{starts-over, starts-length}
@@ -94,7 +95,8 @@ step-meets s before bs small more =
     or-stop (Meets s before bs) (known (byte bs 0)) 7 _
     (λ kn.
     let f = framed-facts bs fr in
-    judge-meets s before bs fr (ltb-true _ _ few) kn (decode (s .chip) (byte bs 0) (content bs)) refl (decoded-stands (s .chip) bs small (f .1) (f .2)))
+    judge-meets s before bs fr (ltb-true _ _ few) kn (decode (s .chip) (byte bs 0) (content bs)) refl
+    (decoded-stands (s .chip) bs small (f .1) (f .2)))
     (λ kn. unknown fr (ltb-true _ _ few) kn))
     (λ few. crowded fr (ltb-false _ _ few)))
     (λ fr. header more fr)
@@ -125,7 +127,13 @@ step-stop s before bs small (unlaid fr few kn nothing) =
     go none h = refl
     go (some r) h = absurd (nothing r h)
 step-stop s before bs small (faulty r few h e) =
-    simp (starts-framed bs r (h .rest) (h .starts), lt-ltb _ _ few, starts-known bs r (h .rest) (h .starts), stands-decoded (s .chip) bs r h, e)
+    simp (
+      starts-framed bs r (h .rest) (h .starts),
+      lt-ltb _ _ few,
+      starts-known bs r (h .rest) (h .starts),
+      stands-decoded (s .chip) bs r h,
+      e,
+    )
 
 pub breaks-more : (s : Settings) (before : List Record) (bs : List ℕ) {k : ℕ} → Breaks s before bs k → 0 < length bs
 breaks-more s before bs (header more fr) = more

@@ -9,7 +9,8 @@ use mathlib.Core.List.{List, [], _∷_, _++_}
 use mathlib.Core.Option.{some}
 use lib.Dec.{eqb}
 use Rattle.format.specs.Slots.{written}
-use Rattle.format.specs.Records.{Record, digital, analogue, fan, led, water, pump, voltage, current, controller, tachometer, zone, string, external, rgb, elementOf, stringNumber, textOf}
+use Rattle.format.specs.Records.{Record, digital, analogue, fan, led, water, pump, voltage, current, controller, tachometer, zone}
+use Rattle.format.specs.Records.{string, external, rgb, elementOf, stringNumber, textOf}
 use Rattle.format.specs.Layout.{part}
 use Rattle.format.specs.Utf16.{wellFormed}
 use Rattle.format.specs.Rules.{coded}
@@ -76,7 +77,11 @@ own-nth s before (x ∷ rs) zero {r} h n =
 own-nth s before (x ∷ rs) (suc k) h n = own-nth s (before ++ x ∷ []) rs k (h .2) n
 
 -- 'the string reader says so and whoever uses it may count on it'
-pub given-text : (s : Settings) (b : List ℕ) (k : ℕ) (a : Asked) (p : List ℕ) → Gives s b k a p → a ≡ Element Text → wellFormed (textOf p) ≡ true
+pub given-text :
+    (s : Settings) (b : List ℕ) (k : ℕ) (a : Asked) (p : List ℕ)
+    → Gives s b k a p
+    → a ≡ Element Text
+    → wellFormed (textOf p) ≡ true
 given-text s b k a p (given {r = r} d rs c n) e =
     let q : elementOf r ≡ Text = cc in
     kept-text s r q (own-nth s [] rs k (c .keeps .passed) n)

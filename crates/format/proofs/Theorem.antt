@@ -1,26 +1,28 @@
 -- THE THEOREM: an answer is right exactly when it is the reader's. So each list of bytes has an answer, and no second.
 -- Assumes nothing.
-use Prim.Native.Nat.{ℕ, _+_, _≤_, _<_}
+use Prim.Native.Nat.{ℕ, _+_, _≤_}
 use native.Mathlib.Omega.{arith}
 use mathlib.Core.Path.{_≡_, refl, sym, _∙_, ap}
 use mathlib.Core.Bool.{Bool, true, false, _&&_, false≢true}
-use mathlib.Core.List.{List, [], _∷_, _++_}
+use mathlib.Core.List.{List, []}
 use mathlib.Core.Option.{Option, none, some}
 use lib.ListN.{length, drop}
 use lib.Dec.{eqb, leb}
 use borrow.Author.Tests.{eqb-true, eqb-false, leb-true, leb-false, le-leb, lt-leb, eq-eqb, ne-eqb}
-use Rattle.format.specs.Slots.{Starts, Fits, byte, Bytes}
+use Rattle.format.specs.Slots.{Fits, byte, Bytes}
 use Rattle.format.specs.Records.{Record}
-use Rattle.format.specs.Layout.{layouts, opening, table}
+use Rattle.format.specs.Layout.{layouts, table}
 use Rattle.format.specs.ZonesAndStrings.{zoneless, nameless}
 use Rattle.format.specs.Claims.{contested}
 use Rattle.format.specs.Table.{descriptionBreaks, PassKept, Keeps}
-use Rattle.format.specs.Verdict.{stated, Breaks, Opened, Passed, Accepts, Verdict, accepted, short, unrevised, missized, misdescribed, stopped, unzoned, unnamed, clashing}
+use Rattle.format.specs.Verdict.{stated, Opened, Passed, Accepts, Verdict, accepted, short, unrevised, missized, misdescribed}
+use Rattle.format.specs.Verdict.{stopped, unzoned, unnamed, clashing}
 use Rattle.format.specs.Decode.{readDescription}
-use Rattle.format.specs.Reader.{Result, halted, through, pass, orRefuse, overAll, conclude, unlessMisdescribed, afterDescription, orRefuseAt0, verdictOf}
+use Rattle.format.specs.Reader.{Result, halted, through, pass, orRefuse, overAll, conclude, unlessMisdescribed, afterDescription}
+use Rattle.format.specs.Reader.{orRefuseAt0, verdictOf}
 use Rattle.format.specs.declared.records.Description.{Description}
 use Rattle.format.specs.declared.answers.Answer.{Answer}
-use Rattle.format.specs.declared.answers.Answer.the-variants.{Accepted, Refused}
+use Rattle.format.specs.declared.answers.Answer.the-variants.{Refused}
 use Rattle.format.proofs.Slots.{bytes-drop, starts-count, starts-roomy}
 use Rattle.format.proofs.Kept.{and-true, described-kind}
 use Rattle.format.proofs.Opening.{opened-only, opened-fits, opened-facts, table-split, table-join}
@@ -67,7 +69,8 @@ module _ (s : Settings) where
       or-refuse (Verdict s b) 13 (zoneless rs) _ (λ q z. unzoned d rs p z)
       (λ z.
       or-refuse (Verdict s b) 14 (nameless d rs) _ (λ q n. unnamed d rs p z n)
-      (λ n. or-refuse (Verdict s b) 15 (contested d rs) _ (λ q c. clashing d rs p z n c) (λ c. accepted d rs (record { keeps = keeps b d rs small p z n c; fits = p .fits }))))
+      (λ n. or-refuse (Verdict s b) 15 (contested d rs) _ (λ q c. clashing d rs p z n c)
+      (λ c. accepted d rs (record { keeps = keeps b d rs small p z n c; fits = p .fits }))))
 
   conclude-meets :
       (b : List ℕ) (d : Description) (rest : List ℕ)
@@ -84,11 +87,16 @@ module _ (s : Settings) where
       (record { limit = o .limit; fits = table-join (s .chip) b d (e .0) rest o (e .1); described = clean; passed = e .2 }))
 
   after-meets :
-      (b : List ℕ) (d : Description) (rest : List ℕ) → Bytes b → Bytes rest → Opened (s .chip) b d rest → Verdict s b (afterDescription s d rest)
+      (b : List ℕ) (d : Description) (rest : List ℕ) → Bytes b → Bytes rest → Opened (s .chip) b d rest
+      → Verdict s b (afterDescription s d rest)
   after-meets b d rest small small′ o = go (descriptionBreaks (s .chip) d) refl
     where
-      go : (u : Option ℕ) → descriptionBreaks (s .chip) d ≡ u → Verdict s b (unlessMisdescribed u (conclude d (pass s (length rest) [] 16 rest)))
-      go none e = conclude-meets b d rest small o e (pass s (length rest) [] 16 rest) (pass-meets s (length rest) [] 16 rest small′ (omega arith))
+      go :
+          (u : Option ℕ)
+          → descriptionBreaks (s .chip) d ≡ u
+          → Verdict s b (unlessMisdescribed u (conclude d (pass s (length rest) [] 16 rest)))
+      go none e = conclude-meets b d rest small o e (pass s (length rest) [] 16 rest)
+          (pass-meets s (length rest) [] 16 rest small′ (omega arith))
       go (some k) e = misdescribed d rest o e
 
   and-false : (a b : Bool) {A B : Type 0} → a && b ≡ false → (A → a ≡ true) → (B → b ≡ true) → A × B → ⊥
@@ -107,7 +115,8 @@ module _ (s : Settings) where
       let p = and-true (eqb (stated b) (length b)) (leb (stated b) 4096) fit in
       after-meets b (readDescription (s .chip) (byte b)) (drop 16 b) small (bytes-drop 16 b small)
       (opened-fits (s .chip) b small (leb-true _ _ long) (eqb-true _ _ one) (eqb-true _ _ (p .0)) (leb-true _ _ (p .1))))
-      (λ fit. missized (leb-true _ _ long) (eqb-true _ _ one) (and-false (eqb (stated b) (length b)) (leb (stated b) 4096) fit (eq-eqb _ _) (le-leb _ _))))
+      (λ fit. missized (leb-true _ _ long) (eqb-true _ _ one)
+      (and-false (eqb (stated b) (length b)) (leb (stated b) 4096) fit (eq-eqb _ _) (le-leb _ _))))
       (λ one. unrevised (leb-true _ _ long) (eqb-false _ _ one)))
       (λ long. short (leb-false _ _ long))
 
@@ -118,7 +127,12 @@ module _ (s : Settings) where
   opened-reads b d rest o =
       let f = opened-facts (s .chip) b d rest o in
       let r = opened-only (s .chip) b d rest o in
-      rw (r .0, r .1) (simp (le-leb 16 (length b) (f .0), eq-eqb (byte b 0) 1 (f .1), eq-eqb (stated b) (length b) (f .2), le-leb (stated b) 4096 (f .3)))
+      rw (r .0, r .1) (simp (
+        le-leb 16 (length b) (f .0),
+        eq-eqb (byte b 0) 1 (f .1),
+        eq-eqb (stated b) (length b) (f .2),
+        le-leb (stated b) 4096 (f .3),
+      ))
 
   passed-reads :
       (b : List ℕ) (d : Description) (rest : List ℕ) (o : Result)
@@ -162,7 +176,12 @@ module _ (s : Settings) where
   only b a small (short h) = simp (lt-leb 16 (length b) h)
   only b a small (unrevised long n) = simp (le-leb 16 (length b) long, ne-eqb (byte b 0) 1 n)
   only b a small (missized long one n) =
-      simp (le-leb 16 (length b) long, eq-eqb (byte b 0) 1 one, differs (eqb (stated b) (length b)) (leb (stated b) 4096) (eqb-true _ _) (leb-true _ _) n)
+      simp (
+        le-leb 16 (length b) long,
+        eq-eqb (byte b 0) 1 one,
+        differs (eqb (stated b) (length b)) (leb (stated b) 4096) (eqb-true _ _)
+            (leb-true _ _) n,
+      )
   only b a small (misdescribed d rest o e) = opened-reads b d rest o ∙ simp e
   only b a small (stopped {k = k} d rest rs here o clean st kept br) =
       passed-reads b d rest (halted k (16 + length (layouts rs))) small o clean (rs, here, st, kept, br, refl)

@@ -1,17 +1,18 @@
 -- Well-formed text, said of units and byte by byte: the two agree, and a cut anywhere does not matter.
 -- Assumes nothing.
-use Prim.Native.Nat.{ℕ, zero, suc, _+_, _-_, _*_, _/_, _%_, _<_, _≤_}
+use Prim.Native.Nat.{ℕ, suc, _+_, _-_, _*_, _%_, _<_, _≤_}
 use native.Mathlib.Omega.{arith}
-use mathlib.Core.Path.{_≡_, refl, sym, _∙_, ap}
-use mathlib.Core.Bool.{Bool, true, false, _&&_, not, cond, and-false, false≢true}
+use mathlib.Core.Path.{_≡_, refl, sym, _∙_}
+use mathlib.Core.Bool.{Bool, true, false, _&&_, cond, and-false, false≢true}
 use mathlib.Core.List.{List, [], _∷_, _++_}
 use lib.ListN.{length}
-use lib.Dec.{eqb, ltb, leb}
+use lib.Dec.{eqb, leb}
 use borrow.Author.Tests.{le-leb, lt-leb, leb-true, leb-false}
 use Rattle.format.specs.Slots.{Bytes}
-use Rattle.format.specs.Utf16.{units, highSurrogate, lowSurrogate, agrees, pairedAfter, paired, wellFormed, highByte, lowByte, textStep, reached, ends}
+use Rattle.format.specs.Utf16.{units, highSurrogate, lowSurrogate, agrees, pairedAfter, wellFormed, highByte, lowByte, textStep}
+use Rattle.format.specs.Utf16.{reached, ends}
 use Rattle.format.specs.declared.text.Reached.{Reached}
-use Rattle.format.specs.declared.text.Reached.the-variants.{Even, Half, High, HalfAfterHigh, Bad}
+use Rattle.format.specs.declared.text.Reached.the-variants.{Even, High, Bad}
 use Rattle.format.proofs.Kept.{and-true}
 
 -- pieces: what the second does to what the first reached
@@ -93,7 +94,8 @@ agree-after true (a ∷ []) small = refl
 agree-after false (a ∷ []) small = refl
 agree-after after (a ∷ b ∷ bytes) small =
     let two : suc (suc (length bytes)) % 2 ≡ length bytes % 2 = omega arith in
-    let law = one-unit (eqb (length bytes % 2) 0) after (lowByte b) (highByte b) (units bytes) bytes (not-both b) (λ t. agree-after t bytes (λ i. small (suc (suc i)))) in
+    let law = one-unit (eqb (length bytes % 2) 0) after (lowByte b) (highByte b) (units bytes) bytes (not-both b)
+    (λ t. agree-after t bytes (λ i. small (suc (suc i)))) in
     rw (two, low-byte a b (small 0), high-byte a b (small 0)) (law ∙ from-there after)
   where
     from-there : (t : Bool) → ends (reached (beyond t (lowByte b) (highByte b)) bytes) ≡ ends (reached (from t) (a ∷ b ∷ bytes))

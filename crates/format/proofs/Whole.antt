@@ -6,7 +6,8 @@ use mathlib.Core.Path.{_≡_, refl, sym, _∙_, ap, subst}
 use mathlib.Core.List.{List, [], _∷_, _++_, map, append-nil}
 use lib.ListN.{length, take}
 use Rattle.format.specs.Slots.{Slot, whole, word, byteOf, written, Starts}
-use Rattle.format.specs.Records.{Block, Record, digital, analogue, fan, led, water, pump, voltage, current, controller, tachometer, zone, string, external, rgb}
+use Rattle.format.specs.Records.{Block, Record, digital, analogue, fan, led, water, pump, voltage, current, controller, tachometer}
+use Rattle.format.specs.Records.{zone, string, external, rgb}
 use Rattle.format.specs.Layout.{part, pairs, entries, blocks}
 use Rattle.format.specs.declared.records.RegisterPair.{RegisterPair}
 use Rattle.format.proofs.Written.{length-written}

@@ -1,16 +1,17 @@
 -- What is written of a layout fits it and reads back; an accepted table's records are written as that table, reserved places at zero.
 -- Assumes nothing.
-use Prim.Native.Nat.{ℕ, zero, suc, _+_, _*_, _/_, _%_, _≤_, _<_}
+use Prim.Native.Nat.{ℕ, zero, suc, _+_, _<_}
 use native.Mathlib.Omega.{arith}
 use mathlib.Core.Path.{_≡_, refl, sym, ap}
-use mathlib.Core.Bool.{Bool, true, false, _&&_}
+use mathlib.Core.Bool.{Bool, true, false}
 use mathlib.Core.List.{List, [], _∷_, _++_}
 use mathlib.Core.Option.{some}
 use lib.ListN.{length}
 use lib.Dec.{ltb}
 use borrow.Author.Tests.{ltb-true}
-use Rattle.format.specs.Slots.{Slot, whole, low, high, halves, flag, reserved, bit, byteOf, written, Holds, Starts, Fits, roomy, allRoomy, byte, Bytes}
-use Rattle.format.specs.Records.{Record, elementOf}
+use Rattle.format.specs.Slots.{Slot, whole, low, high, halves, flag, reserved, bit, byteOf, written, Holds, Starts, Fits, roomy}
+use Rattle.format.specs.Slots.{allRoomy, byte, Bytes}
+use Rattle.format.specs.Records.{Record}
 use Rattle.format.specs.Layout.{layout, opening, table}
 use Rattle.format.specs.Rules.{ofItsKind, descriptionKind}
 use Rattle.format.specs.Table.{Keeps}
@@ -100,7 +101,10 @@ description-reads-back c d n more h k =
     (starts-over (written (opening d n) ++ more) (opening d n) more (written-starts (opening d n) more h)) k
 
 -- records that keep the rules are accepted as they are written
-pub written-accepted : (s : Settings) (d : Description) (rs : List Record) → Keeps s d rs → Verdict s (written (table d rs)) (Accepted (length rs))
+pub written-accepted :
+    (s : Settings) (d : Description) (rs : List Record)
+    → Keeps s d rs
+    → Verdict s (written (table d rs)) (Accepted (length rs))
 written-accepted s d rs k = accepted d rs (record { keeps = k; fits = written-fits (table d rs) (k .roomy-25) })
 
 -- what bytes fit is written as those bytes with their reserved places at zero
@@ -110,5 +114,8 @@ starts-cleared [] (s ∷ ss) h = absurd h
 starts-cleared (b ∷ bs) (s ∷ ss) h = λ i. holds-cleared b s (h .0) i ∷ starts-cleared bs ss (h .1) i
 
 -- demand 2, of the layout: the records of an accepted table are written as that table with its reserved places at zero
-pub written-again : (s : Settings) (b : List ℕ) (d : Description) (rs : List Record) → Accepts s b d rs → written (table d rs) ≡ cleared b (table d rs)
+pub written-again :
+    (s : Settings) (b : List ℕ) (d : Description) (rs : List Record)
+    → Accepts s b d rs
+    → written (table d rs) ≡ cleared b (table d rs)
 written-again s b d rs c = starts-cleared b (table d rs) (c .fits)

@@ -30,6 +30,10 @@ pub data Describes (s : Settings) (b : List ℕ) : Described → Type 0 where
 -- element k and its part: 'checks the whole table first and gives the same refusal'; 17: 'asked for an element past the
 -- last'; 'an empty part with a refusal'
 pub data Gives (s : Settings) (b : List ℕ) (k : ℕ) : Asked → List ℕ → Type 0 where
-  given : {r : Record} (d : Fields) (rs : List Record) → Accepts s b d rs → nth rs k ≡ some r → Gives s b k (Element (elementOf r)) (written (part r))
+  given :
+      {r : Record} (d : Fields) (rs : List Record)
+      → Accepts s b d rs
+      → nth rs k ≡ some r
+      → Gives s b k (Element (elementOf r)) (written (part r))
   past : (d : Fields) (rs : List Record) → Accepts s b d rs → nth rs k ≡ none → Gives s b k (NotGiven 17 0) []
   ungiven : {j p : ℕ} → Verdict s b (RefusedTable j p) → Gives s b k (NotGiven j p) []

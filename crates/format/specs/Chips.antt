@@ -1,8 +1,10 @@
 -- A record and a table as they would be on another chip: each pin carries that chip, and nothing else changes.
 -- Assumes nothing.
 use mathlib.Core.List.{List, map}
-use Rattle.format.specs.Records.{Record, digital, analogue, fan, led, water, pump, voltage, current, controller, tachometer, zone, string, external, rgb}
-use Rattle.format.specs.Decode.{pinOf, digitalOf, analogueOf, fanOf, lampOf, ledOf, waterOf, voltageOf, currentOf, deviceOf, externalOf, rgbOf, descriptionOf}
+use Rattle.format.specs.Records.{Record, digital, analogue, fan, led, water, pump, voltage, current, controller, tachometer, zone}
+use Rattle.format.specs.Records.{string, external, rgb}
+use Rattle.format.specs.Decode.{pinOf, digitalOf, analogueOf, fanOf, lampOf, ledOf, waterOf, voltageOf, currentOf, deviceOf}
+use Rattle.format.specs.Decode.{externalOf, rgbOf, descriptionOf}
 use Rattle.format.specs.declared.pins.Chip.{Chip}
 use Rattle.format.specs.declared.pins.Pin.{Pin}
 use Rattle.format.specs.declared.pins.OptionalPin.{OptionalPin}
@@ -43,7 +45,8 @@ motorOn c f =
 abbrev pub recordOn : Chip → Record → Record
 recordOn c (digital d) =
     digital
-    (digitalOf (d .placement) (d .bus) (addressOn c (d .address)) (d .lsb) (d .msb) (d .minvalue) (d .mintemp .0) (d .maxvalue) (d .maxtemp .0))
+    (digitalOf (d .placement) (d .bus) (addressOn c (d .address)) (d .lsb) (d .msb) (d .minvalue) (d .mintemp .0) (d .maxvalue)
+    (d .maxtemp .0))
 recordOn c (analogue a) =
     analogue
     (analogueOf (a .placement) (a .thermal) (pinOn c (a .pin)) (a .at0 .0) (a .at25 .0) (a .at50 .0) (a .at75 .0) (a .at100 .0))
@@ -65,4 +68,5 @@ recordsOn c rs = map (recordOn c) rs
 
 abbrev pub descriptionOn : Chip → Description → Description
 descriptionOn c d =
-    descriptionOf (d .device) (d .string) (d .serial) (d .spwr) (d .power .0) (optionalOn c (d .revision0)) (optionalOn c (d .revision1)) (optionalOn c (d .revision2))
+    descriptionOf (d .device) (d .string) (d .serial) (d .spwr) (d .power .0) (optionalOn c (d .revision0)) (optionalOn c (d .revision1))
+    (optionalOn c (d .revision2))

@@ -7,7 +7,8 @@ use mathlib.Core.Option.{Option, none, some}
 use lib.ListN.{length, take, drop}
 use lib.Dec.{eqb, leb}
 use Rattle.format.specs.Slots.{byte}
-use Rattle.format.specs.Records.{Block, Record, digital, analogue, fan, led, water, pump, voltage, current, controller, tachometer, zone, string, external, rgb}
+use Rattle.format.specs.Records.{Block, Record, digital, analogue, fan, led, water, pump, voltage, current, controller, tachometer}
+use Rattle.format.specs.Records.{zone, string, external, rgb}
 use Rattle.format.specs.Verdict.{stated}
 use Rattle.format.specs.declared.pins.Chip.{Chip}
 use Rattle.format.specs.declared.pins.Pin.{Pin}
@@ -182,7 +183,8 @@ readRgb c f = rgbOf (readPlacement f) (pinOf c (f 5)) (pinOf c (f 6)) (pinOf c (
 
 abbrev pub readDescription : Chip → (ℕ → ℕ) → Description
 readDescription c f =
-    descriptionOf (f 3) (f 4) (f 5 + 256 * f 6 + 65536 * f 7) (leb 128 (f 8)) (f 8 % 128) (optionalOf c (f 9)) (optionalOf c (f 10)) (optionalOf c (f 11))
+    descriptionOf (f 3) (f 4) (f 5 + 256 * f 6 + 65536 * f 7) (leb 128 (f 8)) (f 8 % 128) (optionalOf c (f 9)) (optionalOf c (f 10))
+    (optionalOf c (f 11))
 
 -- the element's bytes after its header
 abbrev pub content : List ℕ → List ℕ

@@ -1,17 +1,10 @@
 -- A record with another placement: what else it holds stays.
 -- Assumes nothing.
-use Rattle.format.specs.Records.{Record, digital, analogue, fan, led, water, pump, voltage, current, controller, tachometer, zone, string, external, rgb}
+use Rattle.format.specs.Records.{Record, digital, analogue, fan, led, water, pump, voltage, current, controller, tachometer, zone}
+use Rattle.format.specs.Records.{string, external, rgb}
 use Rattle.format.specs.declared.records.Placement.{Placement}
-use Rattle.format.specs.declared.records.DigitalSensor.{DigitalSensor}
-use Rattle.format.specs.declared.records.AnalogueSensor.{AnalogueSensor}
 use Rattle.format.specs.declared.records.PwmFan.{PwmFan}
-use Rattle.format.specs.declared.records.StatusLed.{StatusLed}
-use Rattle.format.specs.declared.records.WaterLevel.{WaterLevel}
-use Rattle.format.specs.declared.records.VoltageSensor.{VoltageSensor}
-use Rattle.format.specs.declared.records.CurrentSensor.{CurrentSensor}
 use Rattle.format.specs.declared.records.BusDevice.{BusDevice}
-use Rattle.format.specs.declared.records.ExternalRgb.{ExternalRgb}
-use Rattle.format.specs.declared.records.RgbLed.{RgbLed}
 
 abbrev pub placedDevice : Placement → BusDevice → BusDevice
 placedDevice p d = record { placement = p; bus = d .bus; address = d .address }

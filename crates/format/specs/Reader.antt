@@ -88,4 +88,5 @@ unfoldable pub verdictOf : Settings → List ℕ → Answer
 verdictOf s b =
     orRefuseAt0 (leb 16 (length b)) 1
     (orRefuseAt0 (eqb (byte b 0) 1) 2
-    (orRefuseAt0 (eqb (stated b) (length b) && leb (stated b) 4096) 3 (afterDescription s (readDescription (s .chip) (byte b)) (drop 16 b))))
+    (orRefuseAt0 (eqb (stated b) (length b) && leb (stated b) 4096) 3
+    (afterDescription s (readDescription (s .chip) (byte b)) (drop 16 b))))

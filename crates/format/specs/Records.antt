@@ -19,7 +19,8 @@ use Rattle.format.specs.declared.records.ExternalRgb.{ExternalRgb}
 use Rattle.format.specs.declared.records.RgbLed.{RgbLed}
 use Rattle.format.specs.declared.records.RegisterPair.{RegisterPair}
 use Rattle.format.specs.declared.records.Element.{Element}
-use Rattle.format.specs.declared.records.Element.the-variants.{Digital, Analogue, Fan, Led, Water, Pump, Voltage, Current, Controller, Tachometer, Zone, Text, External, Rgb}
+use Rattle.format.specs.declared.records.Element.the-variants.{Digital, Analogue, Fan, Led, Water, Pump, Voltage, Current}
+use Rattle.format.specs.declared.records.Element.the-variants.{Controller, Tachometer, Zone, Text, External, Rgb}
 
 -- 01: 'A speed block is SPEED (in units of 100 RPM), ENTRIES and that many pairs'; the layout supplies ENTRIES
 pub record Block : Type 0 where

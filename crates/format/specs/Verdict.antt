@@ -94,7 +94,8 @@ pub data Verdict (s : Settings) (b : List ℕ) : Answer → Type 0 where
   missized : 16 ≤ length b → byte b 0 ≡ 1 → ((stated b ≡ length b) × (stated b ≤ 4096) → ⊥) → Verdict s b (Refused 3 0)
   -- 4, 5, 10, of the description
   misdescribed :
-      {k : ℕ} (d : Description) (rest : List ℕ) → Opened (s .chip) b d rest → descriptionBreaks (s .chip) d ≡ some k → Verdict s b (Refused k 0)
+      {k : ℕ} (d : Description) (rest : List ℕ) → Opened (s .chip) b d rest → descriptionBreaks (s .chip) d ≡ some k
+      → Verdict s b (Refused k 0)
   -- 6 to 12, and 23: 'the bytes from 16 up to its place are the layout .. of elements that break none of the pass's rules, and what
   -- stands there breaks the named rule and none before it'
   stopped :

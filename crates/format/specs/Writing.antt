@@ -1,13 +1,14 @@
 -- What the writer answers and what it leaves in the lent buffer: 'The writer starts a table .. or appends one element'.
 -- Assumes nothing.
-use Prim.Native.Nat.{ℕ, _+_, _*_}
+use Prim.Native.Nat.{ℕ, _+_}
 use mathlib.Core.Bool.{Bool, true, false, _&&_}
-use mathlib.Core.List.{List, [], _∷_, _++_, map}
+use mathlib.Core.List.{List, _++_, map}
 use mathlib.Core.Option.{Option, none, some}
 use lib.ListN.{length, take, drop}
 use lib.Dec.{leb}
 use Rattle.format.specs.Slots.{Slot, whole, word, written}
-use Rattle.format.specs.Records.{Record, digital, analogue, fan, led, water, pump, voltage, current, controller, tachometer, zone, string, external, rgb}
+use Rattle.format.specs.Records.{Record, digital, analogue, fan, led, water, pump, voltage, current, controller, tachometer, zone}
+use Rattle.format.specs.Records.{string, external, rgb}
 use Rattle.format.specs.Layout.{opening, fixed, idOf, headed}
 use Rattle.format.specs.Rules.{firstBroken, ownRules, descriptionRoomy, elementRoomy}
 use Rattle.format.specs.Table.{descriptionBreaks}
@@ -18,7 +19,8 @@ use Rattle.format.specs.declared.settings.Settings.{Settings}
 use Rattle.format.specs.declared.settings.Rules.the-variants.{Ordinary}
 use Rattle.format.specs.declared.records.Description.{Description}
 use Rattle.format.specs.declared.records.Element.{Element}
-use Rattle.format.specs.declared.records.Element.the-variants.{Digital, Analogue, Fan, Led, Water, Pump, Voltage, Current, Controller, Tachometer, Zone, Text, External, Rgb}
+use Rattle.format.specs.declared.records.Element.the-variants.{Digital, Analogue, Fan, Led, Water, Pump, Voltage, Current}
+use Rattle.format.specs.declared.records.Element.the-variants.{Controller, Tachometer, Zone, Text, External, Rgb}
 use Rattle.format.specs.declared.answers.Written.{Written}
 use Rattle.format.specs.declared.answers.Written.the-variants.{Length, Refused}
 

@@ -3,7 +3,7 @@
 use Prim.Native.Nat.{ℕ, _-_, _<_, _≤_}
 use native.Mathlib.Omega.{arith}
 use mathlib.Core.Path.{_≡_, refl, sym, _∙_, ap, subst}
-use mathlib.Core.Bool.{Bool, true, false, false≢true, and-false}
+use mathlib.Core.Bool.{true, false, false≢true, and-false}
 use mathlib.Core.List.{List}
 use mathlib.Core.Option.{Option, none, some}
 use lib.ListN.{length, take, drop, length-drop}
@@ -65,7 +65,8 @@ module _ (s : Settings) (id : ℕ) (c : List ℕ) (r : Found) where
       }
 
   -- a kind of a fixed length
-  module _ {X : Type 0} (kind : X → Record) (read : (ℕ → ℕ) → X) (n : ℕ) (d : decode (s .chip) id c ≡ guard (eqb (length c) n) (some (kind (read (byte c))))) where
+  module _ {X : Type 0} (kind : X → Record) (read : (ℕ → ℕ) → X) (n : ℕ)
+      (d : decode (s .chip) id c ≡ guard (eqb (length c) n) (some (kind (read (byte c))))) where
     pub wrong-length : (length c ≡ n → ⊥) → r .fault ≡ 8 → Judged s id c r
     wrong-length h p = none-there (d ∙ rw (ne-eqb (length c) n h) refl) p
 
@@ -80,7 +81,8 @@ module _ (s : Settings) (id : ℕ) (c : List ℕ) (r : Found) where
         → (r .fault ≡ fault) × (r .claims ≡ claims) × (r .fans ≡ fans)
         → Judged s id c r
     right-length x l m e p f g q =
-        judged (kind x) (d ∙ rw (eq-eqb (length c) n l, ← e) refl) (omega (arith, leb-true 5 n m)) (q .0 ∙ p) (λ z. rw (q .1) f) (λ z. rw (q .2) g)
+        judged (kind x) (d ∙ rw (eq-eqb (length c) n l, ← e) refl) (omega (arith, leb-true 5 n m)) (q .0 ∙ p) (λ z. rw (q .1) f)
+        (λ z. rw (q .2) g)
 
   -- a device on a bus, by its fixed bytes and what its part says
   device-judged :
@@ -162,8 +164,10 @@ module _ (s : Settings) (c : List ℕ) (r : Found) where
     pub controller-judged : 8 ≤ length c → SpeedPart (drop 8 c) part → Judged s 9 c r
     unfolding decode
     controller-judged h q =
-        device-judged s 9 c r (λ l. controller (readDevice (s .chip) (byte c)) l) (cutBlocks (length c) (drop 8 c)) (simp (le-leb 8 (length c) h)) (omega arith)
-        (speed-fault s part (r .fault) (f .misshapen) (readDevice (s .chip) (byte c)) (cutBlocks (length c) (drop 8 c)) (q (length c) (omega (arith, length-drop 8 c))) (λ w. f .breaks w .of-controller))
+        device-judged s 9 c r (λ l. controller (readDevice (s .chip) (byte c)) l) (cutBlocks (length c) (drop 8 c))
+        (simp (le-leb 8 (length c) h)) (omega arith)
+        (speed-fault s part (r .fault) (f .misshapen) (readDevice (s .chip) (byte c)) (cutBlocks (length c) (drop 8 c))
+        (q (length c) (omega (arith, length-drop 8 c))) (λ w. f .breaks w .of-controller))
         (λ n l. f .claimed n)
         (λ n l. f .counted n)
 
@@ -171,8 +175,10 @@ module _ (s : Settings) (c : List ℕ) (r : Found) where
     pub tachometer-judged : 9 ≤ length c → PairsPart 2 (drop 9 c) part → Judged s 10 c r
     unfolding decode
     tachometer-judged h e =
-        device-judged s 10 c r (λ q. tachometer (readDevice (s .chip) (byte c)) (q .0) (q .1)) (cutTwo (drop 9 c)) (simp (le-leb 9 (length c) h)) (omega arith)
-        (pairs-fault s part (r .fault) (f .misshapen) (λ q. tachometer (readDevice (s .chip) (byte c)) (q .0) (q .1)) (cutTwo (drop 9 c)) (e .0 ∙ two (drop 9 c)) (λ w q. f .breaks w .of-tachometer (q .0) (q .1) (e .1)))
+        device-judged s 10 c r (λ q. tachometer (readDevice (s .chip) (byte c)) (q .0) (q .1)) (cutTwo (drop 9 c))
+        (simp (le-leb 9 (length c) h)) (omega arith)
+        (pairs-fault s part (r .fault) (f .misshapen) (λ q. tachometer (readDevice (s .chip) (byte c)) (q .0) (q .1)) (cutTwo (drop 9 c))
+        (e .0 ∙ two (drop 9 c)) (λ w q. f .breaks w .of-tachometer (q .0) (q .1) (e .1)))
         (λ n q. f .claimed n)
         (λ n q. f .counted n)
 
@@ -181,7 +187,9 @@ module _ (s : Settings) (c : List ℕ) (r : Found) where
         9 ≤ length c → part .whole ≡ isSome (exact 3 0 (drop 9 c)) → part .full ≡ among (byte c 8) chipIdentifiers → Judged s 13 c r
     unfolding decode
     external-judged h e i =
-        device-judged s 13 c r (λ q. external (readExternal (s .chip) (byte c)) (q .0) (q .1) (q .2)) (cutThree (drop 9 c)) (simp (le-leb 9 (length c) h)) (omega arith)
-        (pairs-fault s part (r .fault) (f .misshapen) (λ q. external (readExternal (s .chip) (byte c)) (q .0) (q .1) (q .2)) (cutThree (drop 9 c)) (e ∙ three (drop 9 c)) (λ w q. f .breaks w .of-external (byte c 8) (q .0) (q .1) (q .2) (sym i)))
+        device-judged s 13 c r (λ q. external (readExternal (s .chip) (byte c)) (q .0) (q .1) (q .2)) (cutThree (drop 9 c))
+        (simp (le-leb 9 (length c) h)) (omega arith)
+        (pairs-fault s part (r .fault) (f .misshapen) (λ q. external (readExternal (s .chip) (byte c)) (q .0) (q .1) (q .2))
+        (cutThree (drop 9 c)) (e ∙ three (drop 9 c)) (λ w q. f .breaks w .of-external (byte c 8) (q .0) (q .1) (q .2) (sym i)))
         (λ n q. f .claimed n)
         (λ n q. f .counted n)

@@ -97,7 +97,8 @@ fn walk(text: &[u8], table: &mut [u8]) -> Walked
 // More bytes behind so many; none where there are over 4,096 already.
 fn keep(table: &mut [u8], total: usize, bytes: &[u8])
     requires { ⌜ (4352 ≤ length (now table)) × (length (now bytes) ≤ 255) ⌝ }
-    ensures { λ _. ⌜ ((b : List ℕ) → length b ≡ total → Kept b (now (table .entry)) → Kept (b ++ now (bytes .entry)) (now (table .exit))) ⌝ }
+    ensures { λ _. ⌜ ((b : List ℕ) → length b ≡ total → Kept b (now (table .entry)) → Kept (b ++ now (bytes .entry)) (now (table .exit)))
+        ⌝ }
 {
     if 4096 < total {
         return;

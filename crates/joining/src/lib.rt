@@ -15,7 +15,8 @@ use laying::put_fixed;
 
 // An element with its part, from a place on.
 pub fn put_element(buf: &mut [u8], at: usize, e: Element, part: &[u8])
-    requires { ⌜ (elementRoomy e ≡ true) × (length (elementSlots e (now part)) ≤ 4096) × (at + length (elementSlots e (now part)) ≤ length (now buf)) ⌝ }
+    requires { ⌜ (elementRoomy e ≡ true) × (length (elementSlots e (now part)) ≤ 4096)
+        × (at + length (elementSlots e (now part)) ≤ length (now buf)) ⌝ }
     ensures { λ _. ⌜ now (buf .exit) ≡ overwritten at (written (elementSlots e (now (part .entry)))) (now (buf .entry)) ⌝ }
 {
     let n = fixed_length(e);

@@ -15,7 +15,7 @@ use Rattle.format.specs.declared.answers.Answer.the-variants.{Refused as Refuse
 use Rattle.format.proofs.Demand3.{unique, only-one-list}
 use Rattle.format.proofs.Asking.{never-both}
 use Rattle.labels.specs.declared.Source.{Source}
-use Rattle.labels.specs.Called.{Called, refused, calledOf, Calls, titled, past, untitled, standsAt, bytesOf, Found, Labelled}
+use Rattle.labels.specs.Called.{Called, calledOf, Calls, titled, past, untitled, standsAt, bytesOf, Found, Labelled}
 
 module _ (σ : Settings) (b : List ℕ) (k : ℕ) (small : Bytes b) where
   pub only-called : (c c′ : Called) → Calls σ b k c → Calls σ b k c′ → c ≡ c′

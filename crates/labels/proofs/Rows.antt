@@ -1,6 +1,5 @@
--- What the elements of a small list are called, computed (of records that no table need have): a fan at 16, a zone descriptor at 32, string 2 at 37 and string 3, which has
--- no text, at 45.
--- Assumes nothing.
+-- What the elements of a small list are called, computed (of records that no table need have): a fan at 16, a zone descriptor at
+-- 32, string 2 at 37 and string 3, which has no text, at 45. Assumes nothing.
 use Prim.Native.Nat.{ℕ}
 use mathlib.Core.Path.{_≡_, refl}
 use mathlib.Core.List.{List, [], _∷_}

@@ -3,7 +3,7 @@
 use Prim.Native.Nat.{ℕ, _+_, _≤_, _<_}
 use native.Mathlib.Omega.{arith}
 use mathlib.Core.Path.{_≡_, refl, sym, _∙_, ap}
-use mathlib.Core.Bool.{Bool, true, false}
+use mathlib.Core.Bool.{true, false}
 use mathlib.Core.List.{List, [], _∷_, _++_, append-assoc}
 use lib.ListN.{length, drop}
 use Rattle.format.specs.Records.{Record}
@@ -14,8 +14,8 @@ use Rattle.format.specs.declared.settings.Settings.{Settings}
 use Rattle.format.specs.declared.records.Description.{Description}
 use Rattle.format.proofs.Lengths.{snoc-length}
 use Rattle.walking.specs.Walk.{Walk}
-use Rattle.walking.proofs.Left.{Next, next, onward, ended}
-use Rattle.labels.specs.Called.{Called, text, lent, pickCalled, bears, ownText, byNumber}
+use Rattle.walking.proofs.Left.{Next, onward, ended}
+use Rattle.labels.specs.Called.{text, lent, pickCalled, bears, ownText, byNumber}
 
 abbrev pub Sought : ℕ → List Record → List Record → List Record → Type 0
 Sought n rs done left = (done ++ left ≡ rs) × (byNumber n 16 rs ≡ byNumber n (placeAfter done) left)
@@ -25,7 +25,10 @@ begun σ t n d rs a = record { d = d; done = []; left = rs; accepts = a; place =
 
 module _ (σ : Settings) (t : List ℕ) (at n : ℕ) (rs : List Record) (w : Walk σ t at (Sought n rs)) where
   -- the element at this place is the first that is left
-  first : (g : Next σ t at (w .done) (w .left)) → byNumber n 16 rs ≡ pickCalled (bears n (role (g .r))) (text at (ownText (role (g .r)))) (byNumber n (at + length (layout (g .r))) (g .others))
+  first :
+      (g : Next σ t at (w .done) (w .left))
+      → byNumber n 16 rs ≡ pickCalled (bears n (role (g .r))) (text at (ownText (role (g .r))))
+      (byNumber n (at + length (layout (g .r))) (g .others))
   first g =
       w .state .1
       ∙ ap (λ (l : List Record). byNumber n (placeAfter (w .done)) l) (g .same)

@@ -8,14 +8,14 @@ use mathlib.Core.List.{List, [], _∷_, _++_, map, append-assoc}
 use mathlib.Core.Option.{none, some}
 use lib.ListN.{length, take, drop, getD}
 use lib.Seq.{drop-drop, getD-drop}
-use lib.Dec.{eqb, leb}
+use lib.Dec.{eqb}
 use borrow.Author.Tests.{leb-true}
 use Rattle.format.specs.Slots.{whole, word}
 use Rattle.format.specs.Records.{Record, string, stringNumber, textOf}
 use Rattle.format.specs.Layout.{body, layout, placeAfter}
 use Rattle.format.specs.Utf16.{wellFormed}
 use Rattle.format.specs.Rules.{shaped}
-use Rattle.format.specs.ZonesAndStrings.{Role, placed, zoning, naming, role, stringNamed}
+use Rattle.format.specs.ZonesAndStrings.{Role, placed, zoning, naming, role}
 use Rattle.format.specs.Table.{elementBreaks}
 use Rattle.format.specs.Verdict.{Accepts, Verdict, accepted}
 use Rattle.format.specs.Asked.{nth}
@@ -34,7 +34,8 @@ use Rattle.walking.proofs.Left.{Next, top, next, unfinished}
 use Rattle.places.proofs.Roles.{role-bytes}
 use Rattle.reader.proofs.Bounds.{value-bound}
 use Rattle.reader.proofs.Asking.{nth-past}
-use Rattle.labels.specs.Called.{Called, text, lent, refused, pickCalled, bears, ownText, byNumber, byIndex, calledOf, Calls, titled, past, untitled, standsAt, readable, Found}
+use Rattle.labels.specs.Called.{Called, text, lent, refused, pickCalled, bears, ownText, byNumber, byIndex, calledOf, Calls, titled}
+use Rattle.labels.specs.Called.{past, untitled, standsAt, readable, Found}
 use Rattle.labels.specs.declared.Source.{Source}
 use Rattle.labels.specs.Roled.{StringBytes, IfString, Roled}
 
@@ -81,7 +82,8 @@ module _ (c : Chip) (t : List ℕ) (at : ℕ) where
       }
 
 -- the records of an accepted table, cut before one of them
-module _ (σ : Settings) (t : List ℕ) (d : Description) (done : List Record) (r : Record) (left : List Record) (a : Accepts σ t d (done ++ r ∷ left)) where
+module _ (σ : Settings) (t : List ℕ) (d : Description) (done : List Record) (r : Record) (left : List Record)
+    (a : Accepts σ t d (done ++ r ∷ left)) where
   abbrev here-walk : Walk σ t (placeAfter done) (λ x y. Unit {0})
   here-walk = record { d = d; done = done; left = r ∷ left; accepts = a; place = refl; state = tt }
 
@@ -132,7 +134,8 @@ roled-next σ t at S w g =
     subst (λ (m : ℕ). Roled t m (role (g .r))) (sym (w .place))
     (roled σ t (w .d) (w .done) (g .r) (g .others) (subst (λ (l : List Record). Accepts σ t (w .d) (w .done ++ l)) (g .same) (w .accepts)))
 
-module _ (σ : Settings) (t : List ℕ) (d : Description) (rs : List Record) (k : ℕ) {r : Record} (a : Accepts σ t d rs) (n : nth rs k ≡ some r) where
+module _ (σ : Settings) (t : List ℕ) (d : Description) (rs : List Record) (k : ℕ) {r : Record} (a : Accepts σ t d rs)
+    (n : nth rs k ≡ some r) where
   cut-there : Accepts σ t d (take k rs ++ r ∷ drop (suc k) rs)
   cut-there = subst (λ (l : List Record). Accepts σ t d l) (nth-split rs k n) a
 
@@ -179,7 +182,8 @@ standing-number σ t d n done (r ∷ left) a =
     go (placed p) e later = later
     go (zoning bytes) e later = later
     go (naming bytes) e later =
-        standing-pick t (eqb (stringNumber bytes) n) (text (placeAfter done) (textOf bytes)) (byNumber n (placeAfter done + length (layout r)) left) (held-here σ t d done r left a bytes e) later
+        standing-pick t (eqb (stringNumber bytes) n) (text (placeAfter done) (textOf bytes))
+        (byNumber n (placeAfter done + length (layout r)) left) (held-here σ t d done r left a bytes e) later
 
 pub stands : (σ : Settings) (t : List ℕ) (k : ℕ) (c : Called) → Calls σ t k c → Standing t c
 stands σ t k c (titled {r = r} d rs a n) = go (role r) refl

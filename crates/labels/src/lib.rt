@@ -55,7 +55,8 @@ pub fn find(table: &[u8], k: usize, settings: Settings) -> Source
 // What the element at a place is called: a string by its own text, any other by its string index.
 fn called(t: &[u8], at: usize) -> Source
     requires { ⌜ ((σ : Settings) × (d : Description) × (rs : List Record) × (x : Role) × Accepts σ (now t) d rs × Roled (now t) at x) ⌝ }
-    ensures { λ r. ⌜ ((σ : Settings) (d : Description) (rs : List Record) (x : Role) → Accepts σ (now (t .entry)) d rs → Roled (now (t .entry)) at x → r ≡ standsAt (calledOf rs at x)) ⌝ }
+    ensures { λ r. ⌜ ((σ : Settings) (d : Description) (rs : List Record) (x : Role) → Accepts σ (now (t .entry)) d rs
+        → Roled (now (t .entry)) at x → r ≡ standsAt (calledOf rs at x)) ⌝ }
 {
     if t[at] == 12 {
         return text_at(t, at);
@@ -70,7 +71,8 @@ fn called(t: &[u8], at: usize) -> Source
 // The text of the string with a number.
 fn by_number(t: &[u8], number: u8) -> Source
     requires { ⌜ ((σ : Settings) × (d : Description) × (rs : List Record) × Accepts σ (now t) d rs) ⌝ }
-    ensures { λ r. ⌜ ((σ : Settings) (d : Description) (rs : List Record) → Accepts σ (now (t .entry)) d rs → r ≡ standsAt (byNumber number 16 rs)) ⌝ }
+    ensures { λ r. ⌜ ((σ : Settings) (d : Description) (rs : List Record) → Accepts σ (now (t .entry)) d rs → r
+        ≡ standsAt (byNumber number 16 rs)) ⌝ }
 {
     let mut at: usize = 16;
     while at < t.len() {

@@ -1,7 +1,6 @@
 -- The listing by the ordinary rules and by the archive's: it is the same whenever the ordinary answer is not 23.
 -- Assumes nothing.
 use Prim.Native.Nat.{ℕ}
-use mathlib.Core.Path.{_≡_}
 use mathlib.Core.List.{List}
 use Rattle.format.specs.Verdict.{Verdict}
 use Rattle.format.specs.Archive.{withRules}

@@ -3,7 +3,7 @@
 use Prim.Native.Nat.{ℕ, _+_, _*_, _<_, _≤_}
 use native.Mathlib.Omega.{arith}
 use native.Mathlib.Nat.{add-zero}
-use mathlib.Core.Path.{_≡_, refl, sym, _∙_, ap, subst}
+use mathlib.Core.Path.{_≡_, sym, _∙_, ap, subst}
 use mathlib.Core.Bool.{false}
 use mathlib.Core.List.{List, [], _∷_, _++_, append-nil, append-assoc}
 use lib.ListN.{length, drop, length-append}
@@ -49,7 +49,11 @@ pub record Lined (c : List ℕ) (from end : ℕ) (out : List ℕ) (done left : L
   pub put : Put c from (elementLines 16 done) end out
   pub bound : end ≤ from + 38 * length done
 
-pub refusal : (σ : Settings) (b c : List ℕ) {k p n : ℕ} (after : List ℕ) → Verdict σ b (Refused k p) → Put c 0 (refusedLine k p) n after → Listed σ b c n after
+pub refusal :
+    (σ : Settings) (b c : List ℕ) {k p n : ℕ} (after : List ℕ)
+    → Verdict σ b (Refused k p)
+    → Put c 0 (refusedLine k p) n after
+    → Listed σ b c n after
 refusal σ b c {k} {p} after v put = record { text = refusedLine k p; is = refused v; put = put }
 
 pub begun : (σ : Settings) (b c : List ℕ) (from : ℕ) {n : ℕ} → Verdict σ b (Accepted n) → Walk σ b 16 (Lined c from from c)

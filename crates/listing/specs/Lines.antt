@@ -31,7 +31,8 @@ supply d = cond (d .spwr) (115 ∷ 101 ∷ 108 ∷ 102 ∷ []) (decimal (4 * d .
 
 -- '.. three hardware pins or `-`'
 abbrev pub hardwarePins : Description → List (List ℕ)
-hardwarePins d = pinOrDash (optionalByte (d .revision0)) ∷ pinOrDash (optionalByte (d .revision1)) ∷ pinOrDash (optionalByte (d .revision2)) ∷ []
+hardwarePins d = pinOrDash (optionalByte (d .revision0)) ∷ pinOrDash (optionalByte (d .revision1))
+    ∷ pinOrDash (optionalByte (d .revision2)) ∷ []
 
 -- the fields after the type
 abbrev pub afterType : Description → List (List ℕ)

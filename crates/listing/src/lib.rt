@@ -1,6 +1,6 @@
 // The listing of a table, as text in a lent buffer: one record a line, fields parted by tabs.
 ghost use mathlib.Core.Path.{_≡_};
-ghost use mathlib.Core.Bool.{Bool, false};
+ghost use mathlib.Core.Bool.{false};
 ghost use mathlib.Core.List.{[], _∷_, _++_};
 ghost use Prim.Native.Nat.{_+_, _*_, _≤_};
 ghost use lib.ListN.{length};
@@ -8,7 +8,8 @@ ghost use Rattle.format.specs.Rules.{inUse};
 ghost use Rattle.format.specs.declared.settings.Rules.the-variants.{Ordinary};
 ghost use Rattle.shown.specs.Own.{ownPins, noPins};
 ghost use Rattle.spelling.specs.Spelling.{Put, decimal, hexPair, pinOrDash};
-ghost use Rattle.listing.specs.Lines.{line, supply, hardwarePins, afterType, tableLine, pinsText, lastField, zoneText, elementLine, refusedLine, Listed};
+ghost use Rattle.listing.specs.Lines.{line, supply, hardwarePins, afterType, tableLine, pinsText, lastField, zoneText, elementLine};
+ghost use Rattle.listing.specs.Lines.{refusedLine, Listed};
 use elements::byte_of;
 use elements::id_of;
 use format::answers::Answer;

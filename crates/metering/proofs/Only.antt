@@ -29,8 +29,10 @@ pub only-reading : (σ : Settings) (b : List ℕ) (k c : ℕ) (r r′ : Metered)
 only-reading σ b k c r r′ small (ungiven {j = j} {p = p} g) (ungiven {j = j′} {p = p′} g′) =
     let q = only-element σ b k (NotGiven j p) (NotGiven j′ p′) small g g′ in
     cc
-only-reading σ b k c r r′ small (ungiven g) (given r₁ g′ a) = absurd (never (only-element σ b k _ _ small g′ g′) (only-element σ b k _ _ small g′ g))
-only-reading σ b k c r r′ small (given r₁ g a) (ungiven g′) = absurd (never (only-element σ b k _ _ small g g) (only-element σ b k _ _ small g g′))
+only-reading σ b k c r r′ small (ungiven g) (given r₁ g′ a) = absurd
+    (never (only-element σ b k _ _ small g′ g′) (only-element σ b k _ _ small g′ g))
+only-reading σ b k c r r′ small (given r₁ g a) (ungiven g′) = absurd
+    (never (only-element σ b k _ _ small g g) (only-element σ b k _ _ small g g′))
 only-reading σ b k c r r′ small (given r₁ g a) (given r₂ g′ a′) =
     ap (λ (x : Converted). meteredOf (outcomeOf x)) (same c (only-element σ b k _ _ small g g′) a a′)
 

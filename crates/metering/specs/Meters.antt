@@ -12,7 +12,8 @@ use Rattle.converting.specs.declared.Outcome.{Outcome}
 use Rattle.converting.specs.declared.Outcome.the-variants.{Reading, Under, Over, Refused}
 use Rattle.sensing.specs.Answers.{sensorOf, Answers}
 use Rattle.metering.specs.declared.Metered.{Metered}
-use Rattle.metering.specs.declared.Metered.the-variants.{Reading as Read, Under as UnderZero, Over as OverHundred, Refused as RefusedAt}
+use Rattle.metering.specs.declared.Metered.the-variants.{Reading as Read, Under as UnderZero, Over as OverHundred}
+use Rattle.metering.specs.declared.Metered.the-variants.{Refused as RefusedAt}
 
 -- without a line there is no line number: 18 and 19 stand at 0
 abbrev pub meteredOf : Outcome → Metered

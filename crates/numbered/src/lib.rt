@@ -2,7 +2,8 @@
 ghost use mathlib.Core.Path.{_≡_};
 ghost use mathlib.Core.List.{[], _∷_};
 ghost use Rattle.format.specs.Layout.{optionalByte};
-ghost use Rattle.format.specs.declared.records.Element.the-variants.{Digital, Analogue, Fan, Led, Water, Voltage, Current, Controller, External, Rgb};
+ghost use Rattle.format.specs.declared.records.Element.the-variants.{Digital, Analogue, Fan, Led, Water, Voltage, Current, Controller};
+ghost use Rattle.format.specs.declared.records.Element.the-variants.{External, Rgb};
 ghost use Rattle.numbered.specs.Into.{padded, chipNumber, placementNumbers, kindOf, addressOf, elementInto, descriptionInto};
 use format::pins::Chip;
 use format::pins::OptionalPin;

@@ -5,7 +5,8 @@ use mathlib.Core.Bool.{Bool, true, false, _&&_, not, cond}
 use mathlib.Core.List.{List}
 use lib.Dec.{eqb, leb}
 use Rattle.format.specs.Slots.{byte}
-use Rattle.format.specs.Decode.{pinOf, optionalOf, digitalOf, analogueOf, lampOf, ledOf, currentOf, deviceOf, externalOf, descriptionOf, wordAt, readPlacement, readFan, readWater, readVoltage, readRgb}
+use Rattle.format.specs.Decode.{pinOf, optionalOf, digitalOf, analogueOf, lampOf, ledOf, currentOf, deviceOf, externalOf, descriptionOf}
+use Rattle.format.specs.Decode.{wordAt, readPlacement, readFan, readWater, readVoltage, readRgb}
 use Rattle.format.specs.declared.pins.Chip.{Chip}
 use Rattle.format.specs.declared.pins.Chip.the-variants.{C8051F320, C8051F321}
 use Rattle.format.specs.declared.records.Description.{Description}
@@ -19,7 +20,8 @@ use Rattle.format.specs.declared.records.ExternalRgb.{ExternalRgb}
 use Rattle.format.specs.declared.records.Address.{Address}
 use Rattle.format.specs.declared.records.Address.the-variants.{Bus, Select}
 use Rattle.format.specs.declared.records.Element.{Element}
-use Rattle.format.specs.declared.records.Element.the-variants.{Digital, Analogue, Fan, Led, Water, Pump, Voltage, Current, Controller, Tachometer, Zone, Text, External, Rgb}
+use Rattle.format.specs.declared.records.Element.the-variants.{Digital, Analogue, Fan, Led, Water, Pump, Voltage, Current, Controller}
+use Rattle.format.specs.declared.records.Element.the-variants.{Tachometer, Zone, Text, External, Rgb}
 use Rattle.words.specs.Widths.{longAt}
 use Rattle.numbers.specs.declared.MaybeElement.{MaybeElement}
 use Rattle.numbers.specs.declared.MaybeElement.the-variants.{Element as Found, Unknown}
@@ -41,7 +43,8 @@ addressFrom c false a = Select (pinOf c a)
 -- header, which `readFan`, `readWater`, `readVoltage` and `readRgb` of `format` read
 abbrev pub digitalFrom : Chip → (ℕ → ℕ) → DigitalSensor
 digitalFrom c f =
-    digitalOf (readPlacement f) (f 5) (addressFrom c (eqb (f 6) 0) (f 7)) (wordAt f 8) (wordAt f 10) (wordAt f 12) (f 14) (wordAt f 15) (f 17)
+    digitalOf (readPlacement f) (f 5) (addressFrom c (eqb (f 6) 0) (f 7)) (wordAt f 8) (wordAt f 10) (wordAt f 12) (f 14) (wordAt f 15)
+    (f 17)
 
 abbrev pub analogueFrom : Chip → (ℕ → ℕ) → AnalogueSensor
 analogueFrom c f =

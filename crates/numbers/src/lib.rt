@@ -1,11 +1,12 @@
 // From the 32 bytes that hold a record's numbers at the C face, each number as wide as the record's type and lowest byte first, to
-// the record, one function a kind. Byte 31 names the chip of its pins; the bytes that a kind does not use are not looked at. The numbers of 03h, 05h, 06h, 07h and 0Eh are laid out as the element's bytes after its header, so that `fields`
-// reads them.
+// the record, one function a kind. Byte 31 names the chip of its pins; the bytes that a kind does not use are not looked at. The
+// numbers of 03h, 05h, 06h, 07h and 0Eh are laid out as the element's bytes after its header, so that `fields` reads them.
 ghost use mathlib.Core.Path.{_≡_};
 ghost use Prim.Native.Nat.{_<_};
 ghost use lib.Dec.{eqb};
 ghost use Rattle.format.specs.Slots.{byte};
-ghost use Rattle.numbers.specs.From.{chipFrom, addressFrom, digitalFrom, analogueFrom, lampFrom, ledFrom, currentFrom, deviceFrom, externalFrom, descriptionFrom, kindFrom, elementFrom};
+ghost use Rattle.numbers.specs.From.{chipFrom, addressFrom, digitalFrom, analogueFrom, lampFrom, ledFrom, currentFrom, deviceFrom};
+ghost use Rattle.numbers.specs.From.{externalFrom, descriptionFrom, kindFrom, elementFrom};
 use fields::optional;
 use fields::placement;
 use format::pins::Chip;

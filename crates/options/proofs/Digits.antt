@@ -3,14 +3,13 @@
 use Prim.Native.Nat.{ℕ, suc, _+_, _*_, _-_, _<_, _≤_}
 use native.Mathlib.Omega.{arith}
 use native.Mathlib.Numerals.{add-one}
-use mathlib.Core.Path.{_≡_, refl, sym, _∙_, ap}
+use mathlib.Core.Path.{_≡_, refl, sym, _∙_}
 use mathlib.Core.Bool.{Bool, true, false, _&&_, _||_, not, false≢true}
 use mathlib.Core.List.{List, [], _∷_}
 use lib.ListN.{length, getD, drop, drop-of-length-le}
 use lib.Seq.{drop-cons}
 use lib.Dec.{ltb}
 use borrow.Author.Tests.{ltb-true, ltb-false, lt-ltb, le-ltb}
-use Rattle.options.specs.declared.numerals.MaybeNumber.{MaybeNumber}
 use Rattle.options.specs.declared.numerals.MaybeNumber.the-variants.{Number, Nothing}
 use Rattle.options.specs.Numerals.{noDigit, allDigits, valueAfter, noNumeral, pickNumber, numberBelow}
 

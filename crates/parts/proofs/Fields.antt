@@ -18,7 +18,8 @@ use Rattle.format.specs.Decode.{wordAt, pairOf}
 use Rattle.format.specs.declared.records.RegisterPair.{RegisterPair}
 use Rattle.format.proofs.Whole.{written-append}
 use Rattle.parts.specs.declared.MaybeEntries.the-variants.{Entries}
-use Rattle.parts.specs.Inside.{whenPair, wholeList, afterList, listAt, pairAt, withSpeed, blockAt, blocksFrom, listsFrom, blockIn, pairIn, listIn, listPairIn, colourIn, colourPairIn}
+use Rattle.parts.specs.Inside.{whenPair, wholeList, afterList, listAt, pairAt, withSpeed, blockAt, blocksFrom, listsFrom, blockIn}
+use Rattle.parts.specs.Inside.{pairIn, listIn, listPairIn, colourIn, colourPairIn}
 use Rattle.parts.specs.Fields.{blockField, pairField, blockPairField, listField, listPairField}
 use Rattle.parts.proofs.Reading.{none-left}
 

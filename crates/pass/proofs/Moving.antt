@@ -4,20 +4,19 @@ use Prim.Native.Nat.{ℕ, _+_, _-_, _*_, _<_, _≤_}
 use native.Mathlib.Omega.{arith}
 use mathlib.Core.Path.{_≡_, refl, sym, _∙_, ap}
 use mathlib.Core.Bool.{Bool, true, false, _&&_}
-use mathlib.Core.List.{List, [], _∷_, _++_}
+use mathlib.Core.List.{List}
 use lib.ListN.{length, getD, take, drop, length-drop}
 use lib.Seq.{drop-drop, getD-drop}
 use lib.Dec.{leb}
 use borrow.Author.Tests.{lt-ltb, le-ltb, le-leb, lt-leb}
 use Rattle.format.specs.Slots.{byte}
 use Rattle.format.specs.Records.{Record}
-use Rattle.format.specs.Layout.{placeAfter}
 use Rattle.format.specs.Verdict.{stated, framed, known}
 use Rattle.format.specs.Decode.{content, decode}
 use Rattle.format.specs.Reader.{judge, orStop, step, Outcome, took, stop}
 use Rattle.format.specs.declared.settings.Settings.{Settings}
 use Rattle.format.specs.declared.records.Description.{Description}
-use Rattle.pass.specs.Tracks.{Flags, Low, Tracks, Went, TakeIs, Moves, MoveIs}
+use Rattle.pass.specs.Tracks.{Flags, Low, Went, TakeIs, Moves, MoveIs}
 use Rattle.pass.specs.declared.State.{State}
 use Rattle.pass.specs.declared.Step.{Step}
 use Rattle.pass.specs.declared.Moved.{Moved}
@@ -44,7 +43,11 @@ unframed-long t at p h =
 
 pub framed-good : (t : List ℕ) (at : ℕ) {n : ℕ} → n ≡ stated (drop at t) → 3 ≤ n → n ≤ length t - at → framed (drop at t) ≡ true
 framed-good t at p g h =
-    rw (le-leb 3 (length (drop at t)) (omega (arith, length-drop at t)), le-leb 3 (stated (drop at t)) (omega (arith, p)), le-leb (stated (drop at t)) (length (drop at t)) (omega (arith, p, length-drop at t))) refl
+    rw (
+      le-leb 3 (length (drop at t)) (omega (arith, length-drop at t)),
+      le-leb 3 (stated (drop at t)) (omega (arith, p)),
+      le-leb (stated (drop at t)) (length (drop at t)) (omega (arith, p, length-drop at t)),
+    ) refl
 
 pub content-at :
     (t : List ℕ) (at : ℕ) {n : ℕ} → n ≡ stated (drop at t) → 3 ≤ n → take (at + n - (at + 3)) (drop (at + 3) t) ≡ content (drop at t)
@@ -63,11 +66,29 @@ unframed σ t at before e = rw e refl
 module _ (σ : Settings) (t : List ℕ) (at base : ℕ) (s : State) (f : Flags) (r : Moved) (g : Flags) where
   pub move-6 : Low (r .state) → r .stop ≡ 6 → r .state ≡ s → g ≡ f → framed (drop at t) ≡ false → MoveIs σ t at base s f r g
   unfolding step
-  move-6 low p q w e = record { low = low; fits = λ z. absurd (omega (arith, z, p)); moves = λ d before place k. rw e (p, omega arith, q, w) }
+  move-6 low p q w e = record {
+    low = low;
+    fits = λ z. absurd (omega (arith, z, p));
+    moves = λ d before place k. rw e
+        (p, omega arith, q, w);
+  }
 
-  pub move-11 : Low (r .state) → r .stop ≡ 11 → r .state ≡ s → g ≡ f → framed (drop at t) ≡ true → 96 ≤ s .count → MoveIs σ t at base s f r g
+  pub move-11 :
+      Low (r .state)
+      → r .stop ≡ 11
+      → r .state ≡ s
+      → g ≡ f
+      → framed (drop at t) ≡ true
+      → 96 ≤ s .count
+      → MoveIs σ t at base s f r g
   unfolding step
-  move-11 low p q w e h = record { low = low; fits = λ z. absurd (omega (arith, z, p)); moves = λ d before place k. rw (e, le-ltb (length before) 96 (omega (arith, k .count))) (p, omega arith, q, w) }
+  move-11 low p q w e h = record {
+    low = low;
+    fits = λ z. absurd
+        (omega (arith, z, p));
+    moves = λ d before place k. rw (e, le-ltb (length before) 96 (omega (arith, k .count)))
+        (p, omega arith, q, w);
+  }
 
   moved :
       (d : Description) (before : List Record) (q : Step) (o : Outcome)
@@ -103,5 +124,6 @@ module _ (σ : Settings) (t : List ℕ) (at base : ℕ) (s : State) (f : Flags) 
         moves =
             λ e before place k.
             rw (framed-good t at l m h, lt-ltb (length before) 96 (omega (arith, k .count)), ← d, ← same)
-            (moved e before q (orStop (known id) 7 (judge σ before (decode (σ .chip) id c))) (w .takes e before place k) p st l m (omega arith));
+            (moved e before q (orStop (known id) 7 (judge σ before (decode (σ .chip) id c))) (w .takes e before place k) p st l m
+            (omega arith));
       }

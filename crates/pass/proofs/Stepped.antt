@@ -1,10 +1,10 @@
 -- One step of the pass: the fault of the element itself, a fault against those before, or one element more that is tracked.
 -- Assumes nothing.
-use Prim.Native.Nat.{ℕ, _+_, _<_, _≤_}
+use Prim.Native.Nat.{ℕ, _+_, _≤_}
 use native.Mathlib.Omega.{arith}
 use mathlib.Core.Path.{_≡_, refl, sym, _∙_, ap, subst}
 use mathlib.Core.List.{List, [], _∷_, _++_}
-use mathlib.Core.Option.{Option, none, some}
+use mathlib.Core.Option.{Option}
 use lib.ListN.{length, length-append}
 use Rattle.format.specs.Records.{Record}
 use Rattle.format.specs.Layout.{placeAfter}
@@ -74,27 +74,31 @@ module _ (σ : Settings) (x : Record) (at : ℕ) (s : State) (f : Flags) (r : St
       record {
         leaves =
             λ d before place t.
-            by d before (own-breaks σ before x (some-number (firstBroken (ownRules σ x)) (λ z. n (e ∙ z)))) (p ∙ e, omega (arith, n, e), q, w);
+            by d before (own-breaks σ before x (some-number (firstBroken (ownRules σ x)) (λ z. n (e ∙ z))))
+            (p ∙ e, omega (arith, n, e), q, w);
       }
 
   module _ {j : ℕ} (e : j ≡ numbered (firstBroken (ownRules σ x))) (z : j ≡ 0) where
     then : (before : List Record) → elementBreaks σ before x ≡ firstBroken (rulesAgainst before x)
     then before = then-against σ before x (zero-none (ownRules σ x) (own-numbered σ x) (sym e ∙ z))
 
-    module _ {k : ℕ} (l : (d : Description) (before : List Record) → Tracks d s f before → k ≡ numbered (firstBroken (rulesAgainst before x))) where
+    module _ {k : ℕ} (l : (d : Description) (before : List Record) → Tracks d s f before → k
+        ≡ numbered (firstBroken (rulesAgainst before x))) where
       pub later-fault : (k ≡ 0 → ⊥) → r .stop ≡ k → r .state ≡ s → g ≡ f → StepIs σ x at s f r g
       later-fault n p q w =
           record {
             leaves =
                 λ d before place t.
                 let m = l d before t in
-                by d before (then before ∙ some-number (firstBroken (rulesAgainst before x)) (λ v. n (m ∙ v))) (p ∙ m, omega (arith, n, m), q, w);
+                by d before (then before ∙ some-number (firstBroken (rulesAgainst before x)) (λ v. n (m ∙ v)))
+                (p ∙ m, omega (arith, n, m), q, w);
           }
 
       pub no-fault :
           k ≡ 0
           → r .stop ≡ 0
-          → ((d : Description) (before : List Record) → at ≡ placeAfter before → Tracks d s f before → Tracks d (r .state) g (before ++ x ∷ []))
+          → ((d : Description) (before : List Record) → at ≡ placeAfter before → Tracks d s f before
+          → Tracks d (r .state) g (before ++ x ∷ []))
           → StepIs σ x at s f r g
       no-fault n p h =
           record {

@@ -12,7 +12,6 @@ use lib.Dec.{eqb, ltb, leb}
 use borrow.Author.Tests.{eqb-true, ltb-true, leb-true, ne-eqb}
 use Rattle.format.specs.Slots.{byte, Bytes}
 use Rattle.format.specs.Records.{Record, zone, string, controller, tachometer, external}
-use Rattle.format.specs.Layout.{placeAfter}
 use Rattle.format.specs.Rules.{numbered, firstBroken, ownRules}
 use Rattle.format.specs.Pins.{among}
 use Rattle.format.specs.ZonesAndStrings.{placed, role, gathered, zones, strings, zoneNamed, stringNamed, rulesAgainst}
@@ -21,7 +20,7 @@ use Rattle.format.specs.Claims.{Claim, Made, madeAt, claimsOf, claims}
 use Rattle.format.specs.Table.{elementBreaks}
 use Rattle.format.specs.Verdict.{known}
 use Rattle.format.specs.Decode.{readPlacement, readDevice, readExternal, guard, bind, pick, decode, cutBlocks, cutTwo, cutThree}
-use Rattle.format.specs.Reader.{unlessBroken, judge}
+use Rattle.format.specs.Reader.{unlessBroken}
 use Rattle.format.specs.declared.settings.Settings.{Settings}
 use Rattle.format.specs.declared.settings.Rules.the-variants.{Ordinary}
 use Rattle.format.specs.declared.pins.Chip.{Chip}
@@ -125,7 +124,8 @@ module _ (σ : Settings) (c : List ℕ) (small : Bytes c) (at : ℕ) (s : State)
     pub text-fault :
         getD ss t false ≡ true → r .stop ≡ 12 → r .state ≡ s → StepIs σ (string c) at s (flags zs ss zu su) r (flags zs ss zu su)
     text-fault q p st =
-        later-fault σ (string c) at s (flags zs ss zu su) r (flags zs ss zu su) e o (text-later true q refl) (λ n. omega (arith, n)) p st refl
+        later-fault σ (string c) at s (flags zs ss zu su) r (flags zs ss zu su) e o (text-later true q refl)
+        (λ n. omega (arith, n)) p st refl
 
     pub text-good :
         {ss′ : List Bool}
@@ -200,7 +200,8 @@ module _ (f : Found) (c : List ℕ) (small : Bytes c) (at : ℕ) (s : State) (zu
       → r .state .count ≡ s .count + 1
       → r .state .zones ≡ s .zones
       → r .state .held ≡ h
-      → ((before : List Made) (cs : List Claim) → at < 65536 → HeldIs (s .held) before → ClaimsAre (f .claims) cs → HeldIs h (before ++ madeAt at cs))
+      → ((before : List Made) (cs : List Claim) → at < 65536 → HeldIs (s .held) before → ClaimsAre (f .claims) cs
+      → HeldIs h (before ++ madeAt at cs))
       → ((ps : List ℕ) → FansAre (f .fans) ps → r .state .last ≡ lastPin (s .last) ps)
       → zu′ ≡ set zu z true
       → su′ ≡ set su t true
@@ -239,7 +240,11 @@ went-of d before x s f r g (some k) l = l
 module _ (σ : Settings) (id : ℕ) (c : List ℕ) (at : ℕ) (s : State) (f : Flags) (r : Step) (g : Flags) (low : Low (r .state)) where
   take-record : (x : Record) → known id ≡ true → decode (σ .chip) id c ≡ some x → StepIs σ x at s f r g → TakeIs σ id c at s f r g
   take-record x n e l =
-      record { low = low; takes = λ d before place t. rw (n, e) (went-of d before x s f r g (elementBreaks σ before x) (l .leaves d before place t)) }
+      record {
+        low = low;
+        takes = λ d before place t. rw (n, e)
+            (went-of d before x s f r g (elementBreaks σ before x) (l .leaves d before place t));
+      }
 
   pub take-zone : id ≡ 11 → StepIs σ (zone c) at s f r g → TakeIs σ id c at s f r g
   unfolding decode
@@ -286,11 +291,14 @@ decode-placed chip id c z s =
     (pick-cases P id 6 _ _ (λ _. guarded c (eqb (length c) 13) _ refl)
     (pick-cases P id 7 _ _ (λ _. guarded c (eqb (length c) 8) _ refl)
     (pick-cases P id 8 _ _ (λ _. guarded c (eqb (length c) 11) _ refl)
-    (pick-cases P id 9 _ _ (λ _. guarded c (leb 8 (length c)) _ (bound c (cutBlocks (length c) (drop 8 c)) (λ l. controller (readDevice chip (byte c)) l) (λ l. refl)))
-    (pick-cases P id 10 _ _ (λ _. guarded c (leb 9 (length c)) _ (bound c (cutTwo (drop 9 c)) (λ t. tachometer (readDevice chip (byte c)) (t .0) (t .1)) (λ t. refl)))
+    (pick-cases P id 9 _ _ (λ _. guarded c (leb 8 (length c)) _
+    (bound c (cutBlocks (length c) (drop 8 c)) (λ l. controller (readDevice chip (byte c)) l) (λ l. refl)))
+    (pick-cases P id 10 _ _ (λ _. guarded c (leb 9 (length c)) _
+    (bound c (cutTwo (drop 9 c)) (λ t. tachometer (readDevice chip (byte c)) (t .0) (t .1)) (λ t. refl)))
     (pick-cases P id 11 _ _ (λ e. absurd (z e))
     (pick-cases P id 12 _ _ (λ e. absurd (s e))
-    (pick-cases P id 13 _ _ (λ _. guarded c (leb 9 (length c)) _ (bound c (cutThree (drop 9 c)) (λ t. external (readExternal chip (byte c)) (t .0) (t .1) (t .2)) (λ t. refl)))
+    (pick-cases P id 13 _ _ (λ _. guarded c (leb 9 (length c)) _
+    (bound c (cutThree (drop 9 c)) (λ t. external (readExternal chip (byte c)) (t .0) (t .1) (t .2)) (λ t. refl)))
     (pick-cases P id 14 _ _ (λ _. guarded c (eqb (length c) 8) _ refl) tt)))))))))))))
 
 -- the identifiers of the kinds that stand in a zone
@@ -300,14 +308,16 @@ placedId id = among id (1 ∷ 2 ∷ 3 ∷ 4 ∷ 5 ∷ 6 ∷ 7 ∷ 8 ∷ 9 ∷ 10
 known-placed : (k : ℕ) → (k ≡ 11 → ⊥) → (k ≡ 12 → ⊥) → placedId k ≡ true → known k ≡ true
 known-placed k z s p = simp (ne-eqb k 11 z, ne-eqb k 12 s) p
 
-module _ (σ : Settings) (id k : ℕ) (c : List ℕ) (at : ℕ) (s : State) (zs ss zu su : List Bool) (f : Found) (r : Step) (zu′ su′ : List Bool) where
+module _ (σ : Settings) (id k : ℕ) (c : List ℕ) (at : ℕ) (s : State) (zs ss zu su : List Bool) (f : Found) (r : Step)
+    (zu′ su′ : List Bool) where
   pub take-placed :
       id ≡ k
       → placedId k ≡ true
       → Judged σ k c f
       → PlacedStep f c at s zu su r zu′ su′
       → TakeIs σ id c at s (flags zs ss zu su) r (flags zs ss zu′ su′)
-  take-placed e i j p = subst (λ (n : ℕ). TakeIs σ n c at s (flags zs ss zu su) r (flags zs ss zu′ su′)) (sym e) (by (decode (σ .chip) k c) refl)
+  take-placed e i j p = subst (λ (n : ℕ). TakeIs σ n c at s (flags zs ss zu su) r (flags zs ss zu′ su′)) (sym e)
+      (by (decode (σ .chip) k c) refl)
     where
       zone-not : k ≡ 11 → ⊥
       zone-not q = false≢true (subst (λ (n : ℕ). placedId n ≡ true) q i)
@@ -328,7 +338,8 @@ module _ (σ : Settings) (id k : ℕ) (c : List ℕ) (at : ℕ) (s : State) (zs 
           }
       by (some x) d =
           take-record σ k c at s (flags zs ss zu su) r (flags zs ss zu′ su′) (p .low) x (known-placed k zone-not text-not i) d
-          (p .steps σ x (subst (Placed c) d (decode-placed (σ .chip) k c zone-not text-not)) (j .right ∙ ap (ownFault σ) d) (λ n. j .claimed n x d) (λ n. j .counted n x d) zs ss)
+          (p .steps σ x (subst (Placed c) d (decode-placed (σ .chip) k c zone-not text-not)) (j .right ∙ ap (ownFault σ) d)
+          (λ n. j .claimed n x d) (λ n. j .counted n x d) zs ss)
 
 pub not-known :
     (id : ℕ)
@@ -348,4 +359,19 @@ pub not-known :
     → (id ≡ 14 → ⊥)
     → known id ≡ false
 not-known id a b c d e f g h i j k l m n =
-    simp (ne-eqb id 1 a, ne-eqb id 2 b, ne-eqb id 3 c, ne-eqb id 4 d, ne-eqb id 5 e, ne-eqb id 6 f, ne-eqb id 7 g, ne-eqb id 8 h, ne-eqb id 9 i, ne-eqb id 10 j, ne-eqb id 11 k, ne-eqb id 12 l, ne-eqb id 13 m, ne-eqb id 14 n)
+    simp (
+      ne-eqb id 1 a,
+      ne-eqb id 2 b,
+      ne-eqb id 3 c,
+      ne-eqb id 4 d,
+      ne-eqb id 5 e,
+      ne-eqb id 6 f,
+      ne-eqb id 7 g,
+      ne-eqb id 8 h,
+      ne-eqb id 9 i,
+      ne-eqb id 10 j,
+      ne-eqb id 11 k,
+      ne-eqb id 12 l,
+      ne-eqb id 13 m,
+      ne-eqb id 14 n,
+    )

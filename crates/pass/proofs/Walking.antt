@@ -2,15 +2,15 @@
 -- Assumes nothing.
 use Prim.Native.Nat.{ℕ, zero, suc, _+_, _-_, _≤_, _<_}
 use native.Mathlib.Omega.{arith}
-use mathlib.Core.Path.{_≡_, refl, sym, _∙_, ap, subst}
+use mathlib.Core.Path.{_≡_, refl, sym, _∙_, ap}
 use mathlib.Core.List.{List, [], _∷_, _++_}
 use lib.ListN.{length, drop, length-drop, drop-of-length-le}
 use lib.Seq.{drop-drop}
-use Rattle.format.specs.Slots.{byte, Bytes}
+use Rattle.format.specs.Slots.{Bytes}
 use Rattle.format.specs.Records.{Record}
 use Rattle.format.specs.Layout.{layout, placeAfter}
 use Rattle.format.specs.Verdict.{stated}
-use Rattle.format.specs.Reader.{Outcome, took, stop, step, next, Result, halted, through, pass}
+use Rattle.format.specs.Reader.{Outcome, took, stop, step, next, halted, through, pass}
 use Rattle.format.specs.declared.settings.Settings.{Settings}
 use Rattle.format.specs.declared.records.Description.{Description}
 use Rattle.format.proofs.Slots.{bytes-drop}
@@ -18,14 +18,15 @@ use Rattle.format.proofs.Decoding.{starts-stated}
 use Rattle.format.proofs.Stepping.{Meets, step-meets}
 use Rattle.format.proofs.Passing.{pass-nil}
 use Rattle.format.proofs.Growing.{place-snoc}
-use Rattle.pass.specs.Tracks.{Flags, Tracks, Moves, MoveIs, Took, none-yet, one-more, Walked, OverIs}
+use Rattle.pass.specs.Tracks.{Flags, Tracks, Moves, MoveIs, Took, none-yet, one-more, Walked}
 use Rattle.pass.specs.declared.State.{State}
 use Rattle.pass.specs.declared.Moved.{Moved}
 use Rattle.pass.specs.declared.Over.{Over}
 use Rattle.pass.proofs.Moving.{unframed-short, unframed}
 
 -- where the loop is: some elements are taken, and the state and the flags track them
-pub record Onward (σ : Settings) (d : Description) (t : List ℕ) (base : ℕ) (before : List Record) (s : State) (f : Flags) (at : ℕ) : Type 0 where
+pub record Onward (σ : Settings) (d : Description) (t : List ℕ) (base : ℕ) (before : List Record) (s : State) (f : Flags)
+    (at : ℕ) : Type 0 where
   pub gone : List Record
   pub way : Took σ before base t gone (base + at) (drop at t)
   pub tracks : Tracks d s f gone
@@ -60,10 +61,15 @@ module _
     abbrev here : List ℕ
     here = drop at t
 
-    went : (e : Record) → step σ (u .gone) here ≡ took e → Moves t at d (u .gone) s f r g (took e) → Onward σ d t base before (r .state) g (at + r .len)
+    went :
+        (e : Record)
+        → step σ (u .gone) here ≡ took e
+        → Moves t at d (u .gone) s f r g (took e)
+        → Onward σ d t base before (r .state) g (at + r .len)
     went e q i =
         let m : (base + at) + stated here ≡ base + (at + r .len) = omega (arith, i .1) in
-        let l : drop (stated here) here ≡ drop (at + r .len) t = drop-drop (stated here) at t ∙ ap (λ (n : ℕ). drop (at + n) t) (sym (i .1)) in
+        let l : drop (stated here) here ≡ drop (at + r .len) t = drop-drop (stated here) at t
+        ∙ ap (λ (n : ℕ). drop (at + n) t) (sym (i .1)) in
         let w = took-stated σ (u .gone) here e (bytes-drop at t small) (omega (arith, length-drop at t)) q in
         record {
           gone = u .gone ++ e ∷ [];
@@ -72,7 +78,12 @@ module _
           place = omega (arith, w, i .1, u .place, place-snoc (u .gone) e);
         }
 
-    go-on-by : (o : Outcome) → r .stop ≡ 0 → step σ (u .gone) here ≡ o → Moves t at d (u .gone) s f r g o → Onward σ d t base before (r .state) g (at + r .len)
+    go-on-by :
+        (o : Outcome)
+        → r .stop ≡ 0
+        → step σ (u .gone) here ≡ o
+        → Moves t at d (u .gone) s f r g o
+        → Onward σ d t base before (r .state) g (at + r .len)
     go-on-by (took e) z q i = went e q i
     go-on-by (stop k) z q i = absurd (omega (arith, i .0, i .1, z))
 
@@ -104,7 +115,14 @@ module _
           stops = λ _. q ∙ ap stop (sym (a ∙ i .0));
         }
 
-    pub stopped : MoveIs σ t at base s f r g → (r .stop ≡ 0 → ⊥) → (v : Over) → v .stop ≡ r .stop → v .place ≡ base + at → v .state ≡ r .state → Walked σ d t base before v g
+    pub stopped :
+        MoveIs σ t at base s f r g
+        → (r .stop ≡ 0 → ⊥)
+        → (v : Over)
+        → v .stop ≡ r .stop
+        → v .place ≡ base + at
+        → v .state ≡ r .state
+        → Walked σ d t base before v g
     stopped w z v a b c = stopped-by (step σ (u .gone) here) z refl (w .moves d (u .gone) (u .place) (u .tracks)) v a b c
 
 module _
@@ -149,7 +167,8 @@ turn :
     (σ : Settings) (n : ℕ) (before : List Record) (p : ℕ) (bs : List ℕ)
     → 0 < length bs
     → length bs ≤ n
-    → (m : ℕ) × (n ≡ suc m) × (pass σ n before p bs ≡ next (step σ before bs) (λ e. pass σ m (before ++ e ∷ []) (p + stated bs) (drop (stated bs) bs)) p)
+    → (m : ℕ) × (n ≡ suc m) × (pass σ n before p bs
+    ≡ next (step σ before bs) (λ e. pass σ m (before ++ e ∷ []) (p + stated bs) (drop (stated bs) bs)) p)
 unfolding pass
 turn σ n before p [] h l = absurd (omega arith)
 turn σ zero before p (b ∷ bs) h l = absurd (omega arith)
@@ -169,7 +188,8 @@ took-pass σ (one-more {qs = qs} {p = p} {left = left} x e l g k) n h =
     (t .0, omega (arith, i .1, t .1, length-drop (stated left) left), i .2 ∙ t .2 ∙ rw e refl)
 
 -- so the walk over a whole table's elements comes to what the pass comes to
-module _ (σ : Settings) (d : Description) (t : List ℕ) (base : ℕ) (before : List Record) (r : Over) (f : Flags) (w : Walked σ d t base before r f) where
+module _ (σ : Settings) (d : Description) (t : List ℕ) (base : ℕ) (before : List Record) (r : Over) (f : Flags)
+    (w : Walked σ d t base before r f) where
   pub walk-through : r .stop ≡ 0 → pass σ (length t) before base t ≡ through (w .gone)
   walk-through z =
       let i = took-pass σ (w .way) (length t) (omega arith) in

@@ -2,7 +2,7 @@
 // 12. Which numbers have been seen and which are named is kept for all 256 numbers, in flags that are lent.
 ghost use mathlib.Core.Path.{_≡_};
 ghost use mathlib.Core.Bool.{Bool, not};
-ghost use mathlib.Core.List.{List, []};
+ghost use mathlib.Core.List.{List};
 ghost use Prim.Native.Nat.{ℕ, _+_, _<_, _≤_};
 ghost use lib.ListN.{length};
 ghost use lib.Dec.{ltb};
@@ -67,7 +67,9 @@ fn zone_against(zones: usize, seen: bool) -> u8
 // 0Bh
 fn zone_step(b: &[u8], s: State, zs: &mut [bool; 256], su: &mut [bool; 256]) -> Step
     requires { ⌜ (s .count < 96) × (s .zones ≤ 12) ⌝ }
-    ensures { λ r. ⌜ ((σ : Settings) (at : ℕ) (ss zu : List Bool) → StepIs σ (zone (now (b .entry))) at s (flags (now (zs .entry)) ss zu (now (su .entry))) r (flags (now (zs .exit)) ss zu (now (su .exit)))) × Low (r .state) ⌝ }
+    ensures { λ r. ⌜ ((σ : Settings) (at : ℕ) (ss zu : List Bool)
+        → StepIs σ (zone (now (b .entry))) at s (flags (now (zs .entry)) ss zu (now (su .entry))) r
+        (flags (now (zs .exit)) ss zu (now (su .exit)))) × Low (r .state) ⌝ }
 {
     let own = rules::zone_breaks(b);
     if own != 0 {
@@ -131,7 +133,9 @@ fn first(b: &[u8]) -> u8
 // 0Ch
 fn text_step(b: &[u8], s: State, ss: &mut [bool; 256]) -> Step
     requires { ⌜ (s .count < 96) × (s .zones ≤ 12) ⌝ }
-    ensures { λ r. ⌜ ((σ : Settings) (at : ℕ) (zs zu su : List Bool) → StepIs σ (string (now (b .entry))) at s (flags zs (now (ss .entry)) zu su) r (flags zs (now (ss .exit)) zu su)) × Low (r .state) ⌝ }
+    ensures { λ r. ⌜ ((σ : Settings) (at : ℕ) (zs zu su : List Bool)
+        → StepIs σ (string (now (b .entry))) at s (flags zs (now (ss .entry)) zu su) r (flags zs (now (ss .exit)) zu su))
+        × Low (r .state) ⌝ }
 {
     let own = rules::text_breaks(b);
     text_judged(own, first(b), s, ss)
@@ -201,7 +205,9 @@ fn take(
     settings: Settings,
 ) -> Step
     requires { ⌜ (s .count < 96) × (s .zones ≤ 12) × (at < 65536) ⌝ }
-    ensures { λ r. ⌜ TakeIs settings id (now (b .entry)) at s (flags (now (zs .entry)) (now (ss .entry)) (now (zu .entry)) (now (su .entry))) r (flags (now (zs .exit)) (now (ss .exit)) (now (zu .exit)) (now (su .exit))) ⌝ }
+    ensures { λ r. ⌜ TakeIs settings id (now (b .entry)) at s
+        (flags (now (zs .entry)) (now (ss .entry)) (now (zu .entry)) (now (su .entry))) r
+        (flags (now (zs .exit)) (now (ss .exit)) (now (zu .exit)) (now (su .exit))) ⌝ }
 {
     match id {
         1 => placed_step(found::digital_found(b, settings), b, at, s, zu, su),
@@ -245,7 +251,9 @@ fn one_step(
     settings: Settings,
 ) -> Moved
     requires { ⌜ (at + 2 < length (now t)) × (base + length (now t) ≤ 4097) × Low s ⌝ }
-    ensures { λ r. ⌜ MoveIs settings (now (t .entry)) at base s (flags (now (zs .entry)) (now (ss .entry)) (now (zu .entry)) (now (su .entry))) r (flags (now (zs .exit)) (now (ss .exit)) (now (zu .exit)) (now (su .exit))) ⌝ }
+    ensures { λ r. ⌜ MoveIs settings (now (t .entry)) at base s
+        (flags (now (zs .entry)) (now (ss .entry)) (now (zu .entry)) (now (su .entry))) r
+        (flags (now (zs .exit)) (now (ss .exit)) (now (zu .exit)) (now (su .exit))) ⌝ }
 {
     let left = t.len() - at;
     let len = wide(t[at + 1]) + 256 * wide(t[at + 2]);
@@ -292,7 +300,9 @@ pub fn walk(
     settings: Settings,
 ) -> Over
     requires { ⌜ (base + length (now t) ≤ 4097) × Low start ⌝ }
-    ensures { λ r. ⌜ WalkIs settings (now (t .entry)) base start (flags (now (zs .entry)) (now (ss .entry)) (now (zu .entry)) (now (su .entry))) r (flags (now (zs .exit)) (now (ss .exit)) (now (zu .exit)) (now (su .exit))) ⌝ }
+    ensures { λ r. ⌜ WalkIs settings (now (t .entry)) base start
+        (flags (now (zs .entry)) (now (ss .entry)) (now (zu .entry)) (now (su .entry))) r
+        (flags (now (zs .exit)) (now (ss .exit)) (now (zu .exit)) (now (su .exit))) ⌝ }
 {
     let mut s = start;
     let mut at: usize = 0;

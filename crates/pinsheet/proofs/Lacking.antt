@@ -8,7 +8,8 @@ use mathlib.Core.List.{List, [], _∷_, _++_}
 use lib.ListN.{length}
 use lib.Dec.{eqb, ltb}
 use borrow.Author.Tests.{eqb-true}
-use Rattle.format.specs.Records.{Record, digital, analogue, fan, led, water, pump, voltage, current, controller, tachometer, zone, string, external, rgb}
+use Rattle.format.specs.Records.{Record, digital, analogue, fan, led, water, pump, voltage, current, controller, tachometer, zone, string}
+use Rattle.format.specs.Records.{external, rgb}
 use Rattle.format.specs.Layout.{layout}
 use Rattle.format.specs.Pins.{among, every, onChip, keptIf, only, listed, permitted, ofChip, allowed, allowedOrUnused}
 use Rattle.format.specs.Rules.{selected, rises, fanned, pinned}

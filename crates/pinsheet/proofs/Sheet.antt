@@ -17,7 +17,8 @@ use Rattle.format.specs.Pins.{every}
 use Rattle.format.specs.Claims.{claim, alone, Made, madeAt, claimsOf, claims}
 use Rattle.format.specs.declared.records.Description.{Description}
 use Rattle.format.proofs.Growing.{claims-snoc}
-use Rattle.pinsheet.specs.Sheet.{Claimant, free, fault, place, firstOf, orElse, entry, sheet, Unnamed, entered, lastClaims, forward, blank}
+use Rattle.pinsheet.specs.Sheet.{Claimant, free, fault, place, firstOf, orElse, entry, sheet, Unnamed, entered, lastClaims, forward}
+use Rattle.pinsheet.specs.Sheet.{blank}
 
 -- claims one after another
 cond-else : (t : Bool) (a e f : Claimant) → orElse a f ≡ a → orElse (cond t a e) f ≡ cond t a (orElse e f)

@@ -1,6 +1,6 @@
 -- What stands at a place has the bytes that tell its role, by kind; and the marks that the code reads there.
 -- Assumes nothing.
-use Prim.Native.Nat.{ℕ, _+_, _*_, _≤_, _<_}
+use Prim.Native.Nat.{ℕ, _+_, _≤_, _<_}
 use native.Mathlib.Omega.{arith}
 use native.Mathlib.Nat.{add-zero}
 use mathlib.Core.Path.{_≡_, refl, sym, _∙_, ap}
@@ -11,7 +11,8 @@ use lib.ListN.{length, getD, drop, length-drop}
 use lib.Seq.{getD-drop}
 use borrow.Author.Tests.{eqb-true, leb-true}
 use Rattle.format.specs.Slots.{Starts, byte}
-use Rattle.format.specs.Records.{Record, digital, analogue, fan, led, water, pump, voltage, current, controller, tachometer, zone, string, external, rgb, zoneString}
+use Rattle.format.specs.Records.{Record, digital, analogue, fan, led, water, pump, voltage, current, controller, tachometer, zone, string}
+use Rattle.format.specs.Records.{external, rgb, zoneString}
 use Rattle.format.specs.Layout.{layout}
 use Rattle.format.specs.Rules.{shaped}
 use Rattle.format.specs.Pins.{among}
@@ -81,9 +82,11 @@ module _ (t : List ℕ) (at : ℕ) where
   pub role-bytes :
       (r : Record) (rest : List ℕ) → Starts (drop at t) (layout r) rest → shaped r ≡ true → RoleBytes t at (role r)
   role-bytes (digital d) rest h s =
-      of-placed (digital d) rest h (omega arith) (λ o. (o .0, o .1 .1 .1 .0, o .1 .1 .1 .1 .1 .1 .1 .0)) (λ e. omega arith) (λ e. omega arith)
+      of-placed (digital d) rest h (omega arith) (λ o. (o .0, o .1 .1 .1 .0, o .1 .1 .1 .1 .1 .1 .1 .0)) (λ e. omega arith)
+      (λ e. omega arith)
   role-bytes (analogue a) rest h s =
-      of-placed (analogue a) rest h (omega arith) (λ o. (o .0, o .1 .1 .1 .0, o .1 .1 .1 .1 .1 .1 .1 .0)) (λ e. omega arith) (λ e. omega arith)
+      of-placed (analogue a) rest h (omega arith) (λ o. (o .0, o .1 .1 .1 .0, o .1 .1 .1 .1 .1 .1 .1 .0)) (λ e. omega arith)
+      (λ e. omega arith)
   role-bytes (fan f) rest h s =
       of-placed (fan f) rest h (omega arith) (λ o. (o .0, o .1 .1 .1 .0, o .1 .1 .1 .1 .1 .1 .1 .0)) (λ e. omega arith) (λ e. omega arith)
   role-bytes (led l) rest h s =
@@ -93,17 +96,22 @@ module _ (t : List ℕ) (at : ℕ) where
   role-bytes (pump f) rest h s =
       of-placed (pump f) rest h (omega arith) (λ o. (o .0, o .1 .1 .1 .0, o .1 .1 .1 .1 .1 .1 .1 .0)) (λ e. omega arith) (λ e. omega arith)
   role-bytes (voltage v) rest h s =
-      of-placed (voltage v) rest h (omega arith) (λ o. (o .0, o .1 .1 .1 .0, o .1 .1 .1 .1 .1 .1 .1 .0)) (λ e. omega arith) (λ e. omega arith)
+      of-placed (voltage v) rest h (omega arith) (λ o. (o .0, o .1 .1 .1 .0, o .1 .1 .1 .1 .1 .1 .1 .0)) (λ e. omega arith)
+      (λ e. omega arith)
   role-bytes (current c) rest h s =
-      of-placed (current c) rest h (omega arith) (λ o. (o .0, o .1 .1 .1 .0, o .1 .1 .1 .1 .1 .1 .1 .0)) (λ e. omega arith) (λ e. omega arith)
+      of-placed (current c) rest h (omega arith) (λ o. (o .0, o .1 .1 .1 .0, o .1 .1 .1 .1 .1 .1 .1 .0)) (λ e. omega arith)
+      (λ e. omega arith)
   role-bytes (controller d bs) rest h s =
-      of-placed (controller d bs) rest h (omega arith) (λ o. (o .0, o .1 .1 .1 .0, o .1 .1 .1 .1 .1 .1 .1 .0)) (λ e. omega arith) (λ e. omega arith)
+      of-placed (controller d bs) rest h (omega arith) (λ o. (o .0, o .1 .1 .1 .0, o .1 .1 .1 .1 .1 .1 .1 .0)) (λ e. omega arith)
+      (λ e. omega arith)
   role-bytes (tachometer d a b) rest h s =
-      of-placed (tachometer d a b) rest h (omega arith) (λ o. (o .0, o .1 .1 .1 .0, o .1 .1 .1 .1 .1 .1 .1 .0)) (λ e. omega arith) (λ e. omega arith)
+      of-placed (tachometer d a b) rest h (omega arith) (λ o. (o .0, o .1 .1 .1 .0, o .1 .1 .1 .1 .1 .1 .1 .0)) (λ e. omega arith)
+      (λ e. omega arith)
   role-bytes (zone bytes) rest h s = zone-bytes bytes rest h (eqb-true (3 + length bytes) 30 s)
   role-bytes (string bytes) rest h s = string-bytes bytes rest h (leb-true 6 (3 + length bytes) s)
   role-bytes (external x r g b) rest h s =
-      of-placed (external x r g b) rest h (omega arith) (λ o. (o .0, o .1 .1 .1 .0, o .1 .1 .1 .1 .1 .1 .1 .0)) (λ e. omega arith) (λ e. omega arith)
+      of-placed (external x r g b) rest h (omega arith) (λ o. (o .0, o .1 .1 .1 .0, o .1 .1 .1 .1 .1 .1 .1 .0)) (λ e. omega arith)
+      (λ e. omega arith)
   role-bytes (rgb r) rest h s =
       of-placed (rgb r) rest h (omega arith) (λ o. (o .0, o .1 .1 .1 .0, o .1 .1 .1 .1 .1 .1 .1 .0)) (λ e. omega arith) (λ e. omega arith)
 

@@ -5,20 +5,20 @@ use native.Mathlib.Omega.{arith}
 use mathlib.Core.Path.{_≡_, refl, sym, _∙_, ap, subst}
 use mathlib.Core.Bool.{Bool, true, false, not}
 use mathlib.Core.List.{List, [], _∷_, _++_}
-use mathlib.Core.Option.{Option, none, some}
+use mathlib.Core.Option.{none, some}
 use lib.ListN.{length, drop, length-drop}
 use lib.Seq.{drop-drop}
 use borrow.Author.Tests.{not-true, not-false}
-use Rattle.format.specs.Slots.{Starts, Fits, Bytes}
+use Rattle.format.specs.Slots.{Starts, Fits}
 use Rattle.format.specs.Records.{Record}
 use Rattle.format.specs.Layout.{layout, layouts}
-use Rattle.format.specs.Rules.{shaped, ownRules}
-use Rattle.format.specs.ZonesAndStrings.{Role, role, allAmong, firstNaming, rulesAgainst}
+use Rattle.format.specs.Rules.{shaped}
+use Rattle.format.specs.ZonesAndStrings.{Role, role, allAmong, firstNaming}
 use Rattle.format.specs.Table.{PassKept, elementBreaks}
 use Rattle.format.specs.Verdict.{stated}
-use Rattle.format.specs.Reader.{elementsOf, Result, halted, through, pass}
+use Rattle.format.specs.Reader.{elementsOf, Result, halted, through}
 use Rattle.format.proofs.Slots.{bytes-drop, starts-split, starts-length}
-use Rattle.format.proofs.Kept.{unbroken-kind, own-kept, own-unbroken}
+use Rattle.format.proofs.Kept.{own-kept, own-unbroken}
 use Rattle.format.proofs.Decoding.{starts-stated, starts-next}
 use Rattle.format.proofs.Passing.{Ends, pass-meets}
 use Rattle.flags.specs.Marks.{Marks}
@@ -79,7 +79,8 @@ pub same-list : (σ : Settings) (t : List ℕ) (rs rs′ : List Record) → elem
 same-list σ t rs rs′ p q = let e : through rs ≡ through rs′ = sym p ∙ q in cc
 
 -- the loop's invariant
-pub record Search (σ : Settings) (names : Role → List ℕ) (declared : List Record → List ℕ) (l : List Bool) (t : List ℕ) (at : ℕ) : Type 0 where
+pub record Search (σ : Settings) (names : Role → List ℕ) (declared : List Record → List ℕ) (l : List Bool) (t : List ℕ)
+    (at : ℕ) : Type 0 where
   pub rs : List Record
   pub todo : List Record
   pub done : List Record
@@ -144,10 +145,16 @@ module _ (σ : Settings) (names : Role → List ℕ) (declared : List Record →
       where
         go : (todo : List Record) → Fits (drop at t) (layouts todo) → 0 ≡ orZero (firstNaming names (declared (s .rs)) at todo)
         go [] f = refl
-        go (r ∷ todo) f = absurd (omega (arith, starts-length (drop at t) (layout r) _ (starts-split (drop at t) (layout r) (layouts todo) [] f .1), length-drop at t))
+        go (r ∷ todo) f = absurd
+            (omega (
+              arith,
+              starts-length (drop at t) (layout r) _ (starts-split (drop at t) (layout r) (layouts todo) [] f .1),
+              length-drop at t,
+            ))
 
     -- the same, as the code's test tells it
-    module _ (h : at < length t) (r : Bool) (tells : (x : Role) (ns : List ℕ) → RoleBytes t at x → Marks l ns → r ≡ allAmong (names x) ns) where
+    module _ (h : at < length t) (r : Bool) (tells : (x : Role) (ns : List ℕ) → RoleBytes t at x → Marks l ns → r
+        ≡ allAmong (names x) ns) where
       told : r ≡ allAmong (names (role (here h .first))) (declared (s .rs))
       told = tells (role (here h .first)) (declared (s .rs)) (bytes-here h) (s .marked)
 

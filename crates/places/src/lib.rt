@@ -13,7 +13,8 @@ use words::wide;
 // Whether the zone that the element at a place names is marked.
 fn zone_marked(t: &[u8], at: usize, marks: &[bool; 256]) -> bool
     requires { ⌜ ((x : Role) × RoleBytes (now t) at x) ⌝ }
-    ensures { λ r. ⌜ ((x : Role) (ns : List ℕ) → RoleBytes (now (t .entry)) at x → Marks (now (marks .entry)) ns → r ≡ allAmong (zoneNamed x) ns) ⌝ }
+    ensures { λ r. ⌜ ((x : Role) (ns : List ℕ) → RoleBytes (now (t .entry)) at x → Marks (now (marks .entry)) ns → r
+        ≡ allAmong (zoneNamed x) ns) ⌝ }
 {
     let id = t[at];
     if id == 11 {
@@ -29,7 +30,8 @@ fn zone_marked(t: &[u8], at: usize, marks: &[bool; 256]) -> bool
 // Whether the string that the element at a place names is marked; a string names none.
 fn string_marked(t: &[u8], at: usize, marks: &[bool; 256]) -> bool
     requires { ⌜ ((x : Role) × RoleBytes (now t) at x) ⌝ }
-    ensures { λ r. ⌜ ((x : Role) (ns : List ℕ) → RoleBytes (now (t .entry)) at x → Marks (now (marks .entry)) ns → r ≡ allAmong (stringNamed x) ns) ⌝ }
+    ensures { λ r. ⌜ ((x : Role) (ns : List ℕ) → RoleBytes (now (t .entry)) at x → Marks (now (marks .entry)) ns → r
+        ≡ allAmong (stringNamed x) ns) ⌝ }
 {
     let id = t[at];
     if id == 12 {
@@ -46,7 +48,8 @@ fn string_marked(t: &[u8], at: usize, marks: &[bool; 256]) -> bool
 // The zone, or the string.
 pub fn marked(t: &[u8], at: usize, marks: &[bool; 256], zone: bool) -> bool
     requires { ⌜ ((x : Role) × RoleBytes (now t) at x) ⌝ }
-    ensures { λ r. ⌜ ((x : Role) (ns : List ℕ) → RoleBytes (now (t .entry)) at x → Marks (now (marks .entry)) ns → r ≡ allAmong (namesOf zone x) ns) ⌝ }
+    ensures { λ r. ⌜ ((x : Role) (ns : List ℕ) → RoleBytes (now (t .entry)) at x → Marks (now (marks .entry)) ns → r
+        ≡ allAmong (namesOf zone x) ns) ⌝ }
 {
     if zone {
         return zone_marked(t, at, marks);
@@ -57,7 +60,8 @@ pub fn marked(t: &[u8], at: usize, marks: &[bool; 256], zone: bool) -> bool
 // The place of the first element whose zone, or whose string, is not marked; 0 where there is none.
 fn unmarked(t: &[u8], marks: &[bool; 256], zone: bool) -> usize
     requires { ⌜ ((σ : Settings) × (w : Walkable σ (now t)) × Marks (now marks) (nameable zone (w .rs))) ⌝ }
-    ensures { λ r. ⌜ ((σ : Settings) (w : Walkable σ (now (t .entry))) → Marks (now (marks .entry)) (nameable zone (w .rs)) → r ≡ orZero (firstNaming (namesOf zone) (nameable zone (w .rs)) 16 (w .rs))) ⌝ }
+    ensures { λ r. ⌜ ((σ : Settings) (w : Walkable σ (now (t .entry))) → Marks (now (marks .entry)) (nameable zone (w .rs)) → r
+        ≡ orZero (firstNaming (namesOf zone) (nameable zone (w .rs)) 16 (w .rs))) ⌝ }
 {
     let mut at: usize = 16;
     while at < t.len() {
@@ -72,7 +76,8 @@ fn unmarked(t: &[u8], marks: &[bool; 256], zone: bool) -> usize
 // 13
 pub fn zoneless(t: &[u8], marks: &[bool; 256]) -> usize
     requires { ⌜ ((σ : Settings) × (w : Walkable σ (now t)) × Marks (now marks) (zones (w .rs))) ⌝ }
-    ensures { λ r. ⌜ ((σ : Settings) (w : Walkable σ (now (t .entry))) → Marks (now (marks .entry)) (zones (w .rs)) → r ≡ orZero (firstNaming zoneNamed (zones (w .rs)) 16 (w .rs))) ⌝ }
+    ensures { λ r. ⌜ ((σ : Settings) (w : Walkable σ (now (t .entry))) → Marks (now (marks .entry)) (zones (w .rs)) → r
+        ≡ orZero (firstNaming zoneNamed (zones (w .rs)) 16 (w .rs))) ⌝ }
 {
     unmarked(t, marks, true)
 }
@@ -80,7 +85,8 @@ pub fn zoneless(t: &[u8], marks: &[bool; 256]) -> usize
 // 14
 pub fn nameless(t: &[u8], marks: &[bool; 256]) -> usize
     requires { ⌜ ((σ : Settings) × (w : Walkable σ (now t)) × Marks (now marks) (0 ∷ strings (w .rs))) ⌝ }
-    ensures { λ r. ⌜ ((σ : Settings) (w : Walkable σ (now (t .entry))) → Marks (now (marks .entry)) (0 ∷ strings (w .rs)) → r ≡ orZero (firstNaming stringNamed (0 ∷ strings (w .rs)) 16 (w .rs))) ⌝ }
+    ensures { λ r. ⌜ ((σ : Settings) (w : Walkable σ (now (t .entry))) → Marks (now (marks .entry)) (0 ∷ strings (w .rs)) → r
+        ≡ orZero (firstNaming stringNamed (0 ∷ strings (w .rs)) 16 (w .rs))) ⌝ }
 {
     unmarked(t, marks, false)
 }

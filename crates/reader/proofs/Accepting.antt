@@ -70,7 +70,8 @@ module _ (d : Description) (h : plain d ≡ true) where
 
   plain-accepted : overAll d [] ≡ Accepted 0
   plain-accepted =
-      rw (tests .0, unused-none (d .revision0) (tests .3), unused-none (d .revision1) (tests .4), unused-none (d .revision2) (tests .5)) refl
+      rw (tests .0, unused-none (d .revision0) (tests .3), unused-none (d .revision1) (tests .4), unused-none (d .revision2) (tests .5))
+      refl
 
 -- no bytes after the description
 nothing-after : (σ : Settings) (t : List ℕ) → length t ≡ 16 → elementsOf σ t ≡ through []

@@ -34,7 +34,8 @@ verdict σ b a small e = rw e (meets σ b small)
 
 -- a refusal of the table, as its number and its place are handed on
 pub handed :
-    (σ : Settings) (b : List ℕ) (a : Answer) {k p n q : ℕ} → Verdict σ b a → a ≡ Refused k p → (n ≡ numberOf a) × (q ≡ valueOf a) → Verdict σ b (Refused n q)
+    (σ : Settings) (b : List ℕ) (a : Answer) {k p n q : ℕ} → Verdict σ b a → a ≡ Refused k p → (n ≡ numberOf a) × (q ≡ valueOf a)
+    → Verdict σ b (Refused n q)
 handed σ b a {n = n} {q = q} v e h =
     let i = h .0 ∙ ap numberOf e in
     let j = h .1 ∙ ap valueOf e in
@@ -45,7 +46,11 @@ handed σ b a {n = n} {q = q} v e h =
 pub long : (σ : Settings) (b : List ℕ) {n : ℕ} → Verdict σ b (Accepted n) → 16 ≤ length b
 long σ b (accepted d rs a) = reads σ b d rs a .0
 
-pub describes : (σ : Settings) (b : List ℕ) {n : ℕ} (d : Fields) → Verdict σ b (Accepted n) → d ≡ readDescription (σ .chip) (byte b) → Describes σ b (Description d)
+pub describes :
+    (σ : Settings) (b : List ℕ) {n : ℕ} (d : Fields)
+    → Verdict σ b (Accepted n)
+    → d ≡ readDescription (σ .chip) (byte b)
+    → Describes σ b (Description d)
 describes σ b d (accepted d′ rs a) e =
     subst (λ (x : Fields). Describes σ b (Description x)) (reads σ b d′ rs a .1 ∙ sym e) (described d′ rs a)
 

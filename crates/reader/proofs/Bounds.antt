@@ -1,22 +1,21 @@
 -- No answer's value is over 4,096: the number of elements and every place.
 -- Assumes nothing.
-use Prim.Native.Nat.{ℕ, _+_, _≤_, _<_}
+use Prim.Native.Nat.{ℕ, _+_, _≤_}
 use native.Mathlib.Omega.{arith}
-use mathlib.Core.Path.{_≡_, refl, sym, _∙_, ap}
+use mathlib.Core.Path.{_≡_, refl, ap}
 use mathlib.Core.Bool.{Bool, true, false, _&&_, not}
 use mathlib.Core.List.{List, [], _∷_, _++_}
-use mathlib.Core.Option.{Option, none, some}
-use lib.ListN.{length, drop, length-append, length-drop}
+use mathlib.Core.Option.{Option, some}
+use lib.ListN.{length, length-append, length-drop}
 use lib.Dec.{leb}
 use borrow.Author.Tests.{leb-true, le-leb}
-use Rattle.format.specs.Slots.{Starts, Fits, Bytes}
 use Rattle.format.specs.Records.{Record}
-use Rattle.format.specs.Layout.{layout, layouts, table, placeAfter}
+use Rattle.format.specs.Layout.{layout, layouts, placeAfter}
 use Rattle.format.specs.Pins.{among}
 use Rattle.format.specs.Rules.{unlessKept}
 use Rattle.format.specs.ZonesAndStrings.{Role, role, allAmong, firstNaming, strings, stringNamed}
 use Rattle.format.specs.Claims.{Claim, clashes, Made, madeAt, firstClash, claimsOf, claimsFrom, firstClaims, claims}
-use Rattle.format.specs.Verdict.{Verdict, Passed, Accepts, accepted, short, unrevised, missized, misdescribed, stopped, unzoned, unnamed, clashing}
+use Rattle.format.specs.Verdict.{Verdict, Passed, accepted, short, unrevised, missized, misdescribed, stopped, unzoned, unnamed, clashing}
 use Rattle.format.specs.Answers.{valueOf, placeOfAsked}
 use Rattle.format.specs.Asked.{Gives, given, past, ungiven}
 use Rattle.format.specs.declared.records.Description.{Description}
@@ -27,7 +26,6 @@ use Rattle.format.proofs.Kept.{and-true}
 use Rattle.format.proofs.Lengths.{at-most-96}
 use Rattle.format.proofs.Slots.{starts-length}
 use Rattle.format.proofs.Opening.{opened-only, opened-facts, table-length}
-use Rattle.format.proofs.Theorem.{accepts-passed}
 use Rattle.format.specs.declared.settings.Settings.{Settings}
 
 -- a place that is found first is one that was there
@@ -54,7 +52,8 @@ clash-below : (m : ℕ) (cs : List Made) (e : List Claim) (p : ℕ) → below m 
 clash-below m [] e p b h = let z : _≡_ {A = ℕ} 0 1 = cc in absurd (omega arith)
 clash-below m (c ∷ cs) e p b h =
     let k = and-true (leb (c .place) m) (below m cs) b in
-    unless-below (not (clashes (c .what) e)) (c .place) m _ (leb-true (c .place) m (k .0)) (λ q w. clash-below m cs (c .what ∷ e) q (k .1) w) h
+    unless-below (not (clashes (c .what) e)) (c .place) m _ (leb-true (c .place) m (k .0))
+    (λ q w. clash-below m cs (c .what ∷ e) q (k .1) w) h
 
 made-below : (m at : ℕ) (cs : List Claim) (ms : List Made) → at ≤ m → below m ms ≡ true → below m (madeAt at cs ++ ms) ≡ true
 made-below m at [] ms h k = k
@@ -80,7 +79,14 @@ value-bound σ b a (unrevised h n) = omega arith
 value-bound σ b a (missized h e n) = omega arith
 value-bound σ b a (misdescribed d rest o e) = omega arith
 value-bound σ b a (stopped d rest rs here o clean s kept br) =
-    omega (arith, starts-length rest (layouts rs) here s, ap length (opened-only (σ .chip) b d rest o .1), length-drop 16 b, o .limit, opened-facts (σ .chip) b d rest o .0)
+    omega (
+      arith,
+      starts-length rest (layouts rs) here s,
+      ap length (opened-only (σ .chip) b d rest o .1),
+      length-drop 16 b,
+      o .limit,
+      opened-facts (σ .chip) b d rest o .0,
+    )
 value-bound σ b a (unzoned d rs p z) = omega (arith, naming-below _ _ 16 rs _ z, passed-top σ b d rs p)
 value-bound σ b a (unnamed d rs p z n) =
     unless-below (among (d .string) (0 ∷ strings rs)) 0 4096 (firstNaming stringNamed (0 ∷ strings rs) 16 rs) (omega arith)

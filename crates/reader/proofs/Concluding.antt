@@ -91,7 +91,8 @@ module _ (σ : Settings) (t : List ℕ) (s : State) (zs ss zu su : List Bool) (g
           → n < 256
           → getD ss n false ≡ true
           → (p : ℕ)
-          → ((σ : Settings) (w : Walkable σ t) → Marks ss (0 ∷ strings (w .rs)) → p ≡ orZero (firstNaming stringNamed (0 ∷ strings (w .rs)) 16 (w .rs)))
+          → ((σ : Settings) (w : Walkable σ t) → Marks ss (0 ∷ strings (w .rs)) → p
+          ≡ orZero (firstNaming stringNamed (0 ∷ strings (w .rs)) 16 (w .rs)))
           → Refused 14 p ≡ conclude d (elementsOf σ t)
       refused-14 e n q k h p f =
           let u : among (byte t 4) (0 ∷ strings rs) ≡ true = rw q at (sym (g .string .flag n k) ∙ h) in
@@ -119,7 +120,8 @@ module _ (σ : Settings) (t : List ℕ) (s : State) (zs ss zu su : List Bool) (g
 
         named : nameless d rs ≡ none
         named =
-            rw (all-named (byte t 4) (ap (λ (c : Bool). c || among (byte t 4) (gathered stringNamed rs)) (eq-eqb (byte t 4) (byte t 4) refl)))
+            rw (all-named (byte t 4) (ap (λ (c : Bool). c || among (byte t 4) (gathered stringNamed rs))
+            (eq-eqb (byte t 4) (byte t 4) refl)))
             (none-named stringNamed (0 ∷ strings rs) rs 16 (λ i h. all-named i (later i (eqb i (byte t 4)) h)))
           where
             later : (i : ℕ) (c : Bool) → among i (gathered stringNamed rs) ≡ true → c || among i (gathered stringNamed rs) ≡ true

@@ -13,7 +13,7 @@ use Rattle.format.specs.Verdict.{stated}
 use Rattle.format.specs.Asked.{nth, Gives, given, past, ungiven}
 use Rattle.format.specs.declared.records.Element.{Element as Case}
 use Rattle.format.specs.declared.answers.Asked.{Asked}
-use Rattle.format.specs.declared.answers.Asked.the-variants.{Element, Refused as NotGiven}
+use Rattle.format.specs.declared.answers.Asked.the-variants.{Element}
 use Rattle.format.proofs.Theorem.{one-list, accepts-passed}
 use Rattle.format.proofs.Opening.{table-length}
 use Rattle.format.proofs.Written.{length-written}
@@ -21,8 +21,7 @@ use Rattle.format.proofs.Asking.{gives-unique}
 use Rattle.walking.specs.Walk.{Located}
 use Rattle.reader.specs.declared.Placed.{Placed}
 use Rattle.reader.specs.declared.Placed.the-variants.{At, Refused}
-use Rattle.reader.specs.Answered.{GivesElement}
-use Rattle.reader.specs.PartPlace.{placedAt, PartPlaced, GivesPlace}
+use Rattle.reader.specs.PartPlace.{placedAt, GivesPlace}
 use Rattle.format.specs.declared.settings.Settings.{Settings}
 
 pub placed-there :
@@ -41,11 +40,15 @@ placed-there σ b k at l {from} {len} e n =
       accepts = l .accepts;
       element = r;
       is-nth = l .is-nth;
-      there = ap (λ (p : ℕ). At p (at + len - from)) starts ∙ ap (λ (m : ℕ). At (placeAfter (take k (l .rs)) + (3 + length (fixed (elementOf r)))) m) size;
+      there = ap (λ (p : ℕ). At p (at + len - from)) starts
+          ∙ ap (λ (m : ℕ). At (placeAfter (take k (l .rs)) + (3 + length (fixed (elementOf r)))) m) size;
     }
 
 -- the part ends within the table
-nth-room : (rs : List Record) (k : ℕ) {r : Record} → nth rs k ≡ some r → length (layouts (take k rs)) + length (layout r) ≤ length (layouts rs)
+nth-room :
+    (rs : List Record) (k : ℕ) {r : Record}
+    → nth rs k ≡ some r
+    → length (layouts (take k rs)) + length (layout r) ≤ length (layouts rs)
 nth-room [] k h = let z : _≡_ {A = ℕ} 0 1 = cc in absurd (omega arith)
 nth-room (x ∷ rs) zero {r} h =
     let q : x ≡ r = cc in
@@ -59,12 +62,27 @@ placed-bound σ b k p n g =
     let a = accepts-passed σ b (g .description) (g .records) (g .accepts) in
     let x : p ≡ placeAfter (take k (g .records)) + (3 + length (fixed (elementOf r))) = cc in
     let y : n ≡ length (part r) = cc in
-    omega (arith, x, y, nth-room (g .records) k (g .is-nth), length-append (fixed (elementOf r)) (part r), a .limit, table-length b (g .description) (g .records) (a .fits))
+    omega (
+      arith,
+      x,
+      y,
+      nth-room (g .records) k (g .is-nth),
+      length-append (fixed (elementOf r)) (part r),
+      a .limit,
+      table-length b (g .description) (g .records) (a .fits),
+    )
 
 pub part-bound : (σ : Settings) (b : List ℕ) (k : ℕ) (a : Asked) (p : List ℕ) → Gives σ b k a p → length p ≤ 4096
 part-bound σ b k a p (given {r = r} d rs c n) =
     let s = accepts-passed σ b d rs c in
-    omega (arith, length-written (part r), nth-room rs k n, length-append (fixed (elementOf r)) (part r), s .limit, table-length b d rs (s .fits))
+    omega (
+      arith,
+      length-written (part r),
+      nth-room rs k n,
+      length-append (fixed (elementOf r)) (part r),
+      s .limit,
+      table-length b d rs (s .fits),
+    )
 part-bound σ b k a p (past d rs c n) = omega arith
 part-bound σ b k a p (ungiven v) = omega arith
 
@@ -81,7 +99,9 @@ never σ b k p n j q small g h =
 
 pub only-place : (σ : Settings) (b : List ℕ) (k : ℕ) (r r′ : Placed) → Bytes b → GivesPlace σ b k r → GivesPlace σ b k r′ → r ≡ r′
 only-place σ b k (At p n) (At p′ n′) small g h =
-    let l = one-list σ b (g .description) (h .description) (g .records) (h .records) small (accepts-passed σ b (g .description) (g .records) (g .accepts)) (accepts-passed σ b (h .description) (h .records) (h .accepts)) .1 in
+    let l = one-list σ b (g .description) (h .description) (g .records) (h .records) small
+    (accepts-passed σ b (g .description) (g .records) (g .accepts))
+    (accepts-passed σ b (h .description) (h .records) (h .accepts)) .1 in
     let m : nth (g .records) k ≡ nth (h .records) k = ap (λ (rs : List Record). nth rs k) l in
     let e : g .element ≡ h .element = cc in
     g .there

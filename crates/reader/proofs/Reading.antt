@@ -5,7 +5,7 @@ use native.Mathlib.Omega.{arith}
 use mathlib.Core.Path.{_≡_, refl, sym, _∙_, ap, subst}
 use mathlib.Core.Bool.{Bool, true, false}
 use mathlib.Core.List.{List, [], _∷_, append-nil}
-use mathlib.Core.Option.{Option, none, some}
+use mathlib.Core.Option.{Option, none}
 use lib.ListN.{length, set, take, drop, replicate, length-drop}
 use lib.Seq.{take-all}
 use Rattle.format.proofs.Slots.{bytes-drop}
@@ -25,7 +25,7 @@ use Rattle.format.proofs.Kept.{zero-none, some-number, description-numbered, de
 use Rattle.flags.specs.Marks.{Marks}
 use Rattle.flags.proofs.Marked.{marks-clear, marks-put, marks-front}
 use Rattle.claims.specs.Taken.{HeldIs}
-use Rattle.pass.specs.Tracks.{Flags, flags, Low, Tracks, Walked, WalkIs}
+use Rattle.pass.specs.Tracks.{Flags, flags, Tracks, Walked, WalkIs}
 use Rattle.pass.proofs.Walking.{walk-halted, walk-through}
 use Rattle.pass.specs.declared.State.{State}
 use Rattle.pass.specs.declared.Over.{Over}
@@ -103,9 +103,11 @@ good-none : (c : Chip) (d : Description) → numbered (descriptionBreaks c d) �
 good-none c d h = zero-none (descriptionRules c d) (description-numbered c d) h
 
 pub misdescribed-there :
-    (σ : Settings) (d : Description) (bs : List ℕ) (k : ℕ) → k ≡ numbered (descriptionBreaks (σ .chip) d) → (k ≡ 0 → ⊥) → Refused k 0 ≡ afterDescription σ d bs
+    (σ : Settings) (d : Description) (bs : List ℕ) (k : ℕ) → k ≡ numbered (descriptionBreaks (σ .chip) d) → (k ≡ 0 → ⊥) → Refused k 0
+    ≡ afterDescription σ d bs
 misdescribed-there σ d bs k e n =
-    rw e (sym (ap (λ (o : Option ℕ). unlessMisdescribed o (conclude d (pass σ (length bs) [] 16 bs))) (some-number (descriptionBreaks (σ .chip) d) (λ z. n (e ∙ z)))))
+    rw e (sym (ap (λ (o : Option ℕ). unlessMisdescribed o (conclude d (pass σ (length bs) [] 16 bs)))
+    (some-number (descriptionBreaks (σ .chip) d) (λ z. n (e ∙ z)))))
 
 well-described :
     (σ : Settings) (d : Description) (bs : List ℕ) (k : ℕ) (a : Answer)
@@ -117,7 +119,8 @@ well-described σ d bs k a e z p =
     p ∙ sym (ap (λ (o : Option ℕ). unlessMisdescribed o (conclude d (pass σ (length bs) [] 16 bs))) (good-none (σ .chip) d (sym e ∙ z)))
 
 -- after a good description
-module _ (σ : Settings) (t : List ℕ) (d : Description) (k : ℕ) (e : d ≡ readDescription (σ .chip) (byte t)) (f : k ≡ numbered (descriptionBreaks (σ .chip) d)) (z : k ≡ 0) where
+module _ (σ : Settings) (t : List ℕ) (d : Description) (k : ℕ) (e : d ≡ readDescription (σ .chip) (byte t))
+    (f : k ≡ numbered (descriptionBreaks (σ .chip) d)) (z : k ≡ 0) where
   pub good-strapped : strapped (σ .chip) d ≡ true
   good-strapped = description-kept (σ .chip) d (good-none (σ .chip) d (sym f ∙ z)) .pins-10
 

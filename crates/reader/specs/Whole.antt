@@ -3,7 +3,7 @@
 use Prim.Native.Nat.{ℕ}
 use mathlib.Core.Path.{_≡_}
 use mathlib.Core.Bool.{Bool}
-use mathlib.Core.List.{List, _∷_, _++_}
+use mathlib.Core.List.{List, _∷_}
 use lib.ListN.{length}
 use Rattle.format.specs.Slots.{byte}
 use Rattle.format.specs.ZonesAndStrings.{gathered, zones, strings, zoneNamed, stringNamed}

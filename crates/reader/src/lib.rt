@@ -176,7 +176,8 @@ fn described(t: &[u8], settings: Settings) -> Answer
 
 // The elements, after a good description. All flags are clear at the start.
 fn elements(t: &[u8], held: Held, settings: Settings) -> Answer
-    requires { ⌜ (16 ≤ length (now t)) × (length (now t) ≤ 4096) × Bytes (now t) × HeldIs held (madeAt 0 (firstClaims (readDescription (settings .chip) (byte (now t))))) ⌝ }
+    requires { ⌜ (16 ≤ length (now t)) × (length (now t) ≤ 4096) × Bytes (now t)
+        × HeldIs held (madeAt 0 (firstClaims (readDescription (settings .chip) (byte (now t))))) ⌝ }
     ensures { λ r. ⌜ r ≡ conclude (readDescription (settings .chip) (byte (now (t .entry)))) (elementsOf settings (now (t .entry))) ⌝ }
 {
     let mut zs = [false; 256];

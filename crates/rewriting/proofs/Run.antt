@@ -24,7 +24,11 @@ use Rattle.rewriting.specs.Again.{Rewritten, done as whole, no-room}
 use Rattle.format.specs.declared.pins.Chip.{Chip}
 use Rattle.format.specs.Writing.{writing}
 
-pub too-short : (chip : Chip) (b c : List ℕ) {n : ℕ} → Verdict (writing chip) b (Accepted n) → length c < length b → Rewritten chip b c (Refused 16 0) c
+pub too-short :
+    (chip : Chip) (b c : List ℕ) {n : ℕ}
+    → Verdict (writing chip) b (Accepted n)
+    → length c < length b
+    → Rewritten chip b c (Refused 16 0) c
 too-short chip b c (accepted d rs a) h = no-room d rs a h
 
 -- one append more
@@ -58,7 +62,8 @@ module _ (chip : Chip) (b c : List ℕ) (at : ℕ) (out : List ℕ) (w : Walk (w
   turned e p v after h l es ps a =
       onward (writing chip) b at (Ran chip c out) w (Ran chip c after) h l (λ g. (
         w .state .0 ++ v ∷ [],
-        appends-more chip c (w .done) (w .state .0) out (g .r) v after (w .state .1) (rw (es (g .r) (g .here), ps chip (g .r) (g .here)) at a),
+        appends-more chip c (w .done) (w .state .0) out (g .r) v after (w .state .1)
+            (rw (es (g .r) (g .here), ps chip (g .r) (g .here)) at a),
       ))
 
   pub ran :

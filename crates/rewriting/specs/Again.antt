@@ -1,7 +1,6 @@
 -- What rewriting a table into a lent buffer gives: 'that table again with its reserved places at zero', or a refusal.
 -- Assumes nothing.
 use Prim.Native.Nat.{ℕ, _<_, _≤_}
-use mathlib.Core.Path.{_≡_}
 use mathlib.Core.List.{List, _++_}
 use lib.ListN.{length, drop}
 use Rattle.format.specs.Records.{Record}

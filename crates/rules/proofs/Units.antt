@@ -18,7 +18,11 @@ use Rattle.format.proofs.Utf16.{within-run, below-run, above-run}
 top-six : (k a b : ℕ) → a < 256 → eqb (b / 4) k ≡ leb (1024 * k) (a + 256 * b) && leb (a + 256 * b) (1024 * k + 1023)
 top-six k a b s = go (eqb (b / 4) k) refl
   where
-    apart : (b / 4 ≡ k → ⊥) → (t : Bool) → leb (1024 * k) (a + 256 * b) ≡ t → leb (1024 * k) (a + 256 * b) && leb (a + 256 * b) (1024 * k + 1023) ≡ false
+    apart :
+        (b / 4 ≡ k → ⊥)
+        → (t : Bool)
+        → leb (1024 * k) (a + 256 * b) ≡ t
+        → leb (1024 * k) (a + 256 * b) && leb (a + 256 * b) (1024 * k + 1023) ≡ false
     apart n true e = let h = leb-true (1024 * k) (a + 256 * b) e in above-run (1024 * k) (a + 256 * b) (1024 * k + 1023) (omega arith)
     apart n false e = below-run (1024 * k) (a + 256 * b) (1024 * k + 1023) (leb-false (1024 * k) (a + 256 * b) e)
 
@@ -47,14 +51,17 @@ pub one-unit :
     → Bytes t
     → 2 * i + 1 < length t
     → good && pairedAfter high (units (drop (2 * i) t))
-    ≡ (good && agrees high (eqb (byte t (2 * i + 1) / 4) 55)) && pairedAfter (eqb (byte t (2 * i + 1) / 4) 54) (units (drop (2 * (i + 1)) t))
+    ≡ (good && agrees high (eqb (byte t (2 * i + 1) / 4) 55)) && pairedAfter (eqb (byte t (2 * i + 1) / 4) 54)
+    (units (drop (2 * (i + 1)) t))
 one-unit t i good high small h =
     let a = byte t (2 * i) in
     let b = byte t (2 * i + 1) in
     let next : 2 * i + 2 ≡ 2 * (i + 1) = omega arith in
     ap (λ (l : List ℕ). good && pairedAfter high (units l)) (two-bytes t (2 * i) h)
-    ∙ ap (λ (x : Bool). good && (agrees high x && pairedAfter (highSurrogate (a + 256 * b)) (units (drop (2 * i + 2) t)))) (sym (top-six 55 a b (small (2 * i))))
-    ∙ ap (λ (x : Bool). good && (agrees high (eqb (b / 4) 55) && pairedAfter x (units (drop (2 * i + 2) t)))) (sym (top-six 54 a b (small (2 * i))))
+    ∙ ap (λ (x : Bool). good && (agrees high x && pairedAfter (highSurrogate (a + 256 * b)) (units (drop (2 * i + 2) t))))
+    (sym (top-six 55 a b (small (2 * i))))
+    ∙ ap (λ (x : Bool). good && (agrees high (eqb (b / 4) 55) && pairedAfter x (units (drop (2 * i + 2) t))))
+    (sym (top-six 54 a b (small (2 * i))))
     ∙ and-regroup good (agrees high (eqb (b / 4) 55)) (pairedAfter (eqb (b / 4) 54) (units (drop (2 * i + 2) t)))
     ∙ ap (λ (n : ℕ). (good && agrees high (eqb (b / 4) 55)) && pairedAfter (eqb (b / 4) 54) (units (drop n t))) next
 
@@ -64,6 +71,9 @@ no-unit [] h = refl
 no-unit (a ∷ []) h = refl
 no-unit (a ∷ b ∷ l) h = absurd (omega arith)
 
-pub all-units : (t : List ℕ) (i : ℕ) (good high : Bool) → length t / 2 ≤ i → good && not high ≡ good && pairedAfter high (units (drop (2 * i) t))
+pub all-units :
+    (t : List ℕ) (i : ℕ) (good high : Bool)
+    → length t / 2 ≤ i
+    → good && not high ≡ good && pairedAfter high (units (drop (2 * i) t))
 all-units t i good high h =
     sym (ap (λ (l : List ℕ). good && pairedAfter high l) (no-unit (drop (2 * i) t) (omega (arith, length-drop (2 * i) t))))

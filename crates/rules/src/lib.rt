@@ -5,8 +5,10 @@ ghost use mathlib.Core.List.{List};
 ghost use Prim.Native.Nat.{ℕ, _≤_};
 ghost use lib.ListN.{length};
 ghost use Rattle.format.specs.Slots.{byte};
-ghost use Rattle.format.specs.Records.{Record, digital, analogue, fan, led, water, pump, voltage, current, zone, string, rgb, elementOf, textOf};
-ghost use Rattle.format.specs.Rules.{numbered, firstBroken, ownRules, typed, powered, strapped, addressed, selected, scaled, shaped, coded, typeInUse, inUse, pinned, rises, coloured, chipIdentifiers};
+ghost use Rattle.format.specs.Records.{Record, digital, analogue, fan, led, water, pump, voltage, current, zone, string, rgb, elementOf};
+ghost use Rattle.format.specs.Records.{textOf};
+ghost use Rattle.format.specs.Rules.{numbered, firstBroken, ownRules, typed, powered, strapped, addressed, selected, scaled, shaped};
+ghost use Rattle.format.specs.Rules.{coded, typeInUse, inUse, pinned, rises, coloured, chipIdentifiers};
 ghost use Rattle.format.specs.Pins.{among, unused};
 ghost use Rattle.format.specs.declared.settings.Settings.{Settings};
 ghost use Rattle.format.specs.Table.{descriptionBreaks};
@@ -79,7 +81,8 @@ pub fn description_breaks(d: Description, chip: Chip) -> u8
 
 // 8, 9, 23 and 10 of a record of any kind, in their order.
 fn own_breaks(shape: bool, codes: bool, used: bool, pins: bool) -> u8
-    ensures { λ r. ⌜ ((s : Settings) (x : Record) → shape ≡ shaped x → codes ≡ coded x → used ≡ inUse (s .rules) (elementOf x) → pins ≡ pinned (s .chip) x → r ≡ numbered (firstBroken (ownRules s x))) ⌝ }
+    ensures { λ r. ⌜ ((s : Settings) (x : Record) → shape ≡ shaped x → codes ≡ coded x → used ≡ inUse (s .rules) (elementOf x) → pins
+        ≡ pinned (s .chip) x → r ≡ numbered (firstBroken (ownRules s x))) ⌝ }
 {
     or_else(
         shape,
@@ -299,7 +302,8 @@ pub fn well_formed(text: &[u8]) -> bool
 
 // 0Ch, where there is room for its number: that it is not 0, and what is known of its text.
 pub fn text_rules(number: u8, good: bool) -> u8
-    ensures { λ r. ⌜ ((s : Settings) (c : List ℕ) → 3 ≤ length c → number ≡ byte c 0 → good ≡ wellFormed (textOf c) → r ≡ numbered (firstBroken (ownRules s (string c)))) ⌝ }
+    ensures { λ r. ⌜ ((s : Settings) (c : List ℕ) → 3 ≤ length c → number ≡ byte c 0 → good ≡ wellFormed (textOf c) → r
+        ≡ numbered (firstBroken (ownRules s (string c)))) ⌝ }
 {
     own_breaks(true, (number != 0) & good, true, true)
 }

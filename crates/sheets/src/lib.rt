@@ -44,7 +44,8 @@ pub fn make(table: &[u8], sheet: &mut [u16; 25], settings: Settings) -> Answer
 // The sheet of a table before its last element was appended, brought forward: of the elements only the last is looked at. With a
 // refusal, the new table's, the old sheet is kept.
 pub fn forward(table: &[u8], sheet: &mut [u16; 25], settings: Settings) -> Answer
-    ensures { λ r. ⌜ Leaves settings (now (table .entry)) (λ d rs. forwardOf rs (read (now (sheet .entry)))) (now (sheet .entry)) r (now (sheet .exit)) ⌝ }
+    ensures { λ r. ⌜ Leaves settings (now (table .entry)) (λ d rs. forwardOf rs (read (now (sheet .entry)))) (now (sheet .entry)) r
+        (now (sheet .exit)) ⌝ }
 {
     let answer = reader::check(table, settings);
     let Answer::Accepted(n) = answer else {
@@ -102,7 +103,8 @@ fn clear(s: &mut [u16; 25])
 // The claims of the element at a place: shared pins, then its own.
 fn enter_element(t: &[u8], at: usize, s: &mut [u16; 25], chip: Chip)
     requires { ⌜ ((x : Record) × Here chip (now t) at x) × (at < 4096) ⌝ }
-    ensures { λ _. ⌜ ((x : Record) → Here chip (now (t .entry)) at x → pinned chip x ≡ true → Lines (entered every (madeAt at (claimsOf x)) (read (now (s .entry)))) (now (s .exit))) ⌝ }
+    ensures { λ _. ⌜ ((x : Record) → Here chip (now (t .entry)) at x → pinned chip x ≡ true
+        → Lines (entered every (madeAt at (claimsOf x)) (read (now (s .entry)))) (now (s .exit))) ⌝ }
 {
     let e = element_at(t, at, chip);
     let w = shown(e, part_at(t, at));

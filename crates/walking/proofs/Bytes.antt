@@ -10,10 +10,11 @@ use mathlib.Core.Option.{some}
 use lib.ListN.{length, take, drop, length-append}
 use lib.Seq.{drop-drop, getD-drop}
 use Rattle.format.specs.Slots.{whole, word, written, byte}
-use Rattle.format.specs.Records.{Record, digital, analogue, fan, led, water, pump, voltage, current, controller, tachometer, zone, string, external, rgb, elementOf}
+use Rattle.format.specs.Records.{Record, digital, analogue, fan, led, water, pump, voltage, current, controller, tachometer, zone, string}
+use Rattle.format.specs.Records.{external, rgb, elementOf}
 use Rattle.format.specs.Layout.{fixed, part, idOf, body, layout}
 use Rattle.format.specs.Verdict.{stated}
-use Rattle.format.specs.Decode.{content, decode}
+use Rattle.format.specs.Decode.{decode}
 use Rattle.format.specs.declared.pins.Chip.{Chip}
 use Rattle.format.proofs.Slots.{starts-over, starts-split, starts-rest}
 use Rattle.format.proofs.Decoding.{stands-decoded}

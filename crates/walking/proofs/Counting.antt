@@ -20,7 +20,11 @@ nth-part : (done : List Record) (r : Record) (others : List Record) → nth (don
 nth-part [] r others = refl
 nth-part (x ∷ done) r others = nth-part done r others
 
-first-is : (done left : List Record) (r : Record) (others : List Record) (k : ℕ) → left ≡ r ∷ others → length done ≡ k → nth (done ++ left) k ≡ some r
+first-is :
+    (done left : List Record) (r : Record) (others : List Record) (k : ℕ)
+    → left ≡ r ∷ others
+    → length done ≡ k
+    → nth (done ++ left) k ≡ some r
 first-is done left r others k e n = rw (e, ← n) (nth-part done r others)
 
 abbrev Counted : ℕ → ℕ → List Record → List Record → Type 0

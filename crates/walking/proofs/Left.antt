@@ -26,14 +26,20 @@ use Rattle.format.proofs.Theorem.{accepts-passed}
 use Rattle.walking.specs.Walk.{Here, Walk}
 
 -- the description of an accepted table is the one that is read
-pub reads : (σ : Settings) (t : List ℕ) (d : Description) (rs : List Record) → Accepts σ t d rs → (16 ≤ length t) × (d ≡ readDescription (σ .chip) (byte t))
+pub reads :
+    (σ : Settings) (t : List ℕ) (d : Description) (rs : List Record)
+    → Accepts σ t d rs
+    → (16 ≤ length t) × (d ≡ readDescription (σ .chip) (byte t))
 reads σ t d rs a =
     let p = accepts-passed σ t d rs a in
     let s = table-split (σ .chip) t d rs (p .limit) (p .fits) (described-kind (σ .chip) d (p .described)) in
     (opened-facts (σ .chip) t d (s .rest) (s .opened) .0, opened-only (σ .chip) t d (s .rest) (s .opened) .0)
 
 -- what is left at a place: its layout is the rest of the bytes, and it keeps the rules after what lies behind
-fits-from : (t : List ℕ) (d : Description) (done left : List Record) → Fits t (table d (done ++ left)) → Fits (drop (placeAfter done) t) (layouts left)
+fits-from :
+    (t : List ℕ) (d : Description) (done left : List Record)
+    → Fits t (table d (done ++ left))
+    → Fits (drop (placeAfter done) t) (layouts left)
 fits-from t d done left f =
     let o = opening d (16 + length (layouts (done ++ left))) in
     let a = starts-split t o (layouts (done ++ left)) [] f in
@@ -152,6 +158,17 @@ module _ (σ : Settings) (t : List ℕ) (at : ℕ) (S : List Record → List Rec
   pub ended : length t ≤ at → Whole σ t S
   ended h = go (w .left) rest-length (w .accepts) (w .state)
     where
-      go : (left : List Record) → length t ≡ at + length (layouts left) → Accepts σ t (w .d) (w .done ++ left) → S (w .done) left → Whole σ t S
-      go [] e a s = record { d = w .d; rs = w .done; accepts = subst (λ (l : List Record). Accepts σ t (w .d) l) (append-nil (w .done)) a; state = s }
+      go :
+          (left : List Record)
+          → length t ≡ at + length (layouts left)
+          → Accepts σ t (w .d) (w .done ++ left)
+          → S (w .done) left
+          → Whole σ t S
+      go [] e a s = record {
+        d = w .d;
+        rs = w .done;
+        accepts = subst (λ (l : List Record). Accepts σ t (w .d) l)
+            (append-nil (w .done)) a;
+        state = s;
+      }
       go (r ∷ left) e a s = absurd (omega arith)

@@ -1,6 +1,6 @@
 -- 25 of each kind is what the code tests: the other numbers fit by their types. Each slot that has room is left out in turn.
 -- Assumes nothing.
-use Prim.Native.Nat.{ℕ, _/_, _%_, _<_, _≤_}
+use Prim.Native.Nat.{ℕ, _/_, _%_, _<_}
 use native.Mathlib.Omega.{arith}
 use mathlib.Core.Path.{_≡_, refl, sym, _∙_, ap}
 use mathlib.Core.Bool.{Bool, true, false, _&&_}
@@ -23,8 +23,8 @@ use Rattle.format.specs.declared.records.CurrentSensor.{CurrentSensor}
 use Rattle.format.specs.declared.records.BusDevice.{BusDevice}
 use Rattle.format.specs.declared.records.ExternalRgb.{ExternalRgb}
 use Rattle.format.specs.declared.records.RgbLed.{RgbLed}
-use Rattle.format.specs.declared.records.Address.{Address}
-use Rattle.format.specs.declared.records.Element.the-variants.{Digital, Analogue, Fan, Led, Water, Pump, Voltage, Current, Controller, Tachometer, External, Rgb}
+use Rattle.format.specs.declared.records.Element.the-variants.{Digital, Analogue, Fan, Led, Water, Pump, Voltage, Current, Controller}
+use Rattle.format.specs.declared.records.Element.the-variants.{Tachometer, External, Rgb}
 
 -- slots with room are left out
 module _ (n : ℕ) {u v : Bool} where
@@ -88,7 +88,8 @@ description-roomy d h i j k l =
     (one (d .string) i
     (one (s % 256) (omega arith)
     (one (s / 256 % 256) (omega arith)
-    (ap (λ (a : Bool). a && (ltb (d .power .0) 128 && (pinRoomy (d .revision0) && (pinRoomy (d .revision1) && pinRoomy (d .revision2))))) (high-byte s)
+    (ap (λ (a : Bool). a && (ltb (d .power .0) 128 && (pinRoomy (d .revision0) && (pinRoomy (d .revision1) && pinRoomy (d .revision2)))))
+    (high-byte s)
     ∙ beside (ltb (s / 65536) 256)
     (beside (ltb (d .power .0) 128) (beside (pinRoomy (d .revision0)) (last (pinRoomy (d .revision1)) (pinRoomy (d .revision2))))))))))
 
@@ -140,7 +141,8 @@ fan-roomy f {t} p h i j k l m = (all, all)
     all : t ≡ elementRoomy (Fan f)
     all =
         placed (f .placement) p
-        (one (f .pwm .0) h (rw i (also (pinRoomy (f .tachometer)) (one (f .ppr) j (two (f .minrpm .0) k (two (f .maxrpm .0) l (one (f .duty) m refl)))))))
+        (one (f .pwm .0) h (rw i (also (pinRoomy (f .tachometer))
+        (one (f .ppr) j (two (f .minrpm .0) k (two (f .maxrpm .0) l (one (f .duty) m refl)))))))
 
 -- a lamp: its pin, and COLOR and PURPOSE
 abbrev pub lampRoomy : Lamp → Bool

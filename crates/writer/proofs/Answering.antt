@@ -1,24 +1,26 @@
 -- The writer's answers, from what its tests found.
 -- Assumes nothing.
-use Prim.Native.Nat.{ℕ, suc, _+_, _≤_, _<_}
+use Prim.Native.Nat.{ℕ, _+_, _≤_, _<_}
 use native.Mathlib.Omega.{arith}
 use mathlib.Core.Path.{_≡_, refl, sym, _∙_, ap, subst}
 use mathlib.Core.Bool.{Bool, true, false, _&&_}
-use mathlib.Core.List.{List, [], _∷_, _++_, map}
+use mathlib.Core.List.{List}
 use mathlib.Core.Option.{Option, none, some}
-use lib.ListN.{length, length-append}
+use lib.ListN.{length}
 use lib.Dec.{leb}
 use borrow.Author.Tests.{le-leb, lt-leb, leb-true}
-use Rattle.format.specs.Slots.{Slot, whole, word, written}
+use Rattle.format.specs.Slots.{word, written}
 use Rattle.format.specs.Records.{Record}
 use Rattle.format.specs.Layout.{opening, fixed}
 use Rattle.format.specs.Rules.{numbered, ownRules, descriptionRules, descriptionRoomy, elementRoomy}
 use Rattle.format.specs.Table.{descriptionBreaks}
 use Rattle.format.specs.Verdict.{stated}
-use Rattle.format.specs.Writing.{writing, assemble, assembledBreaks, partBreaks, elementSlots, orRefused, unlessBrokenAt, hasRoom, lengthStands, newLength, startAnswer, startLeaves, appendAnswer, appendLeaves, overwritten}
+use Rattle.format.specs.Writing.{writing, assemble, assembledBreaks, partBreaks, elementSlots, orRefused, unlessBrokenAt, hasRoom}
+use Rattle.format.specs.Writing.{lengthStands, newLength, startAnswer, startLeaves, appendAnswer, appendLeaves, overwritten}
 use Rattle.format.specs.declared.records.Description.{Description}
 use Rattle.format.specs.declared.records.Element.{Element}
-use Rattle.format.specs.declared.records.Element.the-variants.{Digital, Analogue, Fan, Led, Water, Pump, Voltage, Current, Controller, Tachometer, Zone, Text, External, Rgb}
+use Rattle.format.specs.declared.records.Element.the-variants.{Digital, Analogue, Fan, Led, Water, Pump, Voltage, Current, Controller}
+use Rattle.format.specs.declared.records.Element.the-variants.{Tachometer, Zone, Text, External, Rgb}
 use Rattle.format.specs.declared.answers.Written.{Written}
 use Rattle.format.specs.declared.answers.Written.the-variants.{Length, Refused}
 use Rattle.format.proofs.Kept.{and-true, zero-none, some-number, own-numbered, description-numbered}
@@ -90,7 +92,8 @@ module _ (b : List ℕ) (n : ℕ) (e : Element) (p : List ℕ) where
 
   pub too-long : 4096 < n + length (elementSlots e p) → Refused 16 0 ≡ roomAnswer b n e p
   too-long h =
-      sym (ap (λ (t : Bool). orRefused t 16 0 (Length (n + length (elementSlots e p)))) (and-no (leb (n + length (elementSlots e p)) (length b)) _ (lt-leb (n + length (elementSlots e p)) 4096 h)))
+      sym (ap (λ (t : Bool). orRefused t 16 0 (Length (n + length (elementSlots e p))))
+      (and-no (leb (n + length (elementSlots e p)) (length b)) _ (lt-leb (n + length (elementSlots e p)) 4096 h)))
 
   pub past-buffer : length b < n + length (elementSlots e p) → Refused 16 0 ≡ roomAnswer b n e p
   past-buffer h = sym (rw (lt-leb (n + length (elementSlots e p)) (length b) h) refl)
@@ -99,7 +102,10 @@ module _ (b : List ℕ) (n : ℕ) (e : Element) (p : List ℕ) where
       (m : ℕ) → m ≡ n + length (elementSlots e p) → m ≤ length b → m ≤ 4096 → Length m ≡ roomAnswer b n e p
   fits-there m q h k =
       rw q
-      (sym (rw (le-leb (n + length (elementSlots e p)) (length b) (omega arith), le-leb (n + length (elementSlots e p)) 4096 (omega arith)) refl))
+      (sym (rw (
+        le-leb (n + length (elementSlots e p)) (length b) (omega arith),
+        le-leb (n + length (elementSlots e p)) 4096 (omega arith),
+      ) refl))
 
 -- append
 module _ (c : Chip) (b : List ℕ) (e : Element) (p : List ℕ) where
@@ -169,7 +175,10 @@ broken-length : (o : Option ℕ) (p : ℕ) (w : Written) (m : ℕ) → unlessBro
 broken-length none p w m h = h
 broken-length (some k) p w m h = let z : _≡_ {A = ℕ} 0 1 = cc in absurd (omega arith)
 
-pub start-good : (c : Chip) (b : List ℕ) (d : Description) (m : ℕ) → startAnswer c b d ≡ Length m → (16 ≤ length b) × (descriptionRoomy d ≡ true)
+pub start-good :
+    (c : Chip) (b : List ℕ) (d : Description) (m : ℕ)
+    → startAnswer c b d ≡ Length m
+    → (16 ≤ length b) × (descriptionRoomy d ≡ true)
 unfolding startAnswer
 start-good c b d m h =
     let x = or-length (leb 16 (length b)) 1 0 _ m h in
@@ -180,7 +189,10 @@ broken-none : (o : Option ℕ) (p : ℕ) (w : Written) (m : ℕ) → unlessBroke
 broken-none none p w m h = refl
 broken-none (some k) p w m h = let z : _≡_ {A = ℕ} 0 1 = cc in absurd (omega arith)
 
-pub unbroken : (c : Chip) (b : List ℕ) (e : Element) (p : List ℕ) (m : ℕ) → appendAnswer c b e p ≡ Length m → partBreaks (writing c) e p ≡ none
+pub unbroken :
+    (c : Chip) (b : List ℕ) (e : Element) (p : List ℕ) (m : ℕ)
+    → appendAnswer c b e p ≡ Length m
+    → partBreaks (writing c) e p ≡ none
 unfolding appendAnswer
 unbroken c b e p m h =
     let x = or-length (leb 16 (length b)) 1 0 _ m h in
@@ -234,9 +246,14 @@ appended c b e p m n between after h is laid l =
     }
 
 -- a refusal, and no byte altered
-pub not-started : (c : Chip) (b : List ℕ) (d : Description) (r : Written) (k m : ℕ) → r ≡ startAnswer c b d → r ≡ Refused k m → Started c b d r b
+pub not-started :
+    (c : Chip) (b : List ℕ) (d : Description) (r : Written) (k m : ℕ)
+    → r ≡ startAnswer c b d
+    → r ≡ Refused k m
+    → Started c b d r b
 not-started c b d r k m h q = record { answer = h; leaves = sym (ap (λ (v : Written). startLeaves v b d) q) }
 
 pub not-appended :
-    (c : Chip) (b : List ℕ) (e : Element) (p : List ℕ) (r : Written) (k m : ℕ) → r ≡ appendAnswer c b e p → r ≡ Refused k m → Appended c b e p r b
+    (c : Chip) (b : List ℕ) (e : Element) (p : List ℕ) (r : Written) (k m : ℕ) → r ≡ appendAnswer c b e p → r ≡ Refused k m
+    → Appended c b e p r b
 not-appended c b e p r k m h q = record { answer = h; leaves = sym (ap (λ (v : Written). appendLeaves v b e p) q) }

@@ -10,7 +10,8 @@ returns : tie.Need-returns
 returns c =
     let s = c .before .before .before in
     let a = s .args in
-    ⊎-elim (λ w. past (a .there) (a .lead) (a .c) _ (w .1 .result) (a .entries) (s .pre .0) (w .0 .taken) (w .1 .ensures .0) (w .1 .ensures .1) (w .2))
+    ⊎-elim (λ w. past (a .there) (a .lead) (a .c) _ (w .1 .result) (a .entries) (s .pre .0) (w .0 .taken) (w .1 .ensures .0)
+    (w .1 .ensures .1) (w .2))
     (λ w. still (a .there) (a .lead) (a .c) _ (a .entries) (w .0 .left) (w .1))
     (c .before .if1 .came)
 

@@ -15,7 +15,8 @@ use Rattle.blocks.proofs.past_block.Tie as tie
 shared-slice-read-enter : tie.Need-shared-slice-read-enter
 shared-slice-read-enter c =
     let a = c .before .before .before .args in
-    ⊎-elim (λ w. omega (arith, w .1, ltb-true (a .c .at) (length (now (a .p))) (w .0 .taken))) (λ w. omega (arith, w .1)) (c .before .if1 .came)
+    ⊎-elim (λ w. omega (arith, w .1, ltb-true (a .c .at) (length (now (a .p))) (w .0 .taken))) (λ w. omega (arith, w .1))
+    (c .before .if1 .came)
 
 returns : tie.Need-returns
 returns c =

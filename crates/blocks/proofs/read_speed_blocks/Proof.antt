@@ -1,5 +1,5 @@
--- `read_speed_blocks` meets its contract. The loop's invariant: it stands on a block, and the cut leads from `end` to where all of it leads.
--- Assumes nothing.
+-- `read_speed_blocks` meets its contract. The loop's invariant: it stands on a block, and the cut leads from `end` to where all of
+-- it leads. Assumes nothing.
 use Prim.Native.Nat.{ℕ, suc, _+_, _*_, _-_, _≤_}
 use native.Mathlib.Omega.{arith}
 use mathlib.Core.Path.{_≡_, refl, sym, _∙_, ap}

@@ -12,49 +12,57 @@ returns : tie.Need-returns
 unfolding partBreaks
 returns c =
     rw (c .before .before .before .e .given .1)
-    (alone _ (digital _) (now (c .before .before .before .before .before .before .args .part)) (c .unless-empty .ensures) (c .before .digital-breaks .ensures))
+    (alone _ (digital _) (now (c .before .before .before .before .before .before .args .part)) (c .unless-empty .ensures)
+    (c .before .digital-breaks .ensures))
 
 returns-2 : tie.Need-returns-2
 unfolding partBreaks
 returns-2 c =
     rw (c .before .before .before .e2 .given .1)
-    (alone _ (analogue _) (now (c .before .before .before .before .before .before .args .part)) (c .unless-empty2 .ensures) (c .before .analogue-breaks .ensures))
+    (alone _ (analogue _) (now (c .before .before .before .before .before .before .args .part)) (c .unless-empty2 .ensures)
+    (c .before .analogue-breaks .ensures))
 
 returns-3 : tie.Need-returns-3
 unfolding partBreaks
 returns-3 c =
     rw (c .before .before .before .e3 .given .1)
-    (alone _ (fan _) (now (c .before .before .before .before .before .before .args .part)) (c .unless-empty3 .ensures) (c .before .fan-breaks .ensures .0))
+    (alone _ (fan _) (now (c .before .before .before .before .before .before .args .part)) (c .unless-empty3 .ensures)
+    (c .before .fan-breaks .ensures .0))
 
 returns-4 : tie.Need-returns-4
 unfolding partBreaks
 returns-4 c =
     rw (c .before .before .before .e4 .given .1)
-    (alone _ (led _) (now (c .before .before .before .before .before .before .args .part)) (c .unless-empty4 .ensures) (c .before .led-breaks .ensures))
+    (alone _ (led _) (now (c .before .before .before .before .before .before .args .part)) (c .unless-empty4 .ensures)
+    (c .before .led-breaks .ensures))
 
 returns-5 : tie.Need-returns-5
 unfolding partBreaks
 returns-5 c =
     rw (c .before .before .before .e5 .given .1)
-    (alone _ (water _) (now (c .before .before .before .before .before .before .args .part)) (c .unless-empty5 .ensures) (c .before .water-breaks .ensures))
+    (alone _ (water _) (now (c .before .before .before .before .before .before .args .part)) (c .unless-empty5 .ensures)
+    (c .before .water-breaks .ensures))
 
 returns-6 : tie.Need-returns-6
 unfolding partBreaks
 returns-6 c =
     rw (c .before .before .before .e6 .given .1)
-    (alone _ (pump _) (now (c .before .before .before .before .before .before .args .part)) (c .unless-empty6 .ensures) (c .before .fan-breaks2 .ensures .1))
+    (alone _ (pump _) (now (c .before .before .before .before .before .before .args .part)) (c .unless-empty6 .ensures)
+    (c .before .fan-breaks2 .ensures .1))
 
 returns-7 : tie.Need-returns-7
 unfolding partBreaks
 returns-7 c =
     rw (c .before .before .before .e7 .given .1)
-    (alone _ (voltage _) (now (c .before .before .before .before .before .before .args .part)) (c .unless-empty7 .ensures) (c .before .voltage-breaks .ensures))
+    (alone _ (voltage _) (now (c .before .before .before .before .before .before .args .part)) (c .unless-empty7 .ensures)
+    (c .before .voltage-breaks .ensures))
 
 returns-8 : tie.Need-returns-8
 unfolding partBreaks
 returns-8 c =
     rw (c .before .before .before .e8 .given .1)
-    (alone _ (current _) (now (c .before .before .before .before .before .before .args .part)) (c .unless-empty8 .ensures) (c .before .current-breaks .ensures))
+    (alone _ (current _) (now (c .before .before .before .before .before .before .args .part)) (c .unless-empty8 .ensures)
+    (c .before .current-breaks .ensures))
 
 returns-9 : tie.Need-returns-9
 unfolding partBreaks
@@ -80,7 +88,8 @@ returns-14 : tie.Need-returns-14
 unfolding partBreaks
 returns-14 c =
     rw (c .before .before .before .e12 .given .1)
-    (alone _ (rgb _) (now (c .before .before .before .before .before .before .args .part)) (c .unless-empty9 .ensures) (c .before .rgb-breaks .ensures))
+    (alone _ (rgb _) (now (c .before .before .before .before .before .before .args .part)) (c .unless-empty9 .ensures)
+    (c .before .rgb-breaks .ensures))
 
 pub part-breaks-spec : {M : Type 1} → statement M
 part-breaks-spec =

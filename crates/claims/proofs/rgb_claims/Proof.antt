@@ -35,7 +35,8 @@ returns c =
     let k₁ = and-right (allowed chip FanPin r) (allowed chip FanPin g && (allowed chip FanPin b && (rg && gb))) k in
     let k₂ = and-right (allowed chip FanPin g) (allowed chip FanPin b && (rg && gb)) k₁ in
     let k₃ = and-right (allowed chip FanPin b) (rg && gb) k₂ in
-    let er = allowed-pin chip FanPin r (and-left (allowed chip FanPin r) (allowed chip FanPin g && (allowed chip FanPin b && (rg && gb))) k) in
+    let er = allowed-pin chip FanPin r (and-left (allowed chip FanPin r)
+    (allowed chip FanPin g && (allowed chip FanPin b && (rg && gb))) k) in
     let eg = allowed-pin chip FanPin g (and-left (allowed chip FanPin g) (allowed chip FanPin b && (rg && gb)) k₁) in
     let eb = allowed-pin chip FanPin b (and-left (allowed chip FanPin b) (rg && gb) k₂) in
     rw (c .before .before .bit-of .ensures, c .before .bit-of2 .ensures, c .bit-of3 .ensures)

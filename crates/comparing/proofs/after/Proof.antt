@@ -7,10 +7,12 @@ use Rattle.comparing.proofs.after.Statement.{statement}
 use Rattle.comparing.proofs.after.Tie as tie
 
 length-at-requires : tie.Need-length-at-requires
-length-at-requires c κs = let p = c .before .before .pre in framed (p .0) (now (c .before .before .args .t)) _ (p .1) (p .2) (c .if1 .taken) .0
+length-at-requires c κs = let p = c .before .before .pre in framed (p .0) (now (c .before .before .args .t)) _ (p .1) (p .2)
+    (c .if1 .taken) .0
 
 add-result : tie.Need-add-result
-add-result c = let p = c .before .before .before .pre in omega (arith, c .length-at .ensures, framed (p .0) (now (c .before .before .before .args .t)) _ (p .1) (p .2) (c .before .if1 .taken) .1)
+add-result c = let p = c .before .before .before .pre in omega
+    (arith, c .length-at .ensures, framed (p .0) (now (c .before .before .before .args .t)) _ (p .1) (p .2) (c .before .if1 .taken) .1)
 
 returns : tie.Need-returns
 returns c = λ k x a. step k _ _ x a (c .before .if1 .taken) (c .length-at .ensures)

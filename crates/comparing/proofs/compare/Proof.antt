@@ -8,7 +8,8 @@ use borrow.Author.Needs.{needs}
 use Rattle.format.specs.declared.pins.Chip.{Chip}
 use Rattle.reader.proofs.Asking.{handed}
 use Rattle.comparing.specs.Lines.{firstRefused}
-use Rattle.comparing.proofs.Going.{Agreed, agreed, refused-so, second-refused, Going, going-begun, enough, x, y, there, there′, space, turned, nearer, whole}
+use Rattle.comparing.proofs.Going.{Agreed, agreed, refused-so, second-refused, Going, going-begun, enough, x, y, there, there′}
+use Rattle.comparing.proofs.Going.{space, turned, nearer, whole}
 use Rattle.comparing.proofs.compare.Statement.{statement}
 use Rattle.comparing.proofs.compare.Tie as tie
 
@@ -21,18 +22,22 @@ abbrev μ-loop : tie.MeasureT-loop
 -- both checks have accepted
 both :
     (e : tie.After-enum-told3 Inv-loop μ-loop)
-    → Agreed (e .before .before .before .before .before .before .before .before .before .before .args .chip) (now (e .before .before .before .before .before .before .before .before .before .before .args .one)) (now (e .before .before .before .before .before .before .before .before .before .before .args .two))
+    → Agreed (e .before .before .before .before .before .before .before .before .before .before .args .chip)
+    (now (e .before .before .before .before .before .before .before .before .before .before .args .one))
+    (now (e .before .before .before .before .before .before .before .before .before .before .args .two))
 both e =
     let k = e .before .before in
     let r = k .before in
     let e₁ = r .before in
     let k₁ = e₁ .before .before in
-    agreed _ _ _ (k₁ .before .archived .ensures) (k₁ .check .ensures) (e₁ .enum-told .given .1) (r .archived2 .ensures) (k .check2 .ensures) (e .enum-told3 .given .1)
+    agreed _ _ _ (k₁ .before .archived .ensures) (k₁ .check .ensures) (e₁ .enum-told .given .1) (r .archived2 .ensures)
+    (k .check2 .ensures) (e .enum-told3 .given .1)
 
 returns : tie.Need-returns Inv-loop μ-loop
 returns c =
     let k = c .before .before .before in
-    firstRefused (refused-so _ _ (k .before .archived .ensures) (handed _ _ _ (k .check .ensures) (c .before .enum-told2 .given .1) (c .handed-on .ensures)))
+    firstRefused (refused-so _ _ (k .before .archived .ensures)
+    (handed _ _ _ (k .check .ensures) (c .before .enum-told2 .given .1) (c .handed-on .ensures)))
 
 returns-2 : tie.Need-returns-2 Inv-loop μ-loop
 returns-2 c =
@@ -40,7 +45,8 @@ returns-2 c =
     let e = k .before .before in
     let k₁ = e .before .before in
     second-refused _ _ _ _ (k₁ .before .archived .ensures) (k₁ .check .ensures) (e .enum-told .given .1)
-    (refused-so _ _ (k .before .archived2 .ensures) (handed _ _ _ (k .check2 .ensures) (c .before .enum-told4 .given .1) (c .handed-on2 .ensures)))
+    (refused-so _ _ (k .before .archived2 .ensures)
+    (handed _ _ _ (k .check2 .ensures) (c .before .enum-told4 .given .1) (c .handed-on2 .ensures)))
 
 put-rows-requires : tie.Need-put-rows-requires Inv-loop μ-loop
 put-rows-requires c κs =
@@ -86,7 +92,8 @@ loop-less c =
     let l = t .before in
     let g = both (l .before .before .before) in
     let w = l .loop .inv _ g in
-    nearer _ _ _ g w (t .loop-test .taken) (c .before .after .ensures _ (x _ _ _ g w) (there _ _ _ g w)) (c .after2 .ensures _ (y _ _ _ g w) (there′ _ _ _ g w))
+    nearer _ _ _ g w (t .loop-test .taken) (c .before .after .ensures _ (x _ _ _ g w) (there _ _ _ g w))
+    (c .after2 .ensures _ (y _ _ _ g w) (there′ _ _ _ g w))
 
 loop-again : tie.Need-loop-again Inv-loop μ-loop
 loop-again c =

@@ -14,14 +14,16 @@ put-pair-requires c κs =
     let s = t .before .before .before .before .before in
     let a = s .args in
     let p = s .pre in
-    pair-there (now (a .one)) (now (a .two)) (a .a) (a .b) (p .0) (p .1) (p .2) (a .at) (length (now (a .out))) (p .3) (p .4) (t .before .if1 .taken) (t .if2 .taken) (p .5) (p .6) (p .7)
+    pair-there (now (a .one)) (now (a .two)) (a .a) (a .b) (p .0) (p .1) (p .2) (a .at) (length (now (a .out))) (p .3) (p .4)
+    (t .before .if1 .taken) (t .if2 .taken) (p .5) (p .6) (p .7)
 
 returns : tie.Need-returns
 returns c =
     let q = c .before .before in
     let t = q .before .before in
     let a = t .before .before .before .before .before .args in
-    λ k x y h i. both-there (now (a .one)) (now (a .two)) (a .a) (a .b) k x y h i (t .before .if1 .taken) (t .if2 .taken) (q .put-pair .ensures)
+    λ k x y h i. both-there (now (a .one)) (now (a .two)) (a .a) (a .b) k x y h i (t .before .if1 .taken) (t .if2 .taken)
+    (q .put-pair .ensures)
 
 put-kind-requires : tie.Need-put-kind-requires
 put-kind-requires c κs = let s = c .before .before .before .before .before .before .before in omega (arith, s .pre .7)
@@ -31,7 +33,8 @@ returns-2 c =
     let q = c .before .before in
     let t = q .before .before .before in
     let a = t .before .before .before .before .before .args in
-    λ k x y h i. first-there (now (a .one)) (now (a .two)) (a .a) (a .b) k x y h i (t .before .if1 .taken) (t .if2 .left) (q .put-kind .ensures)
+    λ k x y h i. first-there (now (a .one)) (now (a .two)) (a .a) (a .b) k x y h i (t .before .if1 .taken) (t .if2 .left)
+    (q .put-kind .ensures)
 
 put-kind-requires-2 : tie.Need-put-kind-requires-2
 put-kind-requires-2 c κs = let s = c .before .before .before .before .before .before .before in omega (arith, s .pre .7)
@@ -41,7 +44,8 @@ returns-3 c =
     let q = c .before .before in
     let t = q .before .before .before in
     let a = t .before .before .before .before .before .args in
-    λ k x y h i. second-there (now (a .one)) (now (a .two)) (a .a) (a .b) k x y h i (t .before .if1 .left) (t .if3 .taken) (q .put-kind2 .ensures)
+    λ k x y h i. second-there (now (a .one)) (now (a .two)) (a .a) (a .b) k x y h i (t .before .if1 .left) (t .if3 .taken)
+    (q .put-kind2 .ensures)
 
 returns-4 : tie.Need-returns-4
 returns-4 c =

@@ -1,7 +1,6 @@
 -- `put_pair` meets its contract: of one kind the fields and the part, of two kinds one line.
 -- Assumes nothing.
 use native.Mathlib.Omega.{arith}
-use mathlib.Core.Path.{_∙_}
 use lib.ListN.{length}
 use denote.Ref.{now}
 use borrow.Author.Needs.{needs}
@@ -23,7 +22,8 @@ put-fields-requires c κs =
     let s = t .before .before .before .before .before .before in
     let a = s .args in
     let p = s .pre in
-    let r = fields-room (now (a .one)) (now (a .two)) (a .a) (a .b) (written (part (p .1))) (written (part (p .2))) (t .if1 .taken) (c .wide .ensures .0) (a .at) (length (now (a .out))) (p .7) in
+    let r = fields-room (now (a .one)) (now (a .two)) (a .a) (a .b) (written (part (p .1))) (written (part (p .2))) (t .if1 .taken)
+    (c .wide .ensures .0) (a .at) (length (now (a .out))) (p .7) in
     (r, p .5, p .6, omega (arith, c .wide .ensures .0, kind-here (p .0) (now (a .one)) (a .a) (p .1) (p .3), kind-small (p .1)))
 
 part-at-requires : tie.Need-part-at-requires
@@ -45,7 +45,8 @@ put-part-requires c κs =
     let a = s .args in
     let p = s .pre in
     let r =
-    part-room (now (a .one)) (now (a .two)) (a .a) (a .b) (written (part (p .1))) (written (part (p .2))) (t .if1 .taken) (f .before .wide .ensures .0) (f .put-fields .ensures)
+    part-room (now (a .one)) (now (a .two)) (a .a) (a .b) (written (part (p .1))) (written (part (p .2))) (t .if1 .taken)
+    (f .before .wide .ensures .0) (f .put-fields .ensures)
     (x .part-at .ensures (p .0) (p .1) (p .3)) (c .part-at2 .ensures (p .0) (p .2) (p .4)) (p .7) in
     (r, p .5, p .6)
 
@@ -59,7 +60,8 @@ returns c =
     let s = t .before .before .before .before .before .before in
     let a = s .args in
     λ k u v h i.
-    pair-put (now (a .one)) (now (a .two)) (a .a) (a .b) (written (part u)) (written (part v)) (t .if1 .taken) (f .before .wide .ensures .0) (f .put-fields .ensures)
+    pair-put (now (a .one)) (now (a .two)) (a .a) (a .b) (written (part u)) (written (part v)) (t .if1 .taken)
+    (f .before .wide .ensures .0) (f .put-fields .ensures)
     (x .part-at .ensures k u h) (y .part-at2 .ensures k v i) (q .put-part .ensures)
 
 put-kind-requires : tie.Need-put-kind-requires
@@ -71,7 +73,8 @@ returns-2 c =
     let t = q .before .before in
     let s = t .before .before .before .before .before .before in
     let a = s .args in
-    λ k u v h i. of-two-kinds (now (a .one)) (now (a .two)) (a .a) (a .b) (written (part u)) (written (part v)) (t .if1 .left) (q .put-kind .ensures)
+    λ k u v h i. of-two-kinds (now (a .one)) (now (a .two)) (a .a) (a .b) (written (part u)) (written (part v)) (t .if1 .left)
+    (q .put-kind .ensures)
 
 pub put-pair-spec : {M : Type 1} → statement M
 put-pair-spec =

@@ -1,7 +1,8 @@
 -- `element_of` meets its contract: the arm that was taken is the identifier's, and its reader reads the record.
 -- Assumes nothing.
 use native.Mathlib.Omega.{arith}
-use Rattle.elements.proofs.Which.{is-digital, is-analogue, is-fan, is-led, is-water, is-pump, is-voltage, is-current, is-controller, is-tachometer, is-text, is-external, is-rgb, is-zone}
+use Rattle.elements.proofs.Which.{is-digital, is-analogue, is-fan, is-led, is-water, is-pump, is-voltage, is-current}
+use Rattle.elements.proofs.Which.{is-controller, is-tachometer, is-text, is-external, is-rgb, is-zone}
 use Rattle.elements.proofs.element_of.Statement.{statement}
 use Rattle.elements.proofs.element_of.Tie as tie
 
@@ -33,10 +34,18 @@ device-requires : tie.Need-device-requires
 device-requires c κs = omega (arith, is-controller _ _ (c .before .before .pre .0) (rw (c .match .keys9) at (c .before .before .pre .1)) .0)
 
 device-requires-2 : tie.Need-device-requires-2
-device-requires-2 c κs = omega (arith, is-tachometer _ _ (c .before .before .pre .0) (rw (c .match .keys10) at (c .before .before .pre .1)) .0)
+device-requires-2 c κs = omega (
+  arith,
+  is-tachometer _ _ (c .before .before .pre .0)
+      (rw (c .match .keys10) at (c .before .before .pre .1)) .0,
+)
 
 external-requires : tie.Need-external-requires
-external-requires c κs = omega (arith, is-external _ _ (c .before .before .pre .0) (rw (c .match .keys12) at (c .before .before .pre .1)) .0)
+external-requires c κs = omega (
+  arith,
+  is-external _ _ (c .before .before .pre .0)
+      (rw (c .match .keys12) at (c .before .before .pre .1)) .0,
+)
 
 rgb-requires : tie.Need-rgb-requires
 rgb-requires c κs = omega (arith, is-rgb _ _ (c .before .before .pre .0) (rw (c .match .keys13) at (c .before .before .pre .1)) .0)

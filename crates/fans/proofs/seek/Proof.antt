@@ -43,7 +43,8 @@ step-requires c κs =
 returns : tie.Need-returns Inv-loop μ-loop
 returns c =
     let n = c .before .before .before in
-    hit _ _ _ _ (n .before .before .loop .inv) (n .before .loop-test .taken) (n .length-at .ensures) _ (c .before .step .ensures) (c .if1 .taken)
+    hit _ _ _ _ (n .before .before .loop .inv) (n .before .loop-test .taken) (n .length-at .ensures) _ (c .before .step .ensures)
+    (c .if1 .taken)
 
 loop-less : tie.Need-loop-less Inv-loop μ-loop
 loop-less c =
@@ -54,7 +55,8 @@ loop-less c =
 loop-again : tie.Need-loop-again Inv-loop μ-loop
 loop-again c =
     let n = c .before .before .before in
-    turned _ _ _ _ (n .before .before .loop .inv) (n .before .loop-test .taken) (n .length-at .ensures) _ (c .before .step .ensures) (c .if1 .left)
+    turned _ _ _ _ (n .before .before .loop .inv) (n .before .loop-test .taken) (n .length-at .ensures) _ (c .before .step .ensures)
+    (c .if1 .left)
 
 returns-2 : tie.Need-returns-2 Inv-loop μ-loop
 returns-2 c = not-there _ _ _ _ (c .before .loop .inv) (c .loop-test .left)

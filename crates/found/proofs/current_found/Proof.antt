@@ -16,7 +16,9 @@ returns-2 : tie.Need-returns-2
 unfolding decode
 returns-2 c =
     let r = c .before .before .before .before in
-    right-length _ 8 _ _ current (readCurrent _) 11 refl _ (r .before .if1 .left) refl (r .current .ensures) (c .before .before .before .current-breaks .ensures) (c .before .before .analogue-claims .ensures) (c .before .no-fans .ensures) (c .together .ensures)
+    right-length _ 8 _ _ current (readCurrent _) 11 refl _ (r .before .if1 .left) refl (r .current .ensures)
+    (c .before .before .before .current-breaks .ensures) (c .before .before .analogue-claims .ensures) (c .before .no-fans .ensures)
+    (c .together .ensures)
 
 pub current-found-spec : {M : Type 1} → statement M
 current-found-spec =

@@ -17,9 +17,12 @@ returns-3 : tie.Need-returns-3
 returns-3 c =
     let r = c .before .before .before .before in
     let t = r .before in
-    found-whole _ _ _ _ _ (not-false _ (t .before .before .if1 .left)) (not-false _ (t .if2 .left)) (r .device .ensures) (c .before .before .before .device-breaks .ensures) (c .before .before .bus-claims .ensures) (c .before .no-fans .ensures) (c .together .ensures)
+    found-whole _ _ _ _ _ (not-false _ (t .before .before .if1 .left)) (not-false _ (t .if2 .left)) (r .device .ensures)
+    (c .before .before .before .device-breaks .ensures) (c .before .before .bus-claims .ensures) (c .before .no-fans .ensures)
+    (c .together .ensures)
 
 pub device-found-spec : {M : Type 1} → statement M
 device-found-spec =
     tie.close
-    (tie.spec (search needs) returns (search needs) returns-2 (search needs) (search needs) (search needs) (search needs) (search needs) returns-3)
+    (tie.spec (search needs) returns (search needs) returns-2 (search needs) (search needs) (search needs) (search needs)
+    (search needs) returns-3)

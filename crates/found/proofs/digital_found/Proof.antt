@@ -16,7 +16,9 @@ returns-2 : tie.Need-returns-2
 unfolding decode
 returns-2 c =
     let r = c .before .before .before .before in
-    right-length _ 1 _ _ digital (readDigital _) 18 refl _ (r .before .if1 .left) refl (r .digital .ensures) (c .before .before .before .digital-breaks .ensures) (c .before .before .bus-claims .ensures) (c .before .no-fans .ensures) (c .together .ensures)
+    right-length _ 1 _ _ digital (readDigital _) 18 refl _ (r .before .if1 .left) refl (r .digital .ensures)
+    (c .before .before .before .digital-breaks .ensures) (c .before .before .bus-claims .ensures) (c .before .no-fans .ensures)
+    (c .together .ensures)
 
 pub digital-found-spec : {M : Type 1} → statement M
 digital-found-spec =

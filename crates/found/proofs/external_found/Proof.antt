@@ -14,7 +14,8 @@ returns-2 c =
     let cut = c .before .before .before in
     let s = cut .before .before in
     let b = now (s .before .before .args .b) in
-    external-judged _ b _ _ (c .device-found .ensures) (s .if1 .left) (rw (rest 9 b) at (cut .pairs-blocks .ensures .0)) (c .before .identified .ensures)
+    external-judged _ b _ _ (c .device-found .ensures) (s .if1 .left) (rw (rest 9 b) at (cut .pairs-blocks .ensures .0))
+    (c .before .identified .ensures)
 
 pub external-found-spec : {M : Type 1} → statement M
 external-found-spec =

@@ -22,8 +22,10 @@ returns-2 c =
     let own = c .before .before .before .fan-breaks .ensures in
     let claims = c .before .before .fan-claims .ensures in
     let fans = c .before .fan-fans .ensures in (
-      right-length _ 3 _ _ fan (readFan _) 13 refl _ (r .before .if1 .left) refl (r .fan .ensures) (own .0) claims fans (c .together .ensures),
-      right-length _ 6 _ _ pump (readFan _) 13 refl _ (r .before .if1 .left) refl (r .fan .ensures) (own .1) claims fans (c .together .ensures),
+      right-length _ 3 _ _ fan (readFan _) 13 refl _ (r .before .if1 .left) refl (r .fan .ensures) (own .0) claims fans
+          (c .together .ensures),
+      right-length _ 6 _ _ pump (readFan _) 13 refl _ (r .before .if1 .left) refl (r .fan .ensures) (own .1) claims fans
+          (c .together .ensures),
     )
 
 pub fan-found-spec : {M : Type 1} → statement M

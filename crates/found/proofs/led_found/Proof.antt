@@ -16,7 +16,9 @@ returns-2 : tie.Need-returns-2
 unfolding decode
 returns-2 c =
     let r = c .before .before .before .before in
-    right-length _ 4 _ _ led (readLed _) 11 refl _ (r .before .if1 .left) refl (r .led .ensures) (c .before .before .before .led-breaks .ensures) (c .before .before .led-claims .ensures) (c .before .no-fans .ensures) (c .together .ensures)
+    right-length _ 4 _ _ led (readLed _) 11 refl _ (r .before .if1 .left) refl (r .led .ensures)
+    (c .before .before .before .led-breaks .ensures) (c .before .before .led-claims .ensures) (c .before .no-fans .ensures)
+    (c .together .ensures)
 
 pub led-found-spec : {M : Type 1} → statement M
 led-found-spec =

@@ -16,7 +16,9 @@ returns-2 : tie.Need-returns-2
 unfolding decode
 returns-2 c =
     let r = c .before .before .before .before in
-    right-length _ 14 _ _ rgb (readRgb _) 8 refl _ (r .before .if1 .left) refl (r .rgb .ensures) (c .before .before .before .rgb-breaks .ensures) (c .before .before .rgb-claims .ensures) (c .before .rgb-fans .ensures) (c .together .ensures)
+    right-length _ 14 _ _ rgb (readRgb _) 8 refl _ (r .before .if1 .left) refl (r .rgb .ensures)
+    (c .before .before .before .rgb-breaks .ensures) (c .before .before .rgb-claims .ensures) (c .before .rgb-fans .ensures)
+    (c .together .ensures)
 
 pub rgb-found-spec : {M : Type 1} → statement M
 rgb-found-spec =

@@ -16,7 +16,9 @@ returns-2 : tie.Need-returns-2
 unfolding decode
 returns-2 c =
     let r = c .before .before .before .before in
-    right-length _ 7 _ _ voltage (readVoltage _) 8 refl _ (r .before .if1 .left) refl (r .voltage .ensures) (c .before .before .before .voltage-breaks .ensures) (c .before .before .analogue-claims .ensures) (c .before .no-fans .ensures) (c .together .ensures)
+    right-length _ 7 _ _ voltage (readVoltage _) 8 refl _ (r .before .if1 .left) refl (r .voltage .ensures)
+    (c .before .before .before .voltage-breaks .ensures) (c .before .before .analogue-claims .ensures) (c .before .no-fans .ensures)
+    (c .together .ensures)
 
 pub voltage-found-spec : {M : Type 1} → statement M
 voltage-found-spec =

@@ -37,7 +37,8 @@ returns-3 : tie.Need-returns-3
 returns-3 c =
     let n = c .before .before .before .if1 .left in
     λ σ d rs x a h.
-    c .by-number .ensures σ d rs a ∙ ap standsAt (called-number _ _ rs x h n (c .before .before .index-at .ensures x h n) (c .before .if2 .left))
+    c .by-number .ensures σ d rs a ∙ ap standsAt (called-number _ _ rs x h n (c .before .before .index-at .ensures x h n)
+    (c .before .if2 .left))
 
 pub called-spec : {M : Type 1} → statement M
 called-spec =

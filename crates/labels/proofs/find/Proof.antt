@@ -38,7 +38,8 @@ called-requires c κs =
 returns-3 : tie.Need-returns-3
 returns-3 c =
     let a = c .before .before .before .before in
-    let l = c .before .place-of .ensures _ _ (rw (a .answer .given .1) at (a .before .before .check .ensures)) (c .before .before .if1 .left) in
+    let l = c .before .place-of .ensures _ _ (rw (a .answer .given .1) at (a .before .before .check .ensures))
+    (c .before .before .if1 .left) in
     found-there _ _ _ _ l (c .called .ensures _ (l .d) (l .rs) (role (l .r)) (l .accepts) (located-roled _ _ _ _ l))
 
 pub find-spec : {M : Type 1} → statement M

@@ -20,7 +20,8 @@ abbrev μ-loop : tie.MeasureT-loop
 returns : tie.Need-returns Inv-loop μ-loop
 returns c =
     let t = c .before .before .before in
-    refusal _ _ _ _ (handed _ _ _ (t .before .before .check .ensures) (t .enum-told2 .given .1) (c .before .before .handed-on .ensures)) (c .put-refused .ensures)
+    refusal _ _ _ _ (handed _ _ _ (t .before .before .check .ensures) (t .enum-told2 .given .1) (c .before .before .handed-on .ensures))
+    (c .put-refused .ensures)
 
 description-requires : tie.Need-description-requires Inv-loop μ-loop
 description-requires c κs =
@@ -44,7 +45,11 @@ put-element-requires : tie.Need-put-element-requires Inv-loop μ-loop
 put-element-requires c κs =
     let t = c .before .before .before in
     let l = t .before in (
-      omega (arith, room _ _ _ _ _ _ _ (l .loop .inv) (t .loop-test .taken) (l .before .put-table .ensures .1), c .before .put-element-arg .given),
+      omega (
+        arith,
+        room _ _ _ _ _ _ _ (l .loop .inv) (t .loop-test .taken) (l .before .put-table .ensures .1),
+        c .before .put-element-arg .given,
+      ),
       unpinned _ _ _ _ _ _ _ (l .loop .inv) _ (t .loop-test .taken) (c .before .before .element-at .ensures),
     )
 
@@ -69,7 +74,8 @@ loop-again : tie.Need-loop-again Inv-loop μ-loop
 loop-again c =
     let e = c .before .before .before .before in
     let t = e .before in
-    turned _ _ _ _ _ _ _ (t .before .loop .inv) _ _ _ (t .loop-test .taken) (c .length-at .ensures) (e .element-at .ensures) (c .before .before .part-at .ensures) (c .before .put-element .ensures)
+    turned _ _ _ _ _ _ _ (t .before .loop .inv) _ _ _ (t .loop-test .taken) (c .length-at .ensures) (e .element-at .ensures)
+    (c .before .before .part-at .ensures) (c .before .put-element .ensures)
 
 returns-2 : tie.Need-returns-2 Inv-loop μ-loop
 returns-2 c =

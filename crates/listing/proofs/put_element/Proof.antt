@@ -34,8 +34,18 @@ returns c =
           (rw (p3 .before .id-of .ensures) at (p3 .put-id .ensures .0))
           (then
           (rw (p1 .before .before .before .shown .ensures .0) at (p4 .put-zone .ensures .0))
-          (rw (p1 .before .before .before .shown .ensures .1, p1 .before .before .before .shown .ensures .2) at (p5 .put-own .ensures .0))))),
-      omega (arith, p1 .put .ensures .ends, p2 .put-number .ensures .1, p3 .put-id .ensures .1, p4 .put-zone .ensures .1, p5 .put-own .ensures .1),
+          (rw (
+            p1 .before .before .before .shown .ensures .1,
+            p1 .before .before .before .shown .ensures .2,
+          ) at (p5 .put-own .ensures .0))))),
+      omega (
+        arith,
+        p1 .put .ensures .ends,
+        p2 .put-number .ensures .1,
+        p3 .put-id .ensures .1,
+        p4 .put-zone .ensures .1,
+        p5 .put-own .ensures .1,
+      ),
     )
 
 pub put-element-spec : {M : Type 1} → statement M

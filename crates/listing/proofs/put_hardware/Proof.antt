@@ -13,7 +13,8 @@ returns c =
     let p1 = p2 .before .before .before .before .before in (
       then
           (rw (p1 .before .byte-of .ensures) at (p1 .put-pin .ensures .0))
-          (then (rw (p2 .before .byte-of2 .ensures) at (p2 .put-pin2 .ensures .0)) (rw (p3 .before .byte-of3 .ensures) at (p3 .put-pin3 .ensures .0))),
+          (then (rw (p2 .before .byte-of2 .ensures) at (p2 .put-pin2 .ensures .0))
+          (rw (p3 .before .byte-of3 .ensures) at (p3 .put-pin3 .ensures .0))),
       omega (arith, p1 .put-pin .ensures .1, p2 .put-pin2 .ensures .1, p3 .put-pin3 .ensures .1),
     )
 

@@ -20,4 +20,5 @@ returns c =
     (then (p3 .put-decimal .ensures .0) (p4 .put2 .ensures)))
 
 pub put-refused-spec : {M : Type 1} → statement M
-put-refused-spec = tie.close (tie.spec (search needs) (λ c κs. search needs) (λ c κs. search needs) (λ c κs. search needs) (λ c κs. search needs) (search needs) (λ c κs. search needs) (search needs) returns)
+put-refused-spec = tie.close (tie.spec (search needs) (λ c κs. search needs) (λ c κs. search needs) (λ c κs. search needs)
+    (λ c κs. search needs) (search needs) (λ c κs. search needs) (search needs) returns)

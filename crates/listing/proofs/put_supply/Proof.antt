@@ -17,4 +17,5 @@ returns-2 c =
     (rw (m .before .if1 .left, ← m .in-milliamps .ensures) (p .put-number .ensures .0), p .put-number .ensures .1)
 
 pub put-supply-spec : {M : Type 1} → statement M
-put-supply-spec = tie.close (tie.spec (search needs) (λ c κs. search needs) (search needs) returns (λ c κs. search needs) (λ c κs. search needs) (search needs) returns-2)
+put-supply-spec = tie.close (tie.spec (search needs) (λ c κs. search needs) (search needs) returns (λ c κs. search needs)
+    (λ c κs. search needs) (search needs) returns-2)

@@ -23,4 +23,5 @@ returns c =
     )
 
 pub put-table-spec : {M : Type 1} → statement M
-put-table-spec = tie.close (tie.spec (search needs) (λ c κs. search needs) (λ c κs. search needs) (λ c κs. search needs) (λ c κs. search needs) (λ c κs. search needs) (search needs) returns)
+put-table-spec = tie.close (tie.spec (search needs) (λ c κs. search needs) (λ c κs. search needs) (λ c κs. search needs)
+    (λ c κs. search needs) (λ c κs. search needs) (search needs) returns)

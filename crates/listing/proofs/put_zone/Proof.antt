@@ -17,4 +17,5 @@ returns-2 c =
     (rw (ne-eqb _ _ (p .before .before .if1 .left)) (p .put-number .ensures .0), p .put-number .ensures .1)
 
 pub put-zone-spec : {M : Type 1} → statement M
-put-zone-spec = tie.close (tie.spec (search needs) (λ c κs. search needs) (search needs) returns (λ c κs. search needs) (search needs) returns-2)
+put-zone-spec = tie.close (tie.spec (search needs) (λ c κs. search needs) (search needs) returns (λ c κs. search needs)
+    (search needs) returns-2)

@@ -2,7 +2,6 @@
 -- Assumes nothing.
 use native.Mathlib.Omega.{arith}
 use borrow.Author.Needs.{needs}
-use Rattle.converting.specs.Outcomes.{outcomeOf}
 use Rattle.sensing.specs.declared.Sensor.the-variants.{Points}
 use Rattle.thermistor.specs.Ready.{ours}
 use Rattle.metering.proofs.Shortening.{unshortened}

@@ -8,4 +8,5 @@ returns : tie.Need-returns
 returns c = rw (c .before .before .placement .ensures, c .before .kind .ensures, c .address .ensures)
 
 pub device-spec : {M : Type 1} → statement M
-device-spec = tie.close (tie.spec (λ c κs. search needs) (search needs) (λ c κs. search needs) (search needs) (λ c κs. search needs) (search needs) returns)
+device-spec = tie.close (tie.spec (λ c κs. search needs) (search needs) (λ c κs. search needs) (search needs) (λ c κs. search needs)
+    (search needs) returns)

@@ -17,4 +17,6 @@ returns c =
     rw (t .before .placement .ensures, t .byte-of .ensures)
 
 pub fan-spec : {M : Type 1} → statement M
-fan-spec = tie.close (tie.spec (λ c κs. search needs) (λ c. search needs) (λ c κs. search needs) (λ c. search needs) (λ c. search needs) (λ c. search needs) (λ c. search needs) cast-n-2 (λ c. search needs) (λ c. search needs) (λ c. search needs) cast-n-4 (λ c. search needs) (λ c. search needs) returns)
+fan-spec = tie.close (tie.spec (λ c κs. search needs) (λ c. search needs) (λ c κs. search needs) (λ c. search needs) (λ c. search needs)
+    (λ c. search needs) (λ c. search needs) cast-n-2 (λ c. search needs) (λ c. search needs) (λ c. search needs) cast-n-4
+    (λ c. search needs) (λ c. search needs) returns)

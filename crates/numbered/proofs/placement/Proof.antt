@@ -8,4 +8,5 @@ returns : tie.Need-returns
 returns c = rw (c .number-of .ensures)
 
 pub placement-spec : {M : Type 1} → statement M
-placement-spec = tie.close (tie.spec (λ c. search needs) (λ c. search needs) (λ c. search needs) (λ c. search needs) (λ c. search needs) (λ c κs. search needs) (λ c. search needs) returns)
+placement-spec = tie.close (tie.spec (λ c. search needs) (λ c. search needs) (λ c. search needs) (λ c. search needs) (λ c. search needs)
+    (λ c κs. search needs) (λ c. search needs) returns)

@@ -8,4 +8,5 @@ returns : tie.Need-returns
 returns c = cc
 
 pub analogue-spec : {M : Type 1} → statement M
-analogue-spec = tie.close (tie.spec (λ c κs. search needs) (search needs) (search needs) (λ c κs. search needs) (λ c κs. search needs) (λ c κs. search needs) (λ c κs. search needs) (λ c κs. search needs) returns)
+analogue-spec = tie.close (tie.spec (λ c κs. search needs) (search needs) (search needs) (λ c κs. search needs) (λ c κs. search needs)
+    (λ c κs. search needs) (λ c κs. search needs) (λ c κs. search needs) returns)

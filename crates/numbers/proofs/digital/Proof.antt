@@ -8,4 +8,5 @@ returns : tie.Need-returns
 returns c = cc
 
 pub digital-spec : {M : Type 1} → statement M
-digital-spec = tie.close (tie.spec (λ c κs. search needs) (search needs) (search needs) (search needs) (λ c κs. search needs) (λ c κs. search needs) (λ c κs. search needs) (λ c κs. search needs) (search needs) (λ c κs. search needs) (search needs) returns)
+digital-spec = tie.close (tie.spec (λ c κs. search needs) (search needs) (search needs) (search needs) (λ c κs. search needs)
+    (λ c κs. search needs) (λ c κs. search needs) (λ c κs. search needs) (search needs) (λ c κs. search needs) (search needs) returns)

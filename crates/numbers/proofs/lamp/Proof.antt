@@ -8,4 +8,5 @@ returns : tie.Need-returns
 returns c = rw (c .before .before .optional .ensures)
 
 pub lamp-spec : {M : Type 1} → statement M
-lamp-spec = tie.close (tie.spec (λ c. search needs) (λ c κs. search needs) (λ c. search needs) (λ c. search needs) (λ c. search needs) (λ c. search needs) returns)
+lamp-spec = tie.close (tie.spec (λ c. search needs) (λ c κs. search needs) (λ c. search needs) (λ c. search needs) (λ c. search needs)
+    (λ c. search needs) returns)

@@ -13,7 +13,8 @@ returns c =
     let l = c .before .before .before .list-at in
     let d = c .before .before .before .before in
     let n = c .before .found .given in
-    with-speed (now (d .before .before .before .args .r)) (now (d .past .result)) (Entries (n .0 .0)) (d .before .byte-at .ensures) (d .past .ensures)
+    with-speed (now (d .before .before .before .args .r)) (now (d .past .result)) (Entries (n .0 .0)) (d .before .byte-at .ensures)
+    (d .past .ensures)
     (sym (n .1) ∙ l .ensures)
 
 returns-2 : tie.Need-returns-2
@@ -23,4 +24,5 @@ returns-2 c =
     (sym (c .enum-told .given .1) ∙ c .before .before .list-at .ensures)
 
 pub block-at-spec : {M : Type 1} → statement M
-block-at-spec = tie.close (tie.spec (λ c κs. search needs) (λ c κs. search needs) (λ c κs. search needs) (search needs) (search needs) returns returns-2)
+block-at-spec = tie.close (tie.spec (λ c κs. search needs) (λ c κs. search needs) (λ c κs. search needs) (search needs)
+    (search needs) returns returns-2)

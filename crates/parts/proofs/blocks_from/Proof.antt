@@ -24,7 +24,8 @@ loop-again : tie.Need-loop-again Inv-loop μ-loop
 loop-again c =
     let l = c .before .before .before .before .loop in
     let s = c .before .past in
-    turn (now (l .r)) (now (s .result)) (now (c .after-list .result)) (l .left) (c .before .before .before .loop-test .taken) (s .ensures) (c .after-list .ensures)
+    turn (now (l .r)) (now (s .result)) (now (c .after-list .result)) (l .left) (c .before .before .before .loop-test .taken) (s .ensures)
+    (c .after-list .ensures)
     ∙ l .inv
 
 returns-2 : tie.Need-returns-2 Inv-loop μ-loop
@@ -34,4 +35,5 @@ returns-2 c =
     rw e at (l .inv)
 
 pub blocks-from-spec : {M : Type 1} → statement M
-blocks-from-spec = tie.close (tie.spec Inv-loop μ-loop (λ c. refl) returns (λ c κs. search needs) (λ c κs. search needs) (omega arith) (omega arith) loop-again returns-2)
+blocks-from-spec = tie.close (tie.spec Inv-loop μ-loop (λ c. refl) returns (λ c κs. search needs) (λ c κs. search needs) (omega arith)
+    (omega arith) loop-again returns-2)

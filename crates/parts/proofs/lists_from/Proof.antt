@@ -45,4 +45,5 @@ returns-2 c =
 pub lists-from-spec : {M : Type 1} → statement M
 lists-from-spec =
     tie.close
-    (tie.spec Inv-loop μ-loop (λ c κs. search needs) returns loop-holds (λ c κs. search needs) (omega arith) (omega arith) loop-again returns-2)
+    (tie.spec Inv-loop μ-loop (λ c κs. search needs) returns loop-holds (λ c κs. search needs) (omega arith)
+    (omega arith) loop-again returns-2)

@@ -1,6 +1,5 @@
 -- `follows` meets its contract, by whether there is any pin.
 -- Assumes nothing.
-use mathlib.Core.Path.{_≡_, _∙_}
 use Rattle.pass.proofs.Following.{in-order}
 use borrow.Author.Needs.{needs}
 use Rattle.pass.proofs.follows.Statement.{statement}

@@ -15,7 +15,8 @@ returns c =
     let a = w .before .before .before .before .before .args in
     let low = w .before .before .before .before .before .pre .2 in
     let e = stated-at (now (a .t)) (a .at) (w .before .before .wide .ensures .0) (w .wide2 .ensures .0) in
-    move-6 _ _ _ _ _ _ _ _ (low-kept _ _ (low .most) (low .few) (c .halted .ensures .1)) (c .halted .ensures .0) (c .halted .ensures .1) refl (unframed-small (now (a .t)) (a .at) e (c .before .if1 .taken))
+    move-6 _ _ _ _ _ _ _ _ (low-kept _ _ (low .most) (low .few) (c .halted .ensures .1)) (c .halted .ensures .0)
+    (c .halted .ensures .1) refl (unframed-small (now (a .t)) (a .at) e (c .before .if1 .taken))
 
 returns-2 : tie.Need-returns-2
 returns-2 c =
@@ -23,7 +24,8 @@ returns-2 c =
     let a = w .before .before .before .before .before .args in
     let low = w .before .before .before .before .before .pre .2 in
     let e = stated-at (now (a .t)) (a .at) (w .before .before .wide .ensures .0) (w .wide2 .ensures .0) in
-    move-6 _ _ _ _ _ _ _ _ (low-kept _ _ (low .most) (low .few) (c .halted2 .ensures .1)) (c .halted2 .ensures .0) (c .halted2 .ensures .1) refl (unframed-long (now (a .t)) (a .at) e (c .before .if2 .taken))
+    move-6 _ _ _ _ _ _ _ _ (low-kept _ _ (low .most) (low .few) (c .halted2 .ensures .1)) (c .halted2 .ensures .0)
+    (c .halted2 .ensures .1) refl (unframed-long (now (a .t)) (a .at) e (c .before .if2 .taken))
 
 returns-3 : tie.Need-returns-3
 returns-3 c =
@@ -31,8 +33,10 @@ returns-3 c =
     let a = w .before .before .before .before .before .args in
     let low = w .before .before .before .before .before .pre .2 in
     let e = stated-at (now (a .t)) (a .at) (w .before .before .wide .ensures .0) (w .wide2 .ensures .0) in
-    move-11 _ _ _ _ _ _ _ _ (low-kept _ _ (low .most) (low .few) (c .halted3 .ensures .1)) (c .halted3 .ensures .0) (c .halted3 .ensures .1) refl
-    (framed-good (now (a .t)) (a .at) e (c .before .before .before .before .if1 .left) (c .before .before .before .if2 .left)) (c .before .if3 .taken)
+    move-11 _ _ _ _ _ _ _ _ (low-kept _ _ (low .most) (low .few) (c .halted3 .ensures .1)) (c .halted3 .ensures .0)
+    (c .halted3 .ensures .1) refl
+    (framed-good (now (a .t)) (a .at) e (c .before .before .before .before .if1 .left) (c .before .before .before .if2 .left))
+    (c .before .if3 .taken)
 
 returns-4 : tie.Need-returns-4
 returns-4 c =

@@ -12,7 +12,8 @@ use Rattle.pass.proofs.placed_step.Tie as tie
 returns : tie.Need-returns
 returns c =
     placed-fault _ _ (λ i. omega (arith, c .before .before .before .shared-slice-known .given i)) _ _ _ _ _
-    (low-kept _ _ (omega arith) (omega arith) (c .stopped .ensures .1)) (c .before .if1 .taken) (c .stopped .ensures .0) (c .stopped .ensures .1)
+    (low-kept _ _ (omega arith) (omega arith) (c .stopped .ensures .1)) (c .before .if1 .taken) (c .stopped .ensures .0)
+    (c .stopped .ensures .1)
 
 returns-2 : tie.Need-returns-2
 returns-2 c =
@@ -20,7 +21,8 @@ returns-2 c =
     let h = g .before in
     let u = h .before .before in
     placed-late _ _ (λ i. omega (arith, u .before .before .shared-slice-known .given i)) _ _ _ _ _
-    (low-kept _ _ (omega (arith, u .before .before .before .pre .0)) (u .before .before .before .pre .1) (c .stopped2 .ensures .1)) (u .if1 .left) (h .follows .ensures) (not-true _ (g .if2 .taken)) (c .stopped2 .ensures .0) (c .stopped2 .ensures .1)
+    (low-kept _ _ (omega (arith, u .before .before .before .pre .0)) (u .before .before .before .pre .1) (c .stopped2 .ensures .1))
+    (u .if1 .left) (h .follows .ensures) (not-true _ (g .if2 .taken)) (c .stopped2 .ensures .0) (c .stopped2 .ensures .1)
 
 shared-slice-read-wide : tie.Need-shared-slice-read-wide
 shared-slice-read-wide c =
@@ -41,7 +43,8 @@ returns-3 c =
     let h = g .before in
     let u = h .before .before in
     placed-good _ _ (λ i. omega (arith, u .before .before .shared-slice-known .given i)) _ _ _ _ _
-    (record { most = omega (arith, u .before .before .before .pre .0); few = u .before .before .before .pre .1 }) (u .if1 .left) (h .follows .ensures) (not-false _ (g .if2 .left)) (u .before .before .before .pre .2)
+    (record { most = omega (arith, u .before .before .before .pre .0); few = u .before .before .before .pre .1 }) (u .if1 .left)
+    (h .follows .ensures) (not-false _ (g .if2 .left)) (u .before .before .before .pre .2)
     (w .wide .ensures .0) (v .wide2 .ensures .0) refl refl refl refl (k .claim .ensures) (c .last-of .ensures) refl refl
 
 pub placed-step-spec : {M : Type 1} → statement M

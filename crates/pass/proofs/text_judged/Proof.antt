@@ -1,7 +1,7 @@
 -- `text_judged` meets its contract: its own fault, a number that comes a second time, or one element more.
 -- Assumes nothing.
 use native.Mathlib.Omega.{arith}
-use mathlib.Core.Path.{_≡_, refl, _∙_}
+use mathlib.Core.Path.{refl, _∙_}
 use Rattle.pass.proofs.Stepped.{low-kept, own-fault}
 use Rattle.pass.proofs.Taking.{text-fault, text-good}
 use borrow.Author.Needs.{needs}

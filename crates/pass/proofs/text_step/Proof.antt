@@ -10,7 +10,8 @@ returns c =
     let j = c .text-judged .ensures in
     let k = c .before .before .before in (
       λ σ at zs zu su.
-          j .steps σ _ (λ i. omega (arith, k .before .shared-slice-known .given i)) (k .text-breaks .ensures σ) (c .before .before .first .ensures) at zs zu su,
+          j .steps σ _ (λ i. omega (arith, k .before .shared-slice-known .given i)) (k .text-breaks .ensures σ)
+          (c .before .before .first .ensures) at zs zu su,
       j .low,
     )
 

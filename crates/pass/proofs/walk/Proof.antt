@@ -1,6 +1,6 @@
 -- `walk` meets its contract: some elements are taken, the state and the flags track them, and the loop is where the pass is.
 -- Assumes nothing.
-use Prim.Native.Nat.{_+_, _-_, _≤_}
+use Prim.Native.Nat.{_-_, _≤_}
 use native.Mathlib.Omega.{arith}
 use mathlib.Core.Path.{_≡_, refl}
 use mathlib.Core.List.{List}
@@ -18,7 +18,8 @@ abbrev Inv-loop : tie.InvT-loop
 Inv-loop t base zs₀ ss₀ zu₀ su₀ σ s₀ at₀ zs ss zu su s at =
     (at ≤ length t)
     × Low s
-    × ((d : Description) (before : List Record) → Bytes t → base ≡ placeAfter before → Tracks d s₀ (flags zs₀ ss₀ zu₀ su₀) before → Onward σ d t base before s (flags zs ss zu su) at)
+    × ((d : Description) (before : List Record) → Bytes t → base ≡ placeAfter before → Tracks d s₀ (flags zs₀ ss₀ zu₀ su₀) before
+    → Onward σ d t base before s (flags zs ss zu su) at)
 
 abbrev μ-loop : tie.MeasureT-loop
 μ-loop t base zs₀ ss₀ zu₀ su₀ σ s₀ at₀ zs ss zu su s at = length t - at
@@ -50,7 +51,9 @@ returns c =
       low = d .one-step .ensures .low;
       walks =
           λ e before small p k.
-          stopped _ _ _ _ _ _ _ _ (i .2 e before small p k) small (d .one-step .result) _ (omega (arith, d .before .before .before .before .before .loop-test .taken)) (d .one-step .ensures) (c .if1 .taken) _ refl refl refl;
+          stopped _ _ _ _ _ _ _ _ (i .2 e before small p k) small (d .one-step .result) _
+          (omega (arith, d .before .before .before .before .before .loop-test .taken)) (d .one-step .ensures)
+          (c .if1 .taken) _ refl refl refl;
     }
 
 add-at : tie.Need-add-at Inv-loop μ-loop
@@ -75,7 +78,8 @@ loop-again c =
       g .1,
       d .one-step .ensures .low,
       λ e before small p k.
-          go-on _ _ _ _ _ _ _ _ (i .2 e before small p k) small (d .one-step .result) _ (omega (arith, d .before .before .before .before .before .loop-test .taken)) (d .one-step .ensures) (c .before .if1 .left),
+          go-on _ _ _ _ _ _ _ _ (i .2 e before small p k) small (d .one-step .result) _
+          (omega (arith, d .before .before .before .before .before .loop-test .taken)) (d .one-step .ensures) (c .before .if1 .left),
     )
 
 add-t23 : tie.Need-add-t23 Inv-loop μ-loop
@@ -88,7 +92,8 @@ returns-2 c =
       from = omega arith;
       to = omega (arith, i .0);
       low = i .1;
-      walks = λ e before small p k. cut-short _ _ _ _ _ _ _ _ (i .2 e before small p k) _ refl refl (c .if2 .taken) (omega (arith, c .before .loop-test .left)) refl;
+      walks = λ e before small p k. cut-short _ _ _ _ _ _ _ _ (i .2 e before small p k) _ refl refl (c .if2 .taken)
+          (omega (arith, c .before .loop-test .left)) refl;
     }
 
 add-t21 : tie.Need-add-t21 Inv-loop μ-loop

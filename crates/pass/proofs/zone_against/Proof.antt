@@ -2,7 +2,6 @@
 -- Assumes nothing.
 use mathlib.Core.Path.{refl}
 use borrow.Author.Tests.{lt-ltb, le-ltb}
-use borrow.Author.Needs.{needs}
 use Rattle.pass.proofs.zone_against.Statement.{statement}
 use Rattle.pass.proofs.zone_against.Tie as tie
 

@@ -11,7 +11,8 @@ use Rattle.pass.proofs.zone_step.Tie as tie
 returns : tie.Need-returns
 returns c = (
   λ σ at ss zu.
-      own-fault σ _ at _ _ _ _ (c .before .before .zone-breaks .ensures σ) (c .before .if1 .taken) (c .stopped .ensures .0) (c .stopped .ensures .1) refl,
+      own-fault σ _ at _ _ _ _ (c .before .before .zone-breaks .ensures σ) (c .before .if1 .taken) (c .stopped .ensures .0)
+      (c .stopped .ensures .1) refl,
   low-kept _ _ (omega arith) (omega arith) (c .stopped .ensures .1),
 )
 
@@ -23,7 +24,8 @@ returns-2 c = (
   λ σ at ss zu.
       let w = c .before .before .before .before in
       zone-fault σ _ (λ i. omega (arith, w .before .shared-slice-known2 .given i)) at _ _ ss zu _ _
-      (w .before .before .before .zone-breaks .ensures σ) (w .before .before .if1 .left) (w .wide .ensures .0) (c .before .before .zone-against .ensures)
+      (w .before .before .before .zone-breaks .ensures σ) (w .before .before .if1 .left) (w .wide .ensures .0)
+      (c .before .before .zone-against .ensures)
       (c .before .if2 .taken) (c .stopped2 .ensures .0) (c .stopped2 .ensures .1),
   low-kept _ _ (omega arith) (omega arith) (c .stopped2 .ensures .1),
 )
@@ -36,12 +38,14 @@ shared-slice-read-wide-2 c =
 returns-3 : tie.Need-returns-3
 returns-3 c =
     let a = c .before .before .before .before .before .before .before .before .before .before .before .before .before .args in
-    let room = zone-room (a .s .zones) _ (c .before .before .before .before .before .before .zone-against .ensures) (c .before .before .before .before .before .if2 .left) in (
+    let room = zone-room (a .s .zones) _ (c .before .before .before .before .before .before .zone-against .ensures)
+    (c .before .before .before .before .before .if2 .left) in (
       λ σ at ss zu.
           let v = c .before .before .before in
           let w = v .before .before .before .before .before in
           zone-good σ _ (λ i. omega (arith, w .before .shared-slice-known2 .given i)) at _ _ ss zu _ _
-          (w .before .before .before .zone-breaks .ensures σ) (w .before .before .if1 .left) (w .wide .ensures .0) (v .before .before .before .zone-against .ensures)
+          (w .before .before .before .zone-breaks .ensures σ) (w .before .before .if1 .left) (w .wide .ensures .0)
+          (v .before .before .before .zone-against .ensures)
           (v .before .before .if2 .left) (v .wide2 .ensures .0) refl refl refl refl refl refl refl,
       record { most = omega arith; few = omega arith },
     )

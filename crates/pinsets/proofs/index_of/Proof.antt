@@ -1,12 +1,11 @@
 -- The place that `index_of` answers is `pinIndex`'s, by the branch, and below 32 by the table's law.
 -- Assumes nothing.
-use Prim.Native.Nat.{ℕ, _+_, _*_, _/_, _%_}
+use Prim.Native.Nat.{_+_, _*_, _/_, _%_}
 use native.Mathlib.Omega.{arith}
-use mathlib.Core.Path.{_≡_, refl, _∙_, ap}
+use mathlib.Core.Path.{_≡_, refl}
 use mathlib.Core.Bool.{_&&_}
 use mathlib.Core.Logic.{⊎-elim}
-use lib.Dec.{eqb, ltb}
-use borrow.Author.Tests.{eq-eqb, ne-eqb}
+use lib.Dec.{ltb}
 use Rattle.pinsets.specs.Sets.{pinIndex, pick}
 use Rattle.pinsets.proofs.Table.{picked, picked-not}
 use Rattle.pinsets.proofs.Rows.{index-small}

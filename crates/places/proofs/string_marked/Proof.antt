@@ -8,16 +8,30 @@ use Rattle.places.proofs.string_marked.Statement.{statement}
 use Rattle.places.proofs.string_marked.Tie as tie
 
 shared-slice-read-id : tie.Need-shared-slice-read-id
-shared-slice-read-id c = omega (arith, role-long (now (c .before .before .args .t)) (c .before .before .args .at) (c .before .before .pre .0) (c .before .before .pre .1))
+shared-slice-read-id c = omega (
+  arith,
+  role-long (now (c .before .before .args .t)) (c .before .before .args .at)
+      (c .before .before .pre .0) (c .before .before .pre .1),
+)
 
 returns : tie.Need-returns
-returns c = λ x ns h m. string-none (now (c .before .before .before .args .t)) (c .before .before .before .args .at) _ x ns h m (c .if1 .taken)
+returns c = λ x ns h m. string-none (now (c .before .before .before .args .t)) (c .before .before .before .args .at) _ x ns h m
+    (c .if1 .taken)
 
 add-wide : tie.Need-add-wide
-add-wide c = omega (arith, zone-long (now (c .before .before .before .before .args .t)) (c .before .before .before .before .args .at) (c .before .before .before .before .pre .0) (c .before .before .before .before .pre .1) (c .if2 .taken))
+add-wide c = omega (
+  arith,
+  zone-long (now (c .before .before .before .before .args .t)) (c .before .before .before .before .args .at)
+      (c .before .before .before .before .pre .0) (c .before .before .before .before .pre .1) (c .if2 .taken),
+)
 
 shared-slice-read-wide : tie.Need-shared-slice-read-wide
-shared-slice-read-wide c = omega (arith, zone-long (now (c .before .before .before .before .before .args .t)) (c .before .before .before .before .before .args .at) (c .before .before .before .before .before .pre .0) (c .before .before .before .before .before .pre .1) (c .before .if2 .taken))
+shared-slice-read-wide c = omega (
+  arith,
+  zone-long (now (c .before .before .before .before .before .args .t))
+      (c .before .before .before .before .before .args .at) (c .before .before .before .before .before .pre .0)
+      (c .before .before .before .before .before .pre .1) (c .before .if2 .taken),
+)
 
 wide-requires : tie.Need-wide-requires
 wide-requires c κs = search needs
@@ -26,13 +40,24 @@ element-copy-out-result : tie.Need-element-copy-out-result
 element-copy-out-result c = search needs
 
 returns-2 : tie.Need-returns-2
-returns-2 c = λ x ns h m. string-of-zone (now (c .before .before .before .before .before .before .before .args .t)) (c .before .before .before .before .before .before .before .args .at) _ x ns h m (c .before .wide .result) (c .before .wide .ensures .0) (c .before .wide .ensures .1) (c .before .before .before .if2 .taken)
+returns-2 c = λ x ns h m. string-of-zone (now (c .before .before .before .before .before .before .before .args .t))
+    (c .before .before .before .before .before .before .before .args .at) _ x ns h m (c .before .wide .result)
+    (c .before .wide .ensures .0) (c .before .wide .ensures .1) (c .before .before .before .if2 .taken)
 
 add-wide-2 : tie.Need-add-wide-2
-add-wide-2 c = omega (arith, role-long (now (c .before .before .before .before .args .t)) (c .before .before .before .before .args .at) (c .before .before .before .before .pre .0) (c .before .before .before .before .pre .1))
+add-wide-2 c = omega (
+  arith,
+  role-long (now (c .before .before .before .before .args .t)) (c .before .before .before .before .args .at)
+      (c .before .before .before .before .pre .0) (c .before .before .before .before .pre .1),
+)
 
 shared-slice-read-wide-2 : tie.Need-shared-slice-read-wide-2
-shared-slice-read-wide-2 c = omega (arith, placed-long (now (c .before .before .before .before .before .args .t)) (c .before .before .before .before .before .args .at) (c .before .before .before .before .before .pre .0) (c .before .before .before .before .before .pre .1) (c .before .if2 .left) (c .before .before .if1 .left))
+shared-slice-read-wide-2 c = omega (
+  arith,
+  placed-long (now (c .before .before .before .before .before .args .t))
+      (c .before .before .before .before .before .args .at) (c .before .before .before .before .before .pre .0)
+      (c .before .before .before .before .before .pre .1) (c .before .if2 .left) (c .before .before .if1 .left),
+)
 
 wide-requires-2 : tie.Need-wide-requires-2
 wide-requires-2 c κs = search needs
@@ -41,7 +66,10 @@ element-copy-out-result-2 : tie.Need-element-copy-out-result-2
 element-copy-out-result-2 c = search needs
 
 returns-3 : tie.Need-returns-3
-returns-3 c = λ x ns h m. string-read (now (c .before .before .before .before .before .before .before .args .t)) (c .before .before .before .before .before .before .before .args .at) _ x ns h m (c .before .wide2 .result) (c .before .wide2 .ensures .0) (c .before .wide2 .ensures .1) (c .before .before .before .if2 .left) (c .before .before .before .before .if1 .left)
+returns-3 c = λ x ns h m. string-read (now (c .before .before .before .before .before .before .before .args .t))
+    (c .before .before .before .before .before .before .before .args .at) _ x ns h m (c .before .wide2 .result)
+    (c .before .wide2 .ensures .0) (c .before .wide2 .ensures .1) (c .before .before .before .if2 .left)
+    (c .before .before .before .before .if1 .left)
 
 pub string-marked-spec : {M : Type 1} → statement M
 string-marked-spec =

@@ -1,6 +1,6 @@
 -- `unmarked` meets its contract: what is left to search ends where the whole ends.
 -- Assumes nothing.
-use Prim.Native.Nat.{_+_, _-_, _≤_}
+use Prim.Native.Nat.{_-_}
 use native.Mathlib.Omega.{arith}
 use lib.ListN.{length}
 use Rattle.format.specs.declared.settings.Settings.{Settings}
@@ -28,7 +28,8 @@ marked-requires c κs =
 returns : tie.Need-returns Inv-loop μ-loop
 returns c =
     λ σ w m.
-    found σ _ _ _ _ _ (c .before .before .before .loop .inv σ w m) (c .before .before .loop-test .taken) (c .before .marked .result) (c .before .marked .ensures) (c .if1 .taken) (w .rs) (w .whole)
+    found σ _ _ _ _ _ (c .before .before .before .loop .inv σ w m) (c .before .before .loop-test .taken) (c .before .marked .result)
+    (c .before .marked .ensures) (c .if1 .taken) (w .rs) (w .whole)
 
 length-at-requires : tie.Need-length-at-requires Inv-loop μ-loop
 length-at-requires c κs =
@@ -40,19 +41,25 @@ add-at : tie.Need-add-at Inv-loop μ-loop
 add-at c =
     let l = c .before .before .before .before in
     let p = l .before .before .pre in
-    omega (arith, go-on _ _ _ _ _ _ (l .loop .inv (p .0) (p .1) (p .2)) (c .before .before .before .loop-test .taken) (c .before .before .marked .result) (c .before .before .marked .ensures) (c .before .if1 .left) (c .length-at .ensures) .1)
+    omega (
+      arith,
+      go-on _ _ _ _ _ _ (l .loop .inv (p .0) (p .1) (p .2)) (c .before .before .before .loop-test .taken)
+          (c .before .before .marked .result) (c .before .before .marked .ensures) (c .before .if1 .left) (c .length-at .ensures) .1,
+    )
 
 loop-less : tie.Need-loop-less Inv-loop μ-loop
 loop-less c =
     let l = c .before .before .before .before in
     let p = l .before .before .pre in
-    let g = go-on _ _ _ _ _ _ (l .loop .inv (p .0) (p .1) (p .2)) (c .before .before .before .loop-test .taken) (c .before .before .marked .result) (c .before .before .marked .ensures) (c .before .if1 .left) (c .length-at .ensures) in
+    let g = go-on _ _ _ _ _ _ (l .loop .inv (p .0) (p .1) (p .2)) (c .before .before .before .loop-test .taken)
+    (c .before .before .marked .result) (c .before .before .marked .ensures) (c .before .if1 .left) (c .length-at .ensures) in
     omega (arith, g .1, g .2)
 
 loop-again : tie.Need-loop-again Inv-loop μ-loop
 loop-again c =
     λ σ w m.
-    go-on σ _ _ _ _ _ (c .before .before .before .before .loop .inv σ w m) (c .before .before .before .loop-test .taken) (c .before .before .marked .result) (c .before .before .marked .ensures) (c .before .if1 .left) (c .length-at .ensures) .0
+    go-on σ _ _ _ _ _ (c .before .before .before .before .loop .inv σ w m) (c .before .before .before .loop-test .taken)
+    (c .before .before .marked .result) (c .before .before .marked .ensures) (c .before .if1 .left) (c .length-at .ensures) .0
 
 returns-2 : tie.Need-returns-2 Inv-loop μ-loop
 returns-2 c = λ σ w m. finish σ _ _ _ _ _ (c .before .loop .inv σ w m) (c .loop-test .left) (w .rs) (w .whole)

@@ -13,7 +13,12 @@ returns c = rw (ne-eqb (length (now (c .before .before .args .t))) 16 (c .if1 .t
 returns-2 : tie.Need-returns-2
 returns-2 c =
     let l = c .before .before .before .before in
-    rw (eq-eqb (length (now (l .before .before .args .t))) 16 (l .if1 .left), c .plain .ensures, c .before .description .ensures, c .before .before .stated .ensures)
+    rw (
+      eq-eqb (length (now (l .before .before .args .t))) 16 (l .if1 .left),
+      c .plain .ensures,
+      c .before .description .ensures,
+      c .before .before .stated .ensures,
+    )
 
 pub bare-spec : {M : Type 1} → statement M
 bare-spec =

@@ -12,7 +12,8 @@ returns c =
     let g = c .before .before .before .before .before .before .before .before in
     let s = g .before .before .before in
     let k = at-start _ _ (g .wide .result) (g .wide .ensures .1) (g .wide .ensures .0) refl refl (s .pre .3) refl in
-    stopped-there _ _ (now (s .args .t)) _ _ (walked _ (now (s .args .t)) _ _ _ _ (s .pre .2) k (c .before .before .walk .ensures)) (c .if1 .taken)
+    stopped-there _ _ (now (s .args .t)) _ _ (walked _ (now (s .args .t)) _ _ _ _ (s .pre .2) k (c .before .before .walk .ensures))
+    (c .if1 .taken)
 
 concluded-requires : tie.Need-concluded-requires
 concluded-requires c κs =
@@ -20,7 +21,8 @@ concluded-requires c κs =
     let g = d .before .before .before .before .before .before .before .before in
     let s = g .before .before .before in
     let k = at-start _ _ (g .wide .result) (g .wide .ensures .1) (g .wide .ensures .0) refl refl (s .pre .3) refl in
-    came-through _ (now (s .args .t)) _ _ _ _ _ (walked _ (now (s .args .t)) _ _ _ _ (s .pre .2) k (d .before .before .walk .ensures)) (d .if1 .left) (s .pre .2) (s .pre .0) (s .pre .1)
+    came-through _ (now (s .args .t)) _ _ _ _ _ (walked _ (now (s .args .t)) _ _ _ _ (s .pre .2) k (d .before .before .walk .ensures))
+    (d .if1 .left) (s .pre .2) (s .pre .0) (s .pre .1)
 
 pub elements-spec : {M : Type 1} → statement M
 elements-spec =

@@ -30,7 +30,8 @@ part-at-requires c κs =
 returns-3 : tie.Need-returns-3
 returns-3 c =
     let a = c .before .before .before .before in
-    let l = c .before .place-of .ensures _ _ (rw (a .answer .given .1) at (a .before .before .read .ensures)) (c .before .before .if1 .left) in
+    let l = c .before .place-of .ensures _ _ (rw (a .answer .given .1) at (a .before .before .read .ensures))
+    (c .before .before .if1 .left) in
     part-there _ _ _ _ l (c .part-at .ensures _ (l .r) (l .here))
 
 pub part-spec : {M : Type 1} → statement M

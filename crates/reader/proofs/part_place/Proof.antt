@@ -34,25 +34,29 @@ part-place-requires c κs =
 length-at-requires : tie.Need-length-at-requires
 length-at-requires c κs =
     let a = c .before .before .before .before in
-    let l = c .before .place-of .ensures _ _ (rw (a .answer .given .1) at (a .before .before .read .ensures)) (c .before .before .if1 .left) in
+    let l = c .before .place-of .ensures _ _ (rw (a .answer .given .1) at (a .before .before .read .ensures))
+    (c .before .before .if1 .left) in
     omega (arith, l .here .size, l .here .within)
 
 add-t11 : tie.Need-add-t11
 add-t11 c =
     let a = c .before .before .before .before .before in
-    let l = c .before .before .place-of .ensures _ _ (rw (a .answer .given .1) at (a .before .before .read .ensures)) (c .before .before .before .if1 .left) in
+    let l = c .before .before .place-of .ensures _ _ (rw (a .answer .given .1) at (a .before .before .read .ensures))
+    (c .before .before .before .if1 .left) in
     omega (arith, c .length-at .ensures, l .here .within)
 
 sub-t12 : tie.Need-sub-t12
 sub-t12 c =
     let a = c .before .before .before .before .before in
-    let l = c .before .before .place-of .ensures _ _ (rw (a .answer .given .1) at (a .before .before .read .ensures)) (c .before .before .before .if1 .left) in
+    let l = c .before .before .place-of .ensures _ _ (rw (a .answer .given .1) at (a .before .before .read .ensures))
+    (c .before .before .before .if1 .left) in
     omega (arith, c .before .part-place .ensures _ (l .r) (l .here), part-within _ _ _ _ (l .here) (c .length-at .ensures))
 
 returns-3 : tie.Need-returns-3
 returns-3 c =
     let a = c .before .before .before .before .before in
-    let l = c .before .before .place-of .ensures _ _ (rw (a .answer .given .1) at (a .before .before .read .ensures)) (c .before .before .before .if1 .left) in
+    let l = c .before .before .place-of .ensures _ _ (rw (a .answer .given .1) at (a .before .before .read .ensures))
+    (c .before .before .before .if1 .left) in
     placed-there _ _ _ _ l (c .before .part-place .ensures _ (l .r) (l .here)) (c .length-at .ensures)
 
 pub part-place-spec : {M : Type 1} → statement M

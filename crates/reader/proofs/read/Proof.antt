@@ -36,7 +36,8 @@ returns-5 c =
     let f = s .before .before .before in
     verdict _ _ _ (λ i. omega (arith, f .before .shared-slice-known .given i))
     (c .described .ensures
-    ∙ answer-on _ _ (f .if1 .left) (s .before .if2 .left) (rw (s .stated .ensures) at (c .before .before .if3 .left)) (c .before .if4 .left))
+    ∙ answer-on _ _ (f .if1 .left) (s .before .if2 .left) (rw (s .stated .ensures) at (c .before .before .if3 .left))
+    (c .before .if4 .left))
 
 pub read-spec : {M : Type 1} → statement M
 read-spec =

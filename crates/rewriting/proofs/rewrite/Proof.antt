@@ -68,7 +68,8 @@ loop-again c =
     let e = a .before .before .before in
     let t = e .before in (
       omega (arith, c .before .before .out2 .given, t .before .loop .inv .0),
-      turned _ _ _ _ _ (t .before .loop .inv .1) _ _ _ _ (t .loop-test .taken) (c .length-at .ensures) (e .element-at .ensures) (a .before .part-at .ensures) (a .append .ensures),
+      turned _ _ _ _ _ (t .before .loop .inv .1) _ _ _ _ (t .loop-test .taken) (c .length-at .ensures) (e .element-at .ensures)
+          (a .before .part-at .ensures) (a .append .ensures),
     )
 
 same-length : tie.Need-same-length Inv-loop μ-loop
@@ -78,7 +79,8 @@ returns-3 : tie.Need-returns-3 Inv-loop μ-loop
 returns-3 c =
     let s = c .before .before .before .before in
     let d = s .before in
-    ran _ _ _ _ _ (c .before .loop .inv .1) _ _ _ (c .loop-test .left) (d .before .before .if1 .left) (d .description .ensures) (s .start .ensures)
+    ran _ _ _ _ _ (c .before .loop .inv .1) _ _ _ (c .loop-test .left) (d .before .before .if1 .left) (d .description .ensures)
+    (s .start .ensures)
 
 pub rewrite-spec : {M : Type 1} → statement M
 rewrite-spec =

@@ -8,7 +8,8 @@ use Rattle.rules.proofs.digital_breaks.Tie as tie
 
 returns : tie.Need-returns
 returns c =
-    c .own-breaks .ensures _ (digital _) refl (c .before .before .before .addressed .ensures) (c .before .before .in-use .ensures) (c .before .selected .ensures)
+    c .own-breaks .ensures _ (digital _) refl (c .before .before .before .addressed .ensures) (c .before .before .in-use .ensures)
+    (c .before .selected .ensures)
 
 pub digital-breaks-spec : {M : Type 1} → statement M
 digital-breaks-spec = tie.close (tie.spec (search needs) (search needs) (search needs) (search needs) returns)

@@ -13,7 +13,12 @@ returns c =
     c .own-breaks .ensures _ (led _) refl
     (rw (lit .coloured3 .ensures, lit .before .coloured2 .ensures, lit .before .before .coloured .ensures) refl)
     refl
-    (rw (tested .allowed-or-unused3 .ensures, tested .before .allowed-or-unused2 .ensures, tested .before .before .allowed-or-unused .ensures) refl)
+    (rw (
+      tested .allowed-or-unused3 .ensures,
+      tested .before .allowed-or-unused2 .ensures,
+      tested .before .before .allowed-or-unused .ensures,
+    ) refl)
 
 pub led-breaks-spec : {M : Type 1} → statement M
-led-breaks-spec = tie.close (tie.spec (search needs) (search needs) (search needs) (search needs) (search needs) (search needs) (search needs) returns)
+led-breaks-spec = tie.close (tie.spec (search needs) (search needs) (search needs) (search needs) (search needs) (search needs)
+    (search needs) returns)

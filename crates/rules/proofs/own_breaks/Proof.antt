@@ -10,7 +10,16 @@ returns : tie.Need-returns
 unfolding ownRules
 returns c =
     λ t x s d u p.
-    rw (c .or-else4 .ensures, c .before .or-else3 .ensures, c .before .before .or-else2 .ensures, c .before .before .before .or-else .ensures, s, d, u, p)
+    rw (
+      c .or-else4 .ensures,
+      c .before .or-else3 .ensures,
+      c .before .before .or-else2 .ensures,
+      c .before .before .before .or-else .ensures,
+      s,
+      d,
+      u,
+      p,
+    )
     (simp numbering)
 
 pub own-breaks-spec : {M : Type 1} → statement M

@@ -13,7 +13,8 @@ returns c = text-short (now (c .before .before .args .part)) (c .if1 .taken)
 returns-2 : tie.Need-returns-2
 returns-2 c =
     let p = now (c .before .before .before .before .before .before .args .part) in
-    λ σ. c .text-rules .ensures σ p (c .before .before .before .before .if1 .left) refl (rw (c .before .well-formed .ensures, text-rest p) refl)
+    λ σ. c .text-rules .ensures σ p (c .before .before .before .before .if1 .left) refl
+    (rw (c .before .well-formed .ensures, text-rest p) refl)
 
 pub text-breaks-spec : {M : Type 1} → statement M
 text-breaks-spec =

@@ -1,6 +1,6 @@
 -- The number and the text decide 9.
 -- Assumes nothing.
-use mathlib.Core.Path.{_≡_, refl}
+use mathlib.Core.Path.{refl}
 use Rattle.format.specs.Records.{string}
 use Rattle.rules.proofs.Contents.{text-long}
 use borrow.Author.Needs.{needs}

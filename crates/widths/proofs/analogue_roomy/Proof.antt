@@ -8,7 +8,8 @@ use Rattle.widths.proofs.analogue_roomy.Tie as tie
 returns : tie.Need-returns
 returns c =
     let g = c .struct-known .given in
-    analogue-roomy (c .before .args .a) (omega (arith, g), omega (arith, g), omega (arith, g), omega (arith, g), omega (arith, g)) (omega (arith, g)) (omega (arith, g)) (omega (arith, g)) (omega (arith, g)) (omega (arith, g)) (omega (arith, g))
+    analogue-roomy (c .before .args .a) (omega (arith, g), omega (arith, g), omega (arith, g), omega (arith, g), omega (arith, g))
+    (omega (arith, g)) (omega (arith, g)) (omega (arith, g)) (omega (arith, g)) (omega (arith, g)) (omega (arith, g))
 
 pub analogue-roomy-spec : {M : Type 1} → statement M
 analogue-roomy-spec = tie.close (tie.spec returns)

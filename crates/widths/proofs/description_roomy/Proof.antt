@@ -10,7 +10,8 @@ returns : tie.Need-returns
 returns c =
     let a = c .before .before .before .before .before in
     let g = a .good in
-    description-roomy (a .args .d) (omega arith) (omega arith) (c .before .before .pin-roomy .ensures) (c .before .pin-roomy2 .ensures) (c .pin-roomy3 .ensures)
+    description-roomy (a .args .d) (omega arith) (omega arith) (c .before .before .pin-roomy .ensures) (c .before .pin-roomy2 .ensures)
+    (c .pin-roomy3 .ensures)
 
 pub description-roomy-spec : {M : Type 1} → statement M
 description-roomy-spec = tie.close (tie.spec (search needs) (search needs) (search needs) returns)

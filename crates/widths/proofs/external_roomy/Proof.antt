@@ -11,7 +11,8 @@ returns c =
     let a = c .before .before in
     let f = a .good .0 .1 .1 in
     let p = f .0 .1 .1 .0 in
-    external-roomy (a .args .x) _ (omega (arith, p), omega (arith, p), omega (arith, p), omega (arith, p), omega (arith, p)) (omega (arith, f .1 .0))
+    external-roomy (a .args .x) _ (omega (arith, p), omega (arith, p), omega (arith, p), omega (arith, p), omega (arith, p))
+    (omega (arith, f .1 .0))
     (c .address-roomy .ensures)
 
 pub external-roomy-spec : {M : Type 1} → statement M

@@ -10,7 +10,8 @@ returns : tie.Need-returns
 returns c =
     let f = c .before .good .0 .1 .1 in
     fan-roomy (c .before .args .f) (omega (arith, f .0), omega (arith, f .0), omega (arith, f .0), omega (arith, f .0), omega (arith, f .0))
-    (omega (arith, f .1 .0)) (c .pin-roomy .ensures) (omega (arith, f .1 .1 .1 .0)) (omega (arith, f .1 .1 .1 .1 .0)) (omega (arith, f .1 .1 .1 .1 .1 .0)) (omega (arith, f .1 .1 .1 .1 .1 .1 .0))
+    (omega (arith, f .1 .0)) (c .pin-roomy .ensures) (omega (arith, f .1 .1 .1 .0)) (omega (arith, f .1 .1 .1 .1 .0))
+    (omega (arith, f .1 .1 .1 .1 .1 .0)) (omega (arith, f .1 .1 .1 .1 .1 .1 .0))
 
 pub fan-roomy-spec : {M : Type 1} → statement M
 fan-roomy-spec = tie.close (tie.spec (search needs) returns)

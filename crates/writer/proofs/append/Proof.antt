@@ -34,7 +34,8 @@ returns-2 c =
     let e = l .before .before .before .before in
     let n = e .before .before in
     let a = n .before .before .before in
-    appended _ _ _ _ _ _ _ _ (sym (a .before .before .append-verdict .ensures) ∙ a .answer .given .1) (n .length-so-far .ensures .0) (e .put-element .ensures) (l .put-length .ensures)
+    appended _ _ _ _ _ _ _ _ (sym (a .before .before .append-verdict .ensures) ∙ a .answer .given .1) (n .length-so-far .ensures .0)
+    (e .put-element .ensures) (l .put-length .ensures)
 
 pub append-spec : {M : Type 1} → statement M
 append-spec =

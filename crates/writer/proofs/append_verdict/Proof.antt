@@ -17,13 +17,15 @@ returns-2 c = read-3 _ _ _ _ (c .before .before .if1 .left) _ (c .before .length
 returns-3 : tie.Need-returns-3
 returns-3 c =
     let n = c .before .before .before in
-    read-25 _ _ _ _ (n .before .if1 .left) _ (n .length-so-far .ensures .0) (not-false _ (c .before .before .if2 .left)) (sym (c .before .element-roomy .ensures) ∙ not-true _ (c .if3 .taken))
+    read-25 _ _ _ _ (n .before .if1 .left) _ (n .length-so-far .ensures .0) (not-false _ (c .before .before .if2 .left))
+    (sym (c .before .element-roomy .ensures) ∙ not-true _ (c .if3 .taken))
 
 returns-4 : tie.Need-returns-4
 returns-4 c =
     let h = c .before .before .before in
     let n = h .before .before in
-    read-fault _ _ _ _ (n .before .if1 .left) _ (n .length-so-far .ensures .0) (not-false _ (h .before .if2 .left)) (sym (h .element-roomy .ensures) ∙ not-false _ (c .before .before .if3 .left)) _ (c .before .part-breaks .ensures) (c .if4 .taken)
+    read-fault _ _ _ _ (n .before .if1 .left) _ (n .length-so-far .ensures .0) (not-false _ (h .before .if2 .left))
+    (sym (h .element-roomy .ensures) ∙ not-false _ (c .before .before .if3 .left)) _ (c .before .part-breaks .ensures) (c .if4 .taken)
 
 room-requires : tie.Need-room-requires
 room-requires c κs =
@@ -34,7 +36,9 @@ returns-5 : tie.Need-returns-5
 returns-5 c =
     let h = c .before .before .before .before in
     let n = h .before .before in
-    read-room _ _ _ _ (n .before .if1 .left) _ (n .length-so-far .ensures .0) (not-false _ (h .before .if2 .left)) (sym (h .element-roomy .ensures) ∙ not-false _ (c .before .before .before .if3 .left)) _ (c .before .before .part-breaks .ensures) (c .before .if4 .left) _ (c .room .ensures)
+    read-room _ _ _ _ (n .before .if1 .left) _ (n .length-so-far .ensures .0) (not-false _ (h .before .if2 .left))
+    (sym (h .element-roomy .ensures) ∙ not-false _ (c .before .before .before .if3 .left)) _ (c .before .before .part-breaks .ensures)
+    (c .before .if4 .left) _ (c .room .ensures)
 
 pub append-verdict-spec : {M : Type 1} → statement M
 append-verdict-spec =

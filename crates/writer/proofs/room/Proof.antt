@@ -26,17 +26,21 @@ add-m-3 c =
 returns-2 : tie.Need-returns-2
 returns-2 c =
     let a = c .before .before .before .before .before .args in
-    past-buffer (now (a .buffer)) (a .n) (a .e) (now (a .part)) (omega (arith, element-length (a .e) (now (a .part)), c .before .fixed-length .ensures, c .if2 .taken))
+    past-buffer (now (a .buffer)) (a .n) (a .e) (now (a .part))
+    (omega (arith, element-length (a .e) (now (a .part)), c .before .fixed-length .ensures, c .if2 .taken))
 
 returns-3 : tie.Need-returns-3
 returns-3 c =
     let a = c .before .before .before .before .before .before .args in
-    too-long (now (a .buffer)) (a .n) (a .e) (now (a .part)) (omega (arith, element-length (a .e) (now (a .part)), c .before .before .fixed-length .ensures, c .if3 .taken))
+    too-long (now (a .buffer)) (a .n) (a .e) (now (a .part))
+    (omega (arith, element-length (a .e) (now (a .part)), c .before .before .fixed-length .ensures, c .if3 .taken))
 
 returns-4 : tie.Need-returns-4
 returns-4 c =
     let a = c .before .before .before .before .before .before .args in
-    fits-there (now (a .buffer)) (a .n) (a .e) (now (a .part)) _ (omega (arith, element-length (a .e) (now (a .part)), c .before .before .fixed-length .ensures)) (c .before .if2 .left) (c .if3 .left)
+    fits-there (now (a .buffer)) (a .n) (a .e) (now (a .part)) _
+    (omega (arith, element-length (a .e) (now (a .part)), c .before .before .fixed-length .ensures)) (c .before .if2 .left)
+    (c .if3 .left)
 
 pub room-spec : {M : Type 1} → statement M
 room-spec =

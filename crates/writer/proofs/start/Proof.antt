@@ -16,7 +16,8 @@ put-description-requires c κs =
 returns-2 : tie.Need-returns-2
 returns-2 c =
     let told = c .before .before .before .before in
-    started _ _ _ _ _ _ (told .before .before .start-verdict .ensures) (told .enum-told .given .1) (c .before .before .put-description .ensures)
+    started _ _ _ _ _ _ (told .before .before .start-verdict .ensures) (told .enum-told .given .1)
+    (c .before .before .put-description .ensures)
 
 pub start-spec : {M : Type 1} → statement M
 start-spec =

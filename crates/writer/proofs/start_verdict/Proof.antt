@@ -16,12 +16,14 @@ returns-2 c = start-25 _ _ _ (c .before .before .if1 .left) (sym (c .before .des
 returns-3 : tie.Need-returns-3
 returns-3 c =
     let h = c .before .before in
-    start-fault _ _ _ (h .before .before .if1 .left) (sym (h .before .description-roomy .ensures) ∙ not-false _ (h .if2 .left)) _ (c .before .description-breaks .ensures) (c .if3 .taken)
+    start-fault _ _ _ (h .before .before .if1 .left) (sym (h .before .description-roomy .ensures) ∙ not-false _ (h .if2 .left)) _
+    (c .before .description-breaks .ensures) (c .if3 .taken)
 
 returns-4 : tie.Need-returns-4
 returns-4 c =
     let h = c .before .before in
-    start-16 _ _ _ (h .before .before .if1 .left) (sym (h .before .description-roomy .ensures) ∙ not-false _ (h .if2 .left)) _ (c .before .description-breaks .ensures) (c .if3 .left)
+    start-16 _ _ _ (h .before .before .if1 .left) (sym (h .before .description-roomy .ensures) ∙ not-false _ (h .if2 .left)) _
+    (c .before .description-breaks .ensures) (c .if3 .left)
 
 pub start-verdict-spec : {M : Type 1} → statement M
 start-verdict-spec =

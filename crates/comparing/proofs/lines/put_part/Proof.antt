@@ -35,7 +35,18 @@ put-requires-2 c κs =
     let s = e .before .before .before .before .before in
     let a = s .args in
     let d = part-space (a .a) (a .b) (now (a .p)) (now (a .q)) (sym (e .before .alike .ensures) ∙ e .if1 .left) in
-    omega (arith, d, s .pre, f .put-front .ensures .1, f .put-front .ensures .0 .long, p .put .ensures .ends, p .put .ensures .long, g .put-bytes .ensures .ends, g .put-bytes .ensures .long, hex-length (now (a .p)))
+    omega (
+      arith,
+      d,
+      s .pre,
+      f .put-front .ensures .1,
+      f .put-front .ensures .0 .long,
+      p .put .ensures .ends,
+      p .put .ensures .long,
+      g .put-bytes .ensures .ends,
+      g .put-bytes .ensures .long,
+      hex-length (now (a .p)),
+    )
 
 put-bytes-requires-2 : tie.Need-put-bytes-requires-2
 put-bytes-requires-2 c κs =
@@ -47,7 +58,20 @@ put-bytes-requires-2 c κs =
     let s = e .before .before .before .before .before in
     let a = s .args in
     let d = part-space (a .a) (a .b) (now (a .p)) (now (a .q)) (sym (e .before .alike .ensures) ∙ e .if1 .left) in
-    omega (arith, d, s .pre, f .put-front .ensures .1, f .put-front .ensures .0 .long, p .put .ensures .ends, p .put .ensures .long, g .put-bytes .ensures .ends, g .put-bytes .ensures .long, hex-length (now (a .p)), t .put2 .ensures .ends, t .put2 .ensures .long)
+    omega (
+      arith,
+      d,
+      s .pre,
+      f .put-front .ensures .1,
+      f .put-front .ensures .0 .long,
+      p .put .ensures .ends,
+      p .put .ensures .long,
+      g .put-bytes .ensures .ends,
+      g .put-bytes .ensures .long,
+      hex-length (now (a .p)),
+      t .put2 .ensures .ends,
+      t .put2 .ensures .long,
+    )
 
 put-requires-3 : tie.Need-put-requires-3
 put-requires-3 c κs =
@@ -60,7 +84,23 @@ put-requires-3 c κs =
     let s = e .before .before .before .before .before in
     let a = s .args in
     let d = part-space (a .a) (a .b) (now (a .p)) (now (a .q)) (sym (e .before .alike .ensures) ∙ e .if1 .left) in
-    omega (arith, d, s .pre, f .put-front .ensures .1, f .put-front .ensures .0 .long, p .put .ensures .ends, p .put .ensures .long, g .put-bytes .ensures .ends, g .put-bytes .ensures .long, hex-length (now (a .p)), t .put2 .ensures .ends, t .put2 .ensures .long, h .put-bytes2 .ensures .ends, h .put-bytes2 .ensures .long, hex-length (now (a .q)))
+    omega (
+      arith,
+      d,
+      s .pre,
+      f .put-front .ensures .1,
+      f .put-front .ensures .0 .long,
+      p .put .ensures .ends,
+      p .put .ensures .long,
+      g .put-bytes .ensures .ends,
+      g .put-bytes .ensures .long,
+      hex-length (now (a .p)),
+      t .put2 .ensures .ends,
+      t .put2 .ensures .long,
+      h .put-bytes2 .ensures .ends,
+      h .put-bytes2 .ensures .long,
+      hex-length (now (a .q)),
+    )
 
 returns-2 : tie.Need-returns-2
 returns-2 c =

@@ -20,7 +20,8 @@ returns-2 c =
     let w = e .before in
     let v = w .before in
     let a = v .before .before .before .before .args in
-    row-differs (now (a .one)) (now (a .two)) (a .a) (a .b) (a .i) (v .content .ensures .0) (w .content2 .ensures .0) (e .if1 .left) (p .put-field .ensures)
+    row-differs (now (a .one)) (now (a .two)) (a .a) (a .b) (a .i) (v .content .ensures .0) (w .content2 .ensures .0) (e .if1 .left)
+    (p .put-field .ensures)
 
 pub put-row-spec : {M : Type 1} → statement M
 put-row-spec = tie.close (tie.spec (λ c κs. search needs) (λ c κs. search needs) returns (λ c κs. search needs) (search needs) returns-2)

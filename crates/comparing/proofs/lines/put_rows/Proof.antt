@@ -4,7 +4,6 @@ use Prim.Native.Nat.{_-_}
 use native.Mathlib.Omega.{arith}
 use mathlib.Core.Path.{refl}
 use denote.Ref.{now}
-use borrow.Author.Needs.{needs}
 use Rattle.comparing.proofs.Lined.{Rowed, rows-begun, rows-room, row-below, row-turned, rows-ended}
 use Rattle.comparing.proofs.lines.put_rows.Statement.{statement}
 use Rattle.comparing.proofs.lines.put_rows.Tie as tie

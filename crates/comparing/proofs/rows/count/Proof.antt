@@ -1,6 +1,5 @@
 -- `count` meets its contract: the constant is the list of the definition.
 -- Assumes nothing.
-use mathlib.Core.Path.{refl}
 use Rattle.comparing.specs.Rows.{counts}
 use borrow.Author.Needs.{needs}
 use Rattle.comparing.proofs.rows.count.Statement.{statement}

@@ -1,6 +1,5 @@
 -- `offset` meets its contract: the constant is the list of the definition.
 -- Assumes nothing.
-use mathlib.Core.Path.{refl}
 use Rattle.comparing.specs.Rows.{offsets}
 use borrow.Author.Needs.{needs}
 use Rattle.comparing.proofs.rows.offset.Statement.{statement}

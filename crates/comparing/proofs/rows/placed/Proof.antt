@@ -1,6 +1,5 @@
 -- `placed` meets its contract: the constant is the list of the definition.
 -- Assumes nothing.
-use mathlib.Core.Path.{refl}
 use Rattle.comparing.specs.Rows.{placeds}
 use borrow.Author.Needs.{needs}
 use Rattle.comparing.proofs.rows.placed.Statement.{statement}
