@@ -3,3 +3,4 @@ pub mod Walking
 pub mod Interval
 pub mod Only
 pub mod Rising
+pub mod Meant

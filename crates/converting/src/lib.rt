@@ -1,11 +1,11 @@
 // Counts into readings: currents and voltages between their two ends, temperatures along five calibration points, pulses into RPM.
 ghost use mathlib.Core.Path.{_≡_};
-ghost use mathlib.Core.Bool.{true};
+ghost use mathlib.Core.Bool.{true, cond};
 ghost use Prim.Native.Nat.{_≤_, _<_};
 ghost use Rattle.converting.specs.Outcomes.{outcomeOf, tenths, deciamps, decivolts};
 ghost use Rattle.converting.specs.Rounding.{Nearest};
 ghost use Rattle.converting.specs.Conversions.{weighed, points, after, strict, apart, Linear, Temperature, Speed};
-ghost use Rattle.converting.specs.Formula.{step, course};
+ghost use Rattle.converting.specs.Formula.{step, course, temperatureOf, meant};
 
 pub mod units;
 
@@ -123,31 +123,69 @@ fn apart(a: u16, b: u16) -> u32
 // A count between two neighbouring points, of which the first stands at s tenths.
 fn step(s: u32, a: u16, b: u16, c: u16) -> Tenths
     requires { ⌜ (s ≤ 750) × (0 < apart a b) × (apart a c ≤ apart a b) ⌝ }
-    ensures { λ r. ⌜ r .0 ≡ step s a b c ⌝ }
+    ensures { λ r. ⌜ (r .0 ≡ step s a b c) × (r .0 ≤ 1000) ⌝ }
 {
     let d = apart(a, b);
     Tenths((s + (2 * (250 * apart(a, c)) + d) / (2 * d)) as u16)
 }
 
-// A count along a calibration that goes one way: in the first interval that it does not come after.
-fn course(up: bool, p: Calibration, c: u16) -> Converted
-    requires { ⌜ strict up (points p) ≡ true ⌝ }
-    ensures { λ r. ⌜ r ≡ course up (points p) c ⌝ }
+// 1 for a point that the count comes after.
+fn passed(up: bool, b: u16, c: u16) -> usize
+    ensures { λ r. ⌜ (r ≡ cond (after up b c) 1 0) × (r ≤ 1) ⌝ }
 {
+    if after(up, b, c) {
+        return 1;
+    }
+    0
+}
+
+// A count along a calibration that goes one way: in the interval behind the points that it comes after, which are counted and not
+// looked for, as where the next count falls is anyone's guess.
+fn course(up: bool, p: Calibration, c: u16) -> u16
+    requires { ⌜ strict up (points p) ≡ true ⌝ }
+    ensures { λ r. ⌜ meant r ≡ course up (points p) c ⌝ }
+{
+    if after(up, c, p.at0.0) {
+        return 1001;
+    }
+    if after(up, p.at100.0, c) {
+        return 1002;
+    }
+    let i = passed(up, p.at25.0, c) + passed(up, p.at50.0, c) + passed(up, p.at75.0, c);
     let ps = [p.at0.0, p.at25.0, p.at50.0, p.at75.0, p.at100.0];
-    if after(up, c, ps[0]) {
+    let t = step(250 * (i as u32), ps[i], ps[i + 1], c);
+    t.0
+}
+
+// The temperature of a count as one number: 0 to 1000 tenths, 1001 for under 0, 1002 for over 100, 1003 where there is no conversion.
+// A number is answered in a register, `Converted` through memory.
+pub fn coded(p: Calibration, c: u16) -> u16
+    requires { ⌜ c ≤ 1023 ⌝ }
+    ensures { λ r. ⌜ meant r ≡ temperatureOf p c ⌝ }
+{
+    if strict(true, p) {
+        return course(true, p, c);
+    }
+    if strict(false, p) {
+        return course(false, p, c);
+    }
+    1003
+}
+
+// What such a number means.
+pub fn meaning(t: u16) -> Converted
+    ensures { λ r. ⌜ r ≡ meant t ⌝ }
+{
+    if t <= 1000 {
+        return Converted::Temperature(Tenths(t));
+    }
+    if t == 1001 {
         return Converted::Under;
     }
-    let mut i: usize = 0;
-    while i < 4 {
-        let b = ps[i + 1];
-        if after(up, b, c) {
-            i += 1;
-        } else {
-            return Converted::Temperature(step(250 * (i as u32), ps[i], b, c));
-        }
+    if t == 1002 {
+        return Converted::Over;
     }
-    Converted::Over
+    Converted::Refused(18)
 }
 
 pub fn temperature(p: Calibration, count: u32) -> Converted
@@ -156,12 +194,5 @@ pub fn temperature(p: Calibration, count: u32) -> Converted
     if 1023 < count {
         return Converted::Refused(18);
     }
-    let c = count as u16;
-    if strict(true, p) {
-        return course(true, p, c);
-    }
-    if strict(false, p) {
-        return course(false, p, c);
-    }
-    Converted::Refused(18)
+    meaning(coded(p, count as u16))
 }

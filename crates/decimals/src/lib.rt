@@ -5,6 +5,7 @@ ghost use lib.ListN.{length};
 ghost use Rattle.spelling.specs.Spelling.{Put, digit};
 ghost use Rattle.decimals.specs.Decimals.{decimals, Spelt};
 use spelling::put;
+use spelling::put_decimal;
 
 // The digits of a number stand at the end of these bytes, from here on.
 struct Digits {
@@ -34,11 +35,14 @@ fn spell(n: u64) -> Digits
     Digits { bytes, from }
 }
 
-// A number, and where its text ends.
+// A number, and where its text ends. Under 100,000,000, as all readings are, its digits go straight into the buffer.
 pub fn put_number(out: &mut [u8], at: usize, n: u64) -> usize
     requires { ⌜ at + 20 ≤ length (now out) ⌝ }
     ensures { λ r. ⌜ Put (now (out .entry)) at (decimals n) r (now (out .exit)) × (r ≤ at + 20) ⌝ }
 {
+    if n < 100000000 {
+        return put_decimal(out, at, n as usize);
+    }
     let d = spell(n);
     let from = d.from;
     let bytes = d.bytes;

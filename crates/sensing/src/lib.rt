@@ -1,5 +1,6 @@
 // What an element's count is read as, by its record.
 ghost use mathlib.Core.Path.{_≡_};
+ghost use Rattle.thermistor.specs.Ready.{Ready};
 ghost use Rattle.sensing.specs.Answers.{Answers, calibrationOf, sensorOf};
 use converting::Calibration;
 use converting::Converted;
@@ -72,6 +73,20 @@ pub fn answer(sensor: Sensor, count: u32) -> Converted
         Sensor::Current(imin, imax) => converting::current(imin, imax, count),
         Sensor::Voltage(vmin, vmax) => converting::voltage(vmin, vmax, count),
         Sensor::Points(p) => thermistor::temperature(p, count),
+        Sensor::Pulses(ppr) => converting::speed(ppr, count),
+        Sensor::Nothing => Converted::Refused(18),
+    }
+}
+
+// The same answer, by the ready table of our own thermistor that is lent: for many counts.
+pub fn answer_by(table: &[u16; 1024], sensor: Sensor, count: u32) -> Converted
+    requires { ⌜ Ready (now table) ⌝ }
+    ensures { λ r. ⌜ Answers sensor count r ⌝ }
+{
+    match sensor {
+        Sensor::Current(imin, imax) => converting::current(imin, imax, count),
+        Sensor::Voltage(vmin, vmax) => converting::voltage(vmin, vmax, count),
+        Sensor::Points(p) => thermistor::temperature_by(table, p, count),
         Sensor::Pulses(ppr) => converting::speed(ppr, count),
         Sensor::Nothing => Converted::Refused(18),
     }

@@ -1,76 +1,74 @@
--- `course` meets its contract: what is left to walk ends where the whole ends.
+-- `course` meets its contract: the points that the count comes after lead to its interval.
 -- Assumes nothing.
-use Prim.Native.Nat.{_-_}
-use native.Mathlib.Omega.{arith}
-use mathlib.Core.Path.{_≡_, refl, sym, _∙_}
-use mathlib.Core.Bool.{Bool, true, false, not}
+use mathlib.Core.Path.{_≡_, refl, sym, _∙_, ap}
+use mathlib.Core.Bool.{false}
 use borrow.Author.Needs.{needs}
-use borrow.Author.Tests.{not-true, not-false}
-use Rattle.converting.proofs.Walking.{apart-pos}
-use Rattle.converting.proofs.Interval.{Left, begun, turned, met, ended, ready}
+use Rattle.converting.specs.Outcomes.{tenths}
+use Rattle.converting.specs.Conversions.{points}
+use Rattle.converting.specs.Formula.{meant}
+use Rattle.converting.proofs.Interval.{over-last, found, ready, met}
+use Rattle.converting.proofs.Meant.{meant-tenths}
 use Rattle.converting.proofs.course.Statement.{statement}
 use Rattle.converting.proofs.course.Tie as tie
-use Rattle.converting.proofs.course.Reads as reads
-use Rattle.converting.proofs.course.Lts as lts
-use Rattle.converting.proofs.after.Reads as after-reads
-use Rattle.converting.proofs.step.Reads as step-reads
 
-abbrev Inv-loop : tie.InvT-loop
-Inv-loop up c ps i₀ i = Left up c ps i
-
-abbrev μ-loop : tie.MeasureT-loop
-μ-loop up c ps i₀ i = 4 - i
-
-returns : tie.Need-returns Inv-loop μ-loop
+returns : tie.Need-returns
+unfolding meant
 returns c = rw (sym (c .before .after .ensures) ∙ c .if1 .taken)
 
-loop-holds : tie.Need-loop-holds Inv-loop μ-loop
-loop-holds c = begun _ _ _ refl (sym (c .before .after .ensures) ∙ c .if1 .left)
-
-loop-again : tie.Need-loop-again Inv-loop μ-loop
-loop-again c =
-    let n = c .before .before in
-    turned _ _ _ refl _ (n .before .loop .inv) (n .loop-test .taken) (sym (c .before .after2 .ensures) ∙ c .if2 .taken)
-
-step-requires : tie.Need-step-requires Inv-loop μ-loop
-step-requires c κs =
-    let n = c .before .before in
-    ready _ _ _ refl _ (n .before .loop .inv) (n .loop-test .taken) (n .before .before .before .before .pre) (sym (c .before .after2 .ensures) ∙ c .if2 .left)
-
-returns-2 : tie.Need-returns-2 Inv-loop μ-loop
+returns-2 : tie.Need-returns-2
+unfolding meant
 returns-2 c =
-    let e = c .before in
-    let n = e .before .before in
-    let f = n .before .before in
-    rw (sym (f .before .after .ensures) ∙ f .if1 .left, c .step .ensures)
-    (met _ _ _ refl _ (n .before .loop .inv) (n .loop-test .taken) (sym (e .before .after2 .ensures) ∙ e .if2 .left))
+    let e = c .before .before in
+    let a = e .before .before .args in
+    let first = sym (e .before .after .ensures) ∙ e .if1 .left in
+    rw first (over-last (a .up) (a .c) (points (a .p)) refl (e .before .before .pre) first (sym (c .before .after2 .ensures) ∙ c .if2 .taken))
 
-returns-3 : tie.Need-returns-3 Inv-loop μ-loop
+step-requires : tie.Need-step-requires
+step-requires c κs =
+    let l = c .before .before .before in
+    let e = l .before .before in
+    let f = e .before .before in
+    let first = sym (e .before .after .ensures) ∙ e .if1 .left in
+    let last = sym (l .before .after2 .ensures) ∙ l .if2 .left in
+    let up = f .args .up in
+    let x = f .args .c in
+    let ps = points (f .args .p) in
+    let i = found up x ps refl (f .pre) first last (c .before .before .passed .ensures .0) (c .before .passed2 .ensures .0) (c .passed3 .ensures .0) refl in
+    ready up x ps refl _ (i .left) (i .few) (f .pre) (i .next)
+
+returns-3 : tie.Need-returns-3
 returns-3 c =
-    let f = c .before .before in
-    rw (sym (f .before .after .ensures) ∙ f .if1 .left) (ended _ _ _ refl _ (c .before .loop .inv) (c .loop-test .left))
+    let d = c .before in
+    let l = d .before .before .before in
+    let e = l .before .before in
+    let f = e .before .before in
+    let first = sym (e .before .after .ensures) ∙ e .if1 .left in
+    let last = sym (l .before .after2 .ensures) ∙ l .if2 .left in
+    let up = f .args .up in
+    let x = f .args .c in
+    let ps = points (f .args .p) in
+    let i = found up x ps refl (f .pre) first last (d .before .before .passed .ensures .0) (d .before .passed2 .ensures .0) (d .passed3 .ensures .0) refl in
+    rw first (meant-tenths _ (c .step .ensures .1) ∙ ap tenths (c .step .ensures .0) ∙ met up x ps refl _ (i .left) (i .few) (i .next))
 
 pub course-spec : {M : Type 1} → statement M
 course-spec =
     tie.close
     (tie.spec
-    Inv-loop
-    μ-loop
-    (λ c. search needs)
     (λ c κs. search needs)
     returns
-    loop-holds
-    (λ c. search needs)
-    (λ c. search needs)
-    (λ c. search needs)
     (λ c κs. search needs)
-    (λ c. search needs)
-    (λ c. search needs)
-    loop-again
-    (λ c. search needs)
-    (λ c. search needs)
-    (λ c. search needs)
-    (λ c. search needs)
-    step-requires
     returns-2
+    (λ c κs. search needs)
+    (λ c κs. search needs)
+    (search needs)
+    (λ c κs. search needs)
+    (search needs)
+    (search needs)
+    (search needs)
+    (search needs)
+    (search needs)
+    (search needs)
+    (search needs)
+    (search needs)
+    step-requires
     returns-3)

@@ -17,7 +17,10 @@ cast-t13 c = omega (arith, up-most (c .apart2 .result) (c .before .apart .result
 
 returns : tie.Need-returns
 unfolding step
-returns c = rw (← c .before .apart .ensures .0, ← c .apart2 .ensures .0)
+returns c = (
+  rw (← c .before .apart .ensures .0, ← c .apart2 .ensures .0),
+  omega (arith, up-most (c .apart2 .result) (c .before .apart .result) (omega arith) (omega arith)),
+)
 
 pub step-spec : {M : Type 1} → statement M
 step-spec =
