@@ -104,7 +104,8 @@ module _ (up : Bool) (c : ℕ) (ps : List ℕ) (five : length ps ≡ 5) where
         → z ≡ cond (after up (getD ps 3 0) c) 1 0
         → i ≡ x + y + z
         → Found i
-    found {i} {x} {y} {z} h k ex ey ez ei = go (after up (getD ps 1 0) c) (after up (getD ps 2 0) c) (after up (getD ps 3 0) c) refl refl refl ex ey ez
+    found {i} {x} {y} {z} h k ex ey ez ei =
+        go (after up (getD ps 1 0) c) (after up (getD ps 2 0) c) (after up (getD ps 3 0) c) refl refl refl ex ey ez
       where
         at : {j : ℕ} → Found j → i ≡ j → Found i
         at f e = rw e f
@@ -119,7 +120,8 @@ module _ (up : Bool) (c : ℕ) (ps : List ℕ) (five : length ps ≡ 5) where
             → z ≡ cond v 1 0
             → Found i
         go false false false a b d p q r = at (record { left = begun h; few = omega arith; next = a }) (omega arith)
-        go true false false a b d p q r = at (record { left = turned 0 (begun h) (omega arith) a; few = omega arith; next = b }) (omega arith)
+        go true false false a b d p q r =
+            at (record { left = turned 0 (begun h) (omega arith) a; few = omega arith; next = b }) (omega arith)
         go true true false a b d p q r =
             at (record { left = turned 1 (turned 0 (begun h) (omega arith) a) (omega arith) b; few = omega arith; next = d }) (omega arith)
         go true true true a b d p q r = at (record { left = three-on h d; few = omega arith; next = k }) (omega arith)

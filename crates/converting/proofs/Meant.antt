@@ -17,7 +17,12 @@ unfolding meant
 meant-tenths x h = rw (le-leb x 1000 h)
 
 -- a calibration that goes neither way
-pub meant-bent : (p : Calibration) (c : ℕ) → c ≤ 1023 → strict true (points p) ≡ false → strict false (points p) ≡ false → meant 1003 ≡ temperatureOf p c
+pub meant-bent :
+    (p : Calibration) (c : ℕ)
+    → c ≤ 1023
+    → strict true (points p) ≡ false
+    → strict false (points p) ≡ false
+    → meant 1003 ≡ temperatureOf p c
 unfolding meant temperatureOf
 meant-bent p c l h k = rw (le-ltb 1023 c l, h, k)
 

@@ -53,5 +53,9 @@ alike n h =
     ∙ sym (simp append-assoc)
 
 -- so it is put as the spelling of eight digits puts it
-pub put-eight : {n at r : ℕ} {c after : List ℕ} → n < 100000000 → Put c at (decimal n) r after × (r ≤ at + 8) → Put c at (decimals n) r after × (r ≤ at + 20)
+pub put-eight :
+    {n at r : ℕ} {c after : List ℕ}
+    → n < 100000000
+    → Put c at (decimal n) r after × (r ≤ at + 8)
+    → Put c at (decimals n) r after × (r ≤ at + 20)
 put-eight {n} h p = (rw (alike n h) (p .0), omega (arith, p .1))

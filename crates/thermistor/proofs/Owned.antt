@@ -13,7 +13,8 @@ use Rattle.converting.proofs.Walking.{both}
 use Rattle.thermistor.specs.Ready.{ours, owned}
 
 made : ℕ → ℕ → ℕ → ℕ → ℕ → Calibration
-made a b c d e = record { at0 = record { 0 = a }; at25 = record { 0 = b }; at50 = record { 0 = c }; at75 = record { 0 = d }; at100 = record { 0 = e } }
+made a b c d e =
+    record { at0 = record { 0 = a }; at25 = record { 0 = b }; at50 = record { 0 = c }; at75 = record { 0 = d }; at100 = record { 0 = e } }
 
 alike : {a b c d e f g h i j : ℕ} → a ≡ f → b ≡ g → c ≡ h → d ≡ i → e ≡ j → made a b c d e ≡ made f g h i j
 alike p q r s t = cc

@@ -27,7 +27,8 @@ returns-2 c =
 returns-3 : tie.Need-returns-3
 returns-3 c =
     let e = c .before .before in
-    meant-bent _ _ (e .before .before .pre) (sym (e .before .strict .ensures) ∙ e .if1 .left) (sym (c .before .strict2 .ensures) ∙ c .if2 .left)
+    meant-bent _ _ (e .before .before .pre) (sym (e .before .strict .ensures) ∙ e .if1 .left)
+    (sym (c .before .strict2 .ensures) ∙ c .if2 .left)
 
 pub coded-spec : {M : Type 1} → statement M
 coded-spec =

@@ -21,7 +21,8 @@ returns-2 c =
     let e = c .before .before in
     let a = e .before .before .args in
     let first = sym (e .before .after .ensures) ∙ e .if1 .left in
-    rw first (over-last (a .up) (a .c) (points (a .p)) refl (e .before .before .pre) first (sym (c .before .after2 .ensures) ∙ c .if2 .taken))
+    let last = sym (c .before .after2 .ensures) ∙ c .if2 .taken in
+    rw first (over-last (a .up) (a .c) (points (a .p)) refl (e .before .before .pre) first last)
 
 step-requires : tie.Need-step-requires
 step-requires c κs =
@@ -33,7 +34,8 @@ step-requires c κs =
     let up = f .args .up in
     let x = f .args .c in
     let ps = points (f .args .p) in
-    let i = found up x ps refl (f .pre) first last (c .before .before .passed .ensures .0) (c .before .passed2 .ensures .0) (c .passed3 .ensures .0) refl in
+    let b = c .before in
+    let i = found up x ps refl (f .pre) first last (b .before .passed .ensures .0) (b .passed2 .ensures .0) (c .passed3 .ensures .0) refl in
     ready up x ps refl _ (i .left) (i .few) (f .pre) (i .next)
 
 returns-3 : tie.Need-returns-3
@@ -47,7 +49,8 @@ returns-3 c =
     let up = f .args .up in
     let x = f .args .c in
     let ps = points (f .args .p) in
-    let i = found up x ps refl (f .pre) first last (d .before .before .passed .ensures .0) (d .before .passed2 .ensures .0) (d .passed3 .ensures .0) refl in
+    let b = d .before in
+    let i = found up x ps refl (f .pre) first last (b .before .passed .ensures .0) (b .passed2 .ensures .0) (d .passed3 .ensures .0) refl in
     rw first (meant-tenths _ (c .step .ensures .1) ∙ ap tenths (c .step .ensures .0) ∙ met up x ps refl _ (i .left) (i .few) (i .next))
 
 pub course-spec : {M : Type 1} → statement M

@@ -10,4 +10,5 @@ returns : tie.Need-returns
 returns c = by-table _ (sym (c .before .before .own .ensures) ∙ c .before .if1 .taken) (c .ours .ensures)
 
 pub temperature-spec : {M : Type 1} → statement M
-temperature-spec = tie.close (tie.spec (λ c κs. search needs) (λ c κs. search needs) returns (λ c κs. search needs) (λ c. c .temperature .ensures))
+temperature-spec =
+    tie.close (tie.spec (λ c κs. search needs) (λ c κs. search needs) returns (λ c κs. search needs) (λ c. c .temperature .ensures))
