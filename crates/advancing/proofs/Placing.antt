@@ -2,91 +2,23 @@
 -- Assumes nothing.
 use Prim.Native.Nat.{ℕ, suc, _+_, _<_, _≤_}
 use native.Mathlib.Omega.{arith}
-use mathlib.Core.Path.{_≡_, refl, sym, _∙_, ap, subst}
-use mathlib.Core.Bool.{Bool, true, false, false≢true}
+use mathlib.Core.Path.{_≡_, refl, sym, subst}
+use mathlib.Core.Bool.{Bool, true, false}
 use mathlib.Core.List.{List, [], _∷_, _++_}
-use mathlib.Core.Option.{Option, none, some}
 use lib.ListN.{length, length-append}
-use lib.Dec.{ltb}
-use borrow.Author.Tests.{ltb-true}
-use Rattle.format.specs.Slots.{byte, Bytes}
-use Rattle.format.specs.Rules.{Rule, unlessKept, firstBroken, ownRules, descriptionRules}
-use Rattle.format.specs.ZonesAndStrings.{rulesAgainst}
-use Rattle.format.specs.Table.{elementBreaks, descriptionBreaks}
-use Rattle.format.specs.Decode.{content, decode}
-use Rattle.format.specs.declared.pins.Chip.{Chip}
+use Rattle.format.specs.Slots.{Bytes}
 use Rattle.format.specs.Records.{Record}
-use Rattle.format.specs.Verdict.{framed, known}
-use Rattle.format.specs.Reader.{Outcome, took, stop, orStop, unlessBroken, judge, step}
+use Rattle.format.specs.Reader.{Outcome, took, stop, step}
 use Rattle.format.specs.declared.settings.Settings.{Settings}
 use Rattle.format.specs.declared.records.Description.{Description}
-use Rattle.pass.specs.Tracks.{Flags, Low}
-use Rattle.stream.specs.Running.{Run, going, broken, unready, past, settled, runByte, runBytes}
+use Rattle.format.proofs.Stepped.{taken, stop-small}
+use Rattle.pass.specs.Tracks.{Flags}
+use Rattle.stream.specs.Running.{Run, going, broken, unready, settled, runByte, runBytes}
 use Rattle.stream.proofs.Runs.{stays-broken}
 use Rattle.closing.specs.Ways.{On, WayIs}
 use Rattle.closing.specs.declared.Way.{Way}
 use Rattle.passing.specs.Going.{PassIs}
 use Rattle.advancing.specs.Advancing.{Sound, PlacedAt, GoIs}
-
--- an element that is taken is one of 96
-few : (σ : Settings) (before : List Record) (u : List ℕ) (x : Record) → step σ before u ≡ took x → length before < 96
-unfolding step
-few σ before u x e = go _ (framed u) (ltb (length before) 96) refl e
-  where
-    go : (o : Outcome) (a b : Bool) → ltb (length before) 96 ≡ b → orStop a 6 (orStop b 11 o) ≡ took x → length before < 96
-    go o true true q e = ltb-true (length before) 96 q
-    go o true false q e = let z : _≡_ {A = ℕ} 0 1 = cc in absurd (omega arith)
-    go o false b q e = let z : _≡_ {A = ℕ} 0 1 = cc in absurd (omega arith)
-
--- the number of every rule is a byte
-abbrev Small : List Rule → Type 0
-Small [] = Unit {0}
-Small (r ∷ rs) = (r .number < 256) × Small rs
-
-first-small : (rs : List Rule) → Small rs → (k : ℕ) → firstBroken rs ≡ some k → k < 256
-first-small [] s k e = let z : _≡_ {A = ℕ} 0 1 = cc in absurd (omega arith)
-first-small (r ∷ rs) s k e = go (first-small rs (s .1) k) (r .kept) e
-  where
-    go : (firstBroken rs ≡ some k → k < 256) → (t : Bool) → unlessKept t (r .number) (firstBroken rs) ≡ some k → k < 256
-    go f true q = f q
-    go f false q = let y : r .number ≡ k = cc in omega (arith, s .0)
-
-append-small : (rs qs : List Rule) → Small rs → Small qs → Small (rs ++ qs)
-append-small [] qs a b = b
-append-small (r ∷ rs) qs a b = (a .0, append-small rs qs (a .1) b)
-
-own-small : (σ : Settings) (x : Record) → Small (ownRules σ x)
-unfolding ownRules
-own-small σ x = (omega arith, (omega arith, (omega arith, (omega arith, tt))))
-
-against-small : (before : List Record) (x : Record) → Small (rulesAgainst before x)
-unfolding rulesAgainst
-against-small before x = (omega arith, (omega arith, (omega arith, tt)))
-
-pub description-small : (c : Chip) (d : Description) (k : ℕ) → descriptionBreaks c d ≡ some k → k < 256
-unfolding descriptionRules
-description-small c d k e = first-small (descriptionRules c d) (omega arith, (omega arith, (omega arith, tt))) k e
-
-stop-small : (σ : Settings) (before : List Record) (u : List ℕ) (k : ℕ) → step σ before u ≡ stop k → k < 256
-unfolding step
-stop-small σ before u k e = chain (framed u) 6 _ (omega arith) (λ e. chain (ltb (length before) 96) 11 _ (omega arith) (λ e. chain (known (byte u 0)) 7 _ (omega arith) (λ e. judged (decode (σ .chip) (byte u 0) (content u)) e) e) e) e
-  where
-    number : {a b : ℕ} → stop a ≡ stop b → a ≡ b
-    number q = cc
-
-    chain : (t : Bool) (j : ℕ) (o : Outcome) → j < 256 → (o ≡ stop k → k < 256) → orStop t j o ≡ stop k → k < 256
-    chain true j o s f q = f q
-    chain false j o s f q = omega (arith, number q)
-
-    broken-by : (x : Record) (o : Option ℕ) → elementBreaks σ before x ≡ o → unlessBroken x o ≡ stop k → k < 256
-    broken-by x none p q = let z : _≡_ {A = ℕ} 0 1 = cc in absurd (omega arith)
-    broken-by x (some j) p q =
-        let y : j ≡ k = number q in
-        omega (arith, y, first-small (ownRules σ x ++ rulesAgainst before x) (append-small (ownRules σ x) (rulesAgainst before x) (own-small σ x) (against-small before x)) j p)
-
-    judged : (o : Option Record) → judge σ before o ≡ stop k → k < 256
-    judged none q = omega (arith, number q)
-    judged (some x) q = broken-by x (elementBreaks σ before x) refl q
 
 module _ (σ : Settings) where
   placed-byte : (n : ℕ) (s : Run) (x : ℕ) → PlacedAt n s → PlacedAt (n + 1) (runByte σ s x)
@@ -97,8 +29,8 @@ module _ (σ : Settings) where
 
       go : (t : Bool) (o : Outcome) → step σ before (u ++ x ∷ []) ≡ o → PlacedAt (n + 1) (settled σ before at (u ++ x ∷ []) t)
       go true o q = (omega (arith, m, k .0), k .1)
-      go false (took y) q = rw q (omega (arith, m, k .0), omega (arith, few σ before (u ++ x ∷ []) y q, length-append before (y ∷ [])))
-      go false (stop j) q = rw q (stop-small σ before (u ++ x ∷ []) j q)
+      go false (took y) q = rw q (omega (arith, m, k .0), omega (arith, taken σ before (u ++ x ∷ []) q .few-11, length-append before (y ∷ [])))
+      go false (stop j) q = rw q (omega (arith, stop-small σ before (u ++ x ∷ []) q))
   placed-byte n (broken k p) x h = h
 
   pub placed-bytes : (n : ℕ) (s : Run) (xs : List ℕ) → PlacedAt n s → PlacedAt (n + length xs) (runBytes σ s xs)

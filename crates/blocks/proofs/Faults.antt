@@ -11,7 +11,7 @@ use Rattle.format.specs.Decode.{bind}
 use Rattle.format.specs.Writing.{assembledBreaks}
 use Rattle.format.specs.declared.settings.Settings.{Settings}
 use Rattle.format.specs.declared.records.BusDevice.{BusDevice}
-use Rattle.format.proofs.Kept.{misshapen}
+use Rattle.format.proofs.Broken.{misshapen}
 use Rattle.blocks.specs.Cutting.{isSome, SpeedsAre}
 use Rattle.blocks.specs.declared.Part.{Part}
 

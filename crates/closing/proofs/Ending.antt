@@ -8,17 +8,16 @@ use mathlib.Core.List.{List, [], _∷_, _++_}
 use mathlib.Core.Option.{Option, none, some}
 use lib.ListN.{length, take, drop, length-drop}
 use lib.Seq.{take-all}
-use lib.Dec.{ltb}
-use borrow.Author.Tests.{lt-ltb, le-ltb}
 use Rattle.format.specs.Slots.{byte, Bytes}
 use Rattle.format.specs.Records.{Record}
 use Rattle.format.specs.Layout.{placeAfter}
 use Rattle.format.specs.ZonesAndStrings.{zoneNamed, stringNamed}
-use Rattle.format.specs.Verdict.{stated, known}
+use Rattle.format.specs.Verdict.{stated, framed, known}
 use Rattle.format.specs.Decode.{content, decode}
 use Rattle.format.specs.Reader.{Outcome, took, stop, orStop, judge, step}
 use Rattle.format.specs.declared.settings.Settings.{Settings}
 use Rattle.format.specs.declared.records.Description.{Description}
+use Rattle.format.proofs.Stepped.{taken, crowded-out, by-identifier}
 use Rattle.format.proofs.Growing.{place-snoc}
 use Rattle.pass.specs.Tracks.{Flags, Low, Tracks, Went}
 use Rattle.pass.specs.declared.State.{State}
@@ -26,10 +25,9 @@ use Rattle.pass.specs.declared.Step.{Step}
 use Rattle.pass.proofs.Walking.{took-stated}
 use Rattle.firsts.specs.Firsts.{Firsts}
 use Rattle.stream.specs.Running.{Run, going, broken, past}
-use Rattle.stream.proofs.Running.{whole-step}
+use Rattle.stream.proofs.Running.{full-frame}
 use Rattle.underway.specs.Under.{UnderIs}
 use Rattle.underway.specs.declared.Under.{Under}
-use Rattle.naming.proofs.Named.{decoded}
 use Rattle.closing.specs.Ways.{Gone, On, WayIs, Whole, Then}
 use Rattle.closing.specs.declared.Way.{Way}
 
@@ -66,9 +64,11 @@ module _
     (zp sp : List ℕ) (w : Way) (head : List ℕ) (small : Bytes v) (whole : Whole v) (first : byte v 0 ≡ id) (place : at ≡ placeAfter before)
     (size : length head ≡ 30)
   where
+    frame : framed v ≡ true
+    frame = full-frame v (whole .0) (omega (arith, whole .1))
+
     pub the-step : length before < 96 → step σ before v ≡ orStop (known id) 7 (judge σ before (decode (σ .chip) id (drop 3 v)))
-    the-step n =
-        whole-step σ before v (omega (arith, whole .0, whole .1)) (whole .1) ∙ rw (lt-ltb (length before) 96 n, first) refl
+    the-step n = by-identifier σ before v frame n ∙ rw (first, same-content v whole) refl
 
     -- an element more, or a rule that stops the pass
     pub went-then :
@@ -86,7 +86,7 @@ module _
       where
         go : (o : Outcome) → step σ before v ≡ o → Went d before s f r g o → Then σ d before at v w head g zp sp
         go (took x) q k =
-            let c : decode (σ .chip) id (drop 3 v) ≡ some x = rw (first, same-content v whole) at (decoded σ before v x q) in
+            let c : decode (σ .chip) id (drop 3 v) ≡ some x = rw (first, same-content v whole) at (taken σ before v q .decoded-8) in
             let m = names x c (k .0) in
             let h = good (k .0) in
             let t = took-stated σ before v x small (omega (arith, whole .0, whole .1)) q in
@@ -98,7 +98,4 @@ module _
 
     -- the 97th
     pub crowded-then : 96 ≤ length before → w .stop ≡ 11 → w .at ≡ at → Then σ d before at v w head g zp sp
-    crowded-then n e p =
-        let q : step σ before v ≡ stop 11 =
-        whole-step σ before v (omega (arith, whole .0, whole .1)) (whole .1) ∙ rw (le-ltb (length before) 96 n) refl in
-        rw q (e, omega arith, p)
+    crowded-then n e p = rw (crowded-out σ before v frame n) (e, omega arith, p)

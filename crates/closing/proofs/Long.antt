@@ -14,7 +14,8 @@ use Rattle.format.specs.Verdict.{known}
 use Rattle.format.specs.Decode.{guard, pick, decode}
 use Rattle.format.specs.Reader.{stop, orStop, judge}
 use Rattle.format.specs.declared.settings.Settings.{Settings}
-use Rattle.format.proofs.Kept.{misshapen, own-breaks}
+use Rattle.format.proofs.Kept.{own-breaks}
+use Rattle.format.proofs.Broken.{misshapen}
 
 module _ (σ : Settings) (before : List Record) (id : ℕ) (c : List ℕ) (h : 27 < length c) where
   cases : (n k : ℕ) (a b : Option Record) → (n ≡ k → judge σ before a ≡ stop 8) → judge σ before b ≡ stop 8 → judge σ before (pick (eqb n k) a b) ≡ stop 8

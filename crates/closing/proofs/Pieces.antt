@@ -16,10 +16,11 @@ use Rattle.format.specs.Verdict.{stated}
 use Rattle.format.specs.Reader.{Outcome, took, stop, step}
 use Rattle.format.specs.declared.settings.Settings.{Settings}
 use Rattle.format.specs.declared.records.Description.{Description}
+use Rattle.format.proofs.Stepped.{unframed}
 use Rattle.pass.specs.Tracks.{Flags, Low, Tracks, Took, none-yet, one-more, Walked, WalkIs}
 use Rattle.pass.specs.declared.State.{State}
 use Rattle.pass.specs.declared.Over.{Over}
-use Rattle.pass.proofs.Moving.{unframed, unframed-short, unframed-long}
+use Rattle.pass.proofs.Moving.{unframed-short, unframed-long}
 use Rattle.stream.specs.Running.{Run, going, broken, unready, past, runBytes}
 use Rattle.stream.proofs.Running.{Lacks, header, bytes, lacks, waits-bytes, ready-full}
 use Rattle.stream.proofs.Runs.{run-whole}
@@ -126,8 +127,8 @@ waits-is p {n} e h = ap (ltb (length p)) e ∙ go (ltb (length p) (stated p)) re
     go false q = q ∙ sym (ready-full p h (ltb-false _ _ q))
 
 waits-stop : (σ : Settings) (before : List Record) (p : List ℕ) → Lacks p → step σ before p ≡ stop 6
-waits-stop σ before p (header h) = unframed σ p 0 before (unframed-short p 0 (omega arith))
-waits-stop σ before p (bytes g h) = unframed σ p 0 before (unframed-long p 0 refl (omega arith))
+waits-stop σ before p (header h) = unframed σ before p (unframed-short p 0 (omega arith))
+waits-stop σ before p (bytes g h) = unframed σ before p (unframed-long p 0 refl (omega arith))
 
 pub front-none :
     (σ : Settings) (p : List ℕ) (at : ℕ) (s : State) (f : Flags) (zp sp : List ℕ) (d : Description) (before : List Record) (r : Ran)

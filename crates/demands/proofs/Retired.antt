@@ -22,7 +22,8 @@ use Rattle.format.specs.declared.settings.Rules.the-variants.{Ordinary, Archive
 use Rattle.format.specs.declared.records.Description.{Description}
 use Rattle.format.specs.declared.answers.Written.{Written}
 use Rattle.format.specs.declared.answers.Written.the-variants.{Refused}
-use Rattle.format.proofs.Kept.{own-kept, own-unbroken, out-of-use}
+use Rattle.format.proofs.Kept.{own-kept, own-unbroken}
+use Rattle.format.proofs.Broken.{out-of-use}
 use Rattle.format.proofs.Slots.{roomy-split}
 use Rattle.format.proofs.Archive.{ordinary-accepts}
 use Rattle.writer.specs.Calls.{Started}

@@ -15,7 +15,7 @@ use Rattle.format.specs.Records.{Record, digital, analogue, fan, led, wa
 use Rattle.format.specs.Records.{string, external, rgb, elementOf}
 use Rattle.format.specs.Layout.{optionalPinSlot, address, layout, layouts, table}
 use Rattle.format.specs.Pins.{among, onChip, keptIf, only, listed, permitted, ofChip, allowed, unused, allowedOrUnused}
-use Rattle.format.specs.Rules.{unlessKept, ownRules, shaped, coded, inUse, pinned, selected, rises, fanned, ofItsBus}
+use Rattle.format.specs.Rules.{unlessKept, shaped, coded, inUse, pinned, selected, rises, fanned, ofItsBus}
 use Rattle.format.specs.ZonesAndStrings.{Role, role, zoneDeclared, stringDeclared, gathered, zones, strings, rulesAgainst}
 use Rattle.format.specs.ZonesAndStrings.{zoneNamed, stringNamed, allAmong, firstNaming, zoneless, nameless}
 use Rattle.format.specs.FanList.{usedPin, fanPins, allFanPins}
@@ -38,7 +38,7 @@ use Rattle.format.specs.declared.records.PwmFan.{PwmFan}
 use Rattle.format.specs.declared.records.Address.{Address}
 use Rattle.format.specs.declared.records.Address.the-variants.{Bus, Select}
 use Rattle.format.specs.declared.answers.Answer.the-variants.{Accepted}
-use Rattle.format.proofs.Kept.{and-true, EachKept, each-kept, kept-each, kept-split, kept-join, description-kept, kept-description}
+use Rattle.format.proofs.Kept.{and-true, OwnKept, own-kept, kept-own, own-unbroken, then-against, description-kept, kept-description}
 use Rattle.format.proofs.KnownTables.{small-bytes, chips-apart}
 use Rattle.format.proofs.Demand3.{unique, only-one-list}
 
@@ -320,14 +320,14 @@ pinned-larger (rgb r) h =
     simp (allowed-larger FanPin (r .red) (p .0), allowed-larger FanPin (r .green) (q .0), allowed-larger FanPin (r .blue) (t .0), t .1)
 
 -- So do the rules of a record, of the description and of the pass.
-own-larger :
-    (s : Settings) (r : Record)
-    → EachKept (ownRules (withChip small s) r)
-    → EachKept (ownRules (withChip large s) (recordOn large r))
-unfolding ownRules
+own-larger : (s : Settings) (r : Record) → OwnKept (withChip small s) r → OwnKept (withChip large s) (recordOn large r)
 own-larger s r k =
-    let used : inUse (s .rules) (elementOf (recordOn large r)) ≡ true = rw (in-use-on large (s .rules) r) (k .1 .1 .0) in
-    (rw (shaped-on large r) (k .0), (rw (coded-on large r) (k .1 .0), (used, (pinned-larger r (k .1 .1 .1 .0), tt))))
+    record {
+      shape-8 = rw (shaped-on large r) (k .shape-8);
+      codes-9 = rw (coded-on large r) (k .codes-9);
+      use-23 = rw (in-use-on large (s .rules) r) (k .use-23);
+      pins-10 = pinned-larger r (k .pins-10);
+    }
 
 described-larger : (d : Description) → descriptionBreaks small d ≡ none → descriptionBreaks large (descriptionOn large d) ≡ none
 described-larger d h =
@@ -344,11 +344,11 @@ element-larger :
     → elementBreaks (withChip small s) before r ≡ none
     → elementBreaks (withChip large s) (recordsOn large before) (recordOn large r) ≡ none
 element-larger s before r h =
-    let ss = ownRules (withChip small s) r in
-    let k = kept-split ss (rulesAgainst before r) (each-kept (ss ++ rulesAgainst before r) h) in
-    rw (against-on large before r)
-    (kept-each (ownRules (withChip large s) (recordOn large r) ++ rulesAgainst before r)
-    (kept-join (ownRules (withChip large s) (recordOn large r)) (rulesAgainst before r) (own-larger s r (k .0)) (k .1)))
+    let t = withChip small s in
+    let own = own-unbroken t before r h in
+    let q = recordOn large r in
+    then-against (withChip large s) (recordsOn large before) q (kept-own (withChip large s) q (own-larger s r (own-kept t r own)))
+    ∙ rw (against-on large before r) (sym (then-against t before r own) ∙ h)
 
 snoc-on : (c : Chip) (before : List Record) (r : Record) → recordsOn c (before ++ r ∷ []) ≡ recordsOn c before ++ recordOn c r ∷ []
 snoc-on c [] r = refl

@@ -2,18 +2,16 @@
 -- rise by 10 of its own, and its first comes after the last one used by 10 against the elements before.
 -- Assumes nothing.
 use Prim.Native.Nat.{ℕ}
-use mathlib.Core.Path.{_≡_, refl, sym, _∙_, subst}
+use mathlib.Core.Path.{_≡_, refl, subst}
 use mathlib.Core.Bool.{true, _&&_}
 use mathlib.Core.List.{List, [], _∷_, _++_}
-use mathlib.Core.Option.{none}
 use lib.Dec.{ltb}
 use Rattle.format.specs.Records.{Record, digital, analogue, fan, led, water, pump, voltage, current, controller, tachometer, zone}
 use Rattle.format.specs.Records.{string, external, rgb}
 use Rattle.format.specs.Pins.{allowed, allowedOrUnused}
 use Rattle.format.specs.Rules.{pinned, rises}
-use Rattle.format.specs.FanList.{usedPin, fanPins, allFanPins, lastPin, lastUsed, comesAfter, inOrder, rise}
-use Rattle.format.specs.ZonesAndStrings.{rulesAgainst}
-use Rattle.format.specs.Table.{elementBreaks, PassKept}
+use Rattle.format.specs.FanList.{usedPin, fanPins, allFanPins, lastPin, lastUsed, comesAfter, rise}
+use Rattle.format.specs.Table.{PassKept}
 use Rattle.format.specs.Verdict.{Accepts}
 use Rattle.format.specs.declared.pins.Chip.{Chip}
 use Rattle.format.specs.declared.pins.Use.the-variants.{FanPin}
@@ -23,7 +21,7 @@ use Rattle.format.specs.declared.pins.OptionalPin.the-variants.{Unused, 
 use Rattle.format.specs.declared.settings.Settings.{Settings}
 use Rattle.format.specs.declared.records.Description.{Description}
 use Rattle.format.specs.declared.records.PwmFan.{PwmFan}
-use Rattle.format.proofs.Kept.{and-true, each-kept, own-kept, own-unbroken, then-against}
+use Rattle.format.proofs.Kept.{and-true, own-kept, own-unbroken, against-unbroken}
 use Rattle.format.proofs.Growing.{last-snoc}
 
 -- within one element
@@ -68,17 +66,12 @@ rise-append p (x ∷ ps) qs h k =
     let t = and-true (ltb p x) (rise x ps) h in
     rw (t .0) (rise-append x ps qs (t .1) k)
 
-in-order : (s : Settings) (before : List Record) (r : Record) → elementBreaks s before r ≡ none → inOrder before r ≡ true
-unfolding rulesAgainst
-in-order s before r h =
-    let own = own-unbroken s before r h in
-    each-kept (rulesAgainst before r) (sym (then-against s before r own) ∙ h) .0
-
 pub passed-rise : (s : Settings) (before rs : List Record) → PassKept s before rs → rise (lastUsed before) (allFanPins rs) ≡ true
 passed-rise s before [] h = refl
 passed-rise s before (r ∷ rs) h =
     rise-append (lastUsed before) (fanPins r) (allFanPins rs)
-    (within (s .chip) r (lastUsed before) (own-kept s r (own-unbroken s before r (h .1)) .pins-10) (in-order s before r (h .1)))
+    (within (s .chip) r (lastUsed before) (own-kept s r (own-unbroken s before r (h .1)) .pins-10)
+    (against-unbroken s before r (h .1) .order-10))
     (subst (λ (n : ℕ). rise n (allFanPins rs) ≡ true) (last-snoc before r) (passed-rise s (before ++ r ∷ []) rs (h .2)))
 
 pub fan-list-rises : (s : Settings) (b : List ℕ) (d : Description) (rs : List Record) → Accepts s b d rs → rise 0 (allFanPins rs) ≡ true

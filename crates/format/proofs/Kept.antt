@@ -1,5 +1,5 @@
 -- Lists of rules, whichever rules they are: where none is broken each is kept, and of two lists the first is asked first. What a
--- list holds is named here, and nowhere above.
+-- list holds is named here, and above only for the functions that check its rules one by one (`rules`, `pass` Against).
 -- Assumes nothing.
 use Prim.Native.Nat.{ℕ, _<_}
 use mathlib.Core.Path.{_≡_, refl, sym, _∙_}
@@ -27,7 +27,8 @@ use Rattle.format.specs.declared.records.Address.{Address}
 use Rattle.format.specs.declared.records.Address.the-variants.{Bus, Select}
 use Rattle.format.specs.declared.records.Description.{Description}
 use Rattle.format.specs.declared.records.PwmFan.{PwmFan}
-use Rattle.format.specs.ZonesAndStrings.{rulesAgainst}
+use Rattle.format.specs.FanList.{inOrder}
+use Rattle.format.specs.ZonesAndStrings.{zonesFit, fresh, rulesAgainst}
 use Rattle.format.specs.Table.{elementBreaks, descriptionBreaks}
 
 pub and-true : (a b : Bool) → a && b ≡ true → (a ≡ true) × (b ≡ true)
@@ -57,10 +58,6 @@ pub kept-split : (rs ss : List Rule) → EachKept (rs ++ ss) → EachKept rs × 
 kept-split [] ss k = (tt, k)
 kept-split (r ∷ rs) ss k = let h = kept-split rs ss (k .1) in ((k .0, h .0), h .1)
 
-pub kept-join : (rs ss : List Rule) → EachKept rs → EachKept ss → EachKept (rs ++ ss)
-kept-join [] ss h k = k
-kept-join (r ∷ rs) ss h k = (h .0, kept-join rs ss (h .1) k)
-
 -- two lists, one after the other
 unless-some :
     (t : Bool) (k : ℕ) (a b : Option ℕ) {n : ℕ}
@@ -80,14 +77,14 @@ kept-then (r ∷ rs) ss h =
     let p = unless-none (r .kept) (r .number) (firstBroken rs) h in
     rw (p .0) (kept-then rs ss (p .1))
 
--- No rule has the number 0, so a number says which rule is broken, and 0 that none is.
+-- No rule has the number 0, so a number says which rule is broken, and 0 that none is; and none has more than two digits.
 abbrev pub Numbered : List Rule → Type 0
 Numbered [] = Unit {0}
-Numbered (r ∷ rs) = (0 < r .number) × Numbered rs
+Numbered (r ∷ rs) = (0 < r .number) × (r .number < 100) × Numbered rs
 
 pub zero-none : (rs : List Rule) → Numbered rs → numbered (firstBroken rs) ≡ 0 → firstBroken rs ≡ none
 zero-none [] n h = refl
-zero-none (r ∷ rs) n h = go (r .kept) (n .0) h (λ e. zero-none rs (n .1) e)
+zero-none (r ∷ rs) n h = go (r .kept) (n .0) h (λ e. zero-none rs (n .2) e)
   where
     go :
         (t : Bool) {k : ℕ} {o : Option ℕ}
@@ -98,23 +95,36 @@ zero-none (r ∷ rs) n h = go (r .kept) (n .0) h (λ e. zero-none rs (n .1) e)
     go true p e f = f e
     go false p e f = absurd (omega (arith, p, e))
 
+pub broken-small : (rs : List Rule) → Numbered rs → (k : ℕ) → firstBroken rs ≡ some k → k < 100
+broken-small [] n k h = let z : _≡_ {A = ℕ} 0 1 = cc in absurd (omega arith)
+broken-small (r ∷ rs) n k h = go (r .kept) h (broken-small rs (n .2) k)
+  where
+    go : (t : Bool) → unlessKept t (r .number) (firstBroken rs) ≡ some k → (firstBroken rs ≡ some k → k < 100) → k < 100
+    go true e f = f e
+    go false e f = let y : r .number ≡ k = cc in omega (arith, n .1)
+
+numbered-join : (rs ss : List Rule) → Numbered rs → Numbered ss → Numbered (rs ++ ss)
+numbered-join [] ss n m = m
+numbered-join (r ∷ rs) ss n m = (n .0, n .1, numbered-join rs ss (n .2) m)
+
 pub some-number : (o : Option ℕ) → (numbered o ≡ 0 → ⊥) → o ≡ some (numbered o)
 some-number none n = absurd (n refl)
 some-number (some k) n = refl
 
 pub own-numbered : (s : Settings) (r : Record) → Numbered (ownRules s r)
 unfolding ownRules
-own-numbered s r = (omega arith, (omega arith, (omega arith, (omega arith, tt))))
+own-numbered s r = (omega arith, omega arith, (omega arith, omega arith, (omega arith, omega arith, (omega arith, omega arith, tt))))
 
 pub against-numbered : (before : List Record) (r : Record) → Numbered (rulesAgainst before r)
 unfolding rulesAgainst
-against-numbered before r = (omega arith, (omega arith, (omega arith, tt)))
+against-numbered before r = (omega arith, omega arith, (omega arith, omega arith, (omega arith, omega arith, tt)))
 
 pub description-numbered : (c : Chip) (d : Description) → Numbered (descriptionRules c d)
 unfolding descriptionRules
-description-numbered c d = (omega arith, (omega arith, (omega arith, tt)))
+description-numbered c d = (omega arith, omega arith, (omega arith, omega arith, (omega arith, omega arith, tt)))
 
--- a description that breaks none of its rules, and a record that breaks none by itself
+-- a description that breaks none of its rules, a record that breaks none by itself, and an element that breaks none against those
+-- before it
 pub record DescriptionKept (c : Chip) (d : Description) : Type 0 where
   pub type-4 : typed d ≡ true
   pub power-5 : powered d ≡ true
@@ -136,6 +146,22 @@ pub record OwnKept (s : Settings) (r : Record) : Type 0 where
   pub use-23 : inUse (s .rules) (elementOf r) ≡ true
   pub pins-10 : pinned (s .chip) r ≡ true
 
+pub record AgainstKept (before : List Record) (r : Record) : Type 0 where
+  pub order-10 : inOrder before r ≡ true
+  pub room-11 : zonesFit before r ≡ true
+  pub fresh-12 : fresh before r ≡ true
+
+module _ (before : List Record) (r : Record) where
+  pub against-kept : firstBroken (rulesAgainst before r) ≡ none → AgainstKept before r
+  unfolding rulesAgainst
+  against-kept h =
+      let k = each-kept (rulesAgainst before r) h in
+      record { order-10 = k .0; room-11 = k .1 .0; fresh-12 = k .1 .1 .0 }
+
+  pub kept-against : AgainstKept before r → firstBroken (rulesAgainst before r) ≡ none
+  unfolding rulesAgainst
+  kept-against k = rw (k .order-10, k .room-11, k .fresh-12) refl
+
 module _ (s : Settings) where
   pub own-kept : (r : Record) → firstBroken (ownRules s r) ≡ none → OwnKept s r
   unfolding ownRules
@@ -143,20 +169,9 @@ module _ (s : Settings) where
       let k = each-kept (ownRules s r) h in
       record { shape-8 = k .0; codes-9 = k .1 .0; use-23 = k .1 .1 .0; pins-10 = k .1 .1 .1 .0 }
 
-  -- 8, before all others
-  pub misshapen : (r : Record) → shaped r ≡ false → firstBroken (ownRules s r) ≡ some 8
+  pub kept-own : (r : Record) → OwnKept s r → firstBroken (ownRules s r) ≡ none
   unfolding ownRules
-  misshapen r h = simp h
-
-  -- 23, after 8 and 9 and before all others
-  pub out-of-use :
-      (r : Record)
-      → shaped r ≡ true
-      → coded r ≡ true
-      → inUse (s .rules) (elementOf r) ≡ false
-      → firstBroken (ownRules s r) ≡ some 23
-  unfolding ownRules
-  out-of-use r h k u = simp (h, k, u)
+  kept-own r k = rw (k .shape-8, k .codes-9, k .use-23, k .pins-10) refl
 
   -- an element after others: its own rules, then those against them
   pub own-breaks :
@@ -172,6 +187,18 @@ module _ (s : Settings) where
   pub own-unbroken : (before : List Record) (r : Record) → elementBreaks s before r ≡ none → firstBroken (ownRules s r) ≡ none
   own-unbroken before r h =
       kept-each (ownRules s r) (kept-split (ownRules s r) (rulesAgainst before r) (each-kept (ownRules s r ++ rulesAgainst before r) h) .0)
+
+  pub against-unbroken : (before : List Record) (r : Record) → elementBreaks s before r ≡ none → AgainstKept before r
+  against-unbroken before r h = against-kept before r (sym (then-against before r (own-unbroken before r h)) ∙ h)
+
+  pub both-kept :
+      (before : List Record) (r : Record) → firstBroken (ownRules s r) ≡ none → AgainstKept before r → elementBreaks s before r ≡ none
+  both-kept before r h k = then-against before r h ∙ kept-against before r k
+
+  pub element-small : (before : List Record) (r : Record) (k : ℕ) → elementBreaks s before r ≡ some k → k < 100
+  element-small before r k h =
+      broken-small (ownRules s r ++ rulesAgainst before r)
+      (numbered-join (ownRules s r) (rulesAgainst before r) (own-numbered s r) (against-numbered before r)) k h
 
 -- What keeps 9 and 10 is of its kind. No use of a pin permits FFh.
 none-permits : (c : Chip) (u : Use) → among 0xff (permitted c u) ≡ false

@@ -2,11 +2,13 @@ pub mod Slots
 pub mod Blocks
 pub mod EachKind
 pub mod Kept
+pub mod Broken
 pub mod Utf16
 pub mod Scalars
 pub mod Growing
 pub mod Placed
 pub mod Decoding
+pub mod Stepped
 pub mod Stepping
 pub mod Passing
 pub mod Opening

@@ -2,13 +2,13 @@
 -- Assumes nothing.
 use Prim.Native.Nat.{ℕ, _≤_, _<_}
 use native.Mathlib.Omega.{arith}
-use mathlib.Core.Path.{_≡_, refl}
-use mathlib.Core.Bool.{Bool, true, false, _&&_}
+use mathlib.Core.Path.{_≡_, refl, _∙_}
+use mathlib.Core.Bool.{true, _&&_}
 use mathlib.Core.List.{List}
 use mathlib.Core.Option.{Option, none, some}
 use lib.ListN.{length, drop}
-use lib.Dec.{ltb, leb}
-use borrow.Author.Tests.{le-ltb, lt-ltb, ltb-true, ltb-false, le-leb, leb-true}
+use lib.Dec.{leb}
+use borrow.Author.Tests.{le-leb, leb-true}
 use Rattle.format.specs.Slots.{Starts, byte, Bytes}
 use Rattle.format.specs.Records.{Record, digital, analogue, fan, led, water, pump, voltage, current, controller, tachometer, zone}
 use Rattle.format.specs.Records.{string, external, rgb, elementOf}
@@ -16,9 +16,10 @@ use Rattle.format.specs.Layout.{layout, idOf}
 use Rattle.format.specs.Table.{elementBreaks}
 use Rattle.format.specs.Verdict.{stated, framed, known, Breaks, header, crowded, unknown, unlaid, faulty}
 use Rattle.format.specs.Decode.{content, decode}
-use Rattle.format.specs.Reader.{Outcome, took, stop, orStop, unlessBroken, judge, step}
+use Rattle.format.specs.Reader.{Outcome, took, stop, unlessBroken, judge, step}
 use Rattle.format.proofs.Slots.{starts-over, starts-length}
 use Rattle.format.proofs.Kept.{and-true, unbroken-kind}
+use Rattle.format.proofs.Stepped.{step-by, unframed, crowded-out, by-identifier}
 use Rattle.format.proofs.Decoding.{starts-stated, starts-next, StandsIf, decoded-stands, stands-decoded}
 use Rattle.format.specs.declared.settings.Settings.{Settings}
 
@@ -61,11 +62,6 @@ Meets s before bs (took r) =
     (length before < 96) × (elementBreaks s before r ≡ none) × Starts bs (layout r) (drop (stated bs) bs)
 Meets s before bs (stop k) = Breaks s before bs k
 
-or-stop :
-    (P : Outcome → Type 0) (t : Bool) (k : ℕ) (o : Outcome) → (t ≡ true → P o) → (t ≡ false → P (stop k)) → P (orStop t k o)
-or-stop P true k o f g = f refl
-or-stop P false k o f g = g refl
-
 judge-meets :
     (s : Settings) (before : List Record) (bs : List ℕ)
     → framed bs ≡ true
@@ -86,20 +82,11 @@ judge-meets s before bs fr few kn (some r) d h = go (elementBreaks s before r) r
     go (some k) e = faulty r few h e
 
 pub step-meets : (s : Settings) (before : List Record) (bs : List ℕ) → Bytes bs → 0 < length bs → Meets s before bs (step s before bs)
-unfolding step
 step-meets s before bs small more =
-    or-stop (Meets s before bs) (framed bs) 6 _
-    (λ fr.
-    or-stop (Meets s before bs) (ltb (length before) 96) 11 _
-    (λ few.
-    or-stop (Meets s before bs) (known (byte bs 0)) 7 _
-    (λ kn.
+    step-by s before bs (Meets s before bs) (header more) crowded unknown
+    (λ fr few kn.
     let f = framed-facts bs fr in
-    judge-meets s before bs fr (ltb-true _ _ few) kn (decode (s .chip) (byte bs 0) (content bs)) refl
-    (decoded-stands (s .chip) bs small (f .1) (f .2)))
-    (λ kn. unknown fr (ltb-true _ _ few) kn))
-    (λ few. crowded fr (ltb-false _ _ few)))
-    (λ fr. header more fr)
+    judge-meets s before bs fr few kn (decode (s .chip) (byte bs 0) (content bs)) refl (decoded-stands (s .chip) bs small (f .1) (f .2)))
 
 -- a record that stands there and breaks no rule is taken
 pub step-took :
@@ -108,32 +95,26 @@ pub step-took :
     → elementBreaks s before r ≡ none
     → Starts bs (layout r) rest
     → step s before bs ≡ took r
-unfolding step
 step-took s before bs r rest few e h =
     let d = stands-decoded (s .chip) bs r (record { rest = rest; starts = h; kind = unbroken-kind s before r e }) in
-    simp (starts-framed bs r rest h, lt-ltb _ _ few, starts-known bs r rest h, d, e)
+    by-identifier s before bs (starts-framed bs r rest h) few ∙ simp (starts-known bs r rest h, d, e)
 
 -- what breaks a rule is answered by its number
 pub step-stop : (s : Settings) (before : List Record) (bs : List ℕ) {k : ℕ} → Bytes bs → Breaks s before bs k → step s before bs ≡ stop k
-unfolding step
-step-stop s before bs small (header more fr) = simp fr
-step-stop s before bs small (crowded fr many) = simp (fr, le-ltb _ _ many)
-step-stop s before bs small (unknown fr few kn) = simp (fr, lt-ltb _ _ few, kn)
+step-stop s before bs small (header more fr) = unframed s before bs fr
+step-stop s before bs small (crowded fr many) = crowded-out s before bs fr many
+step-stop s before bs small (unknown fr few kn) = by-identifier s before bs fr few ∙ simp kn
 step-stop s before bs small (unlaid fr few kn nothing) =
     let f = framed-facts bs fr in
-    simp (fr, lt-ltb _ _ few, kn) (go (decode (s .chip) (byte bs 0) (content bs)) (decoded-stands (s .chip) bs small (f .1) (f .2)))
+    by-identifier s before bs fr few
+    ∙ simp kn (go (decode (s .chip) (byte bs 0) (content bs)) (decoded-stands (s .chip) bs small (f .1) (f .2)))
   where
     go : (o : Option Record) → StandsIf (s .chip) bs o → judge s before o ≡ stop 8
     go none h = refl
     go (some r) h = absurd (nothing r h)
 step-stop s before bs small (faulty r few h e) =
-    simp (
-      starts-framed bs r (h .rest) (h .starts),
-      lt-ltb _ _ few,
-      starts-known bs r (h .rest) (h .starts),
-      stands-decoded (s .chip) bs r h,
-      e,
-    )
+    by-identifier s before bs (starts-framed bs r (h .rest) (h .starts)) few
+    ∙ simp (starts-known bs r (h .rest) (h .starts), stands-decoded (s .chip) bs r h, e)
 
 pub breaks-more : (s : Settings) (before : List Record) (bs : List ℕ) {k : ℕ} → Breaks s before bs k → 0 < length bs
 breaks-more s before bs (header more fr) = more

@@ -13,12 +13,13 @@ use borrow.Author.Tests.{eq-eqb, ne-eqb, le-leb, lt-leb, leb-true}
 use Rattle.format.specs.Slots.{byte}
 use Rattle.format.specs.Pins.{among}
 use Rattle.format.specs.Records.{Record, controller, tachometer, external}
-use Rattle.format.specs.Rules.{ownRules, pinned, chipIdentifiers}
+use Rattle.format.specs.Rules.{numbered, ownRules, pinned, chipIdentifiers}
 use Rattle.format.specs.FanList.{fanPins}
-use Rattle.format.specs.Decode.{decode, guard, bind, readDevice, readExternal, cutBlocks, cutTwo, cutThree}
+use Rattle.format.specs.Decode.{externalOf, decode, guard, bind, readDevice, readExternal, cutBlocks, cutTwo, cutThree}
 use Rattle.format.specs.declared.settings.Settings.{Settings}
 use Rattle.format.specs.declared.records.BusDevice.{BusDevice}
 use Rattle.format.proofs.Kept.{own-numbered, zero-none, own-kept}
+use Rattle.format.proofs.Broken.{miscoded}
 use Rattle.rules.specs.Broken.{DeviceBreaks}
 use Rattle.blocks.specs.Cutting.{isSome, exact, SpeedPart, PairsPart}
 use Rattle.blocks.specs.declared.Part.{Part}
@@ -109,15 +110,14 @@ module _ (s : Settings) (d : BusDevice) (part : Part) (r : Found) where
 
   -- 9 by the part: after 8, and before all others
   pub found-9 : part .whole ≡ true → part .full ≡ false → r .fault ≡ 9 → DeviceFound s d part r
-  unfolding ownRules
   found-9 w f p =
       record {
         misshapen = λ v. absurd (false≢true (sym v ∙ w));
         breaks =
             λ _. record {
-              of-controller = λ bs h e. p ∙ simp (h, e ∙ f, and-false);
+              of-controller = λ bs h e. p ∙ sym (ap numbered (miscoded s (controller d bs) h (simp (e ∙ f, and-false))));
               of-tachometer = λ a b e. absurd (false≢true (sym f ∙ e));
-              of-external = λ i a b c e. p ∙ simp (e ∙ f, and-false);
+              of-external = λ i a b c e. p ∙ sym (ap numbered (miscoded s (external (externalOf d i) a b c) refl (simp (e ∙ f, and-false))));
             };
         claimed = λ n. absurd (omega (arith, n, p));
         counted = λ n. absurd (omega (arith, n, p));

@@ -5,7 +5,7 @@ use native.Mathlib.Omega.{arith}
 use mathlib.Core.Path.{_≡_, refl, sym, _∙_, ap, subst}
 use mathlib.Core.Bool.{Bool, true, false}
 use mathlib.Core.List.{List, [], _∷_, _++_}
-use mathlib.Core.Option.{Option, none, some}
+use mathlib.Core.Option.{some}
 use lib.ListN.{length, take, drop, length-drop}
 use lib.Seq.{drop-drop, getD-drop}
 use Rattle.format.specs.Slots.{byte, Bytes}
@@ -13,11 +13,10 @@ use Rattle.format.specs.Records.{Record, zone, string}
 use Rattle.format.specs.Layout.{placeAfter}
 use Rattle.format.specs.ZonesAndStrings.{role, zoneNamed, stringNamed}
 use Rattle.format.specs.Decode.{content, decode}
-use Rattle.format.specs.Verdict.{stated, framed, known}
-use Rattle.format.specs.Table.{elementBreaks}
-use Rattle.format.specs.Reader.{Outcome, took, stop, orStop, unlessBroken, judge, step}
+use Rattle.format.specs.Verdict.{stated}
 use Rattle.format.specs.declared.settings.Settings.{Settings}
 use Rattle.format.proofs.Slots.{bytes-drop, bytes-take}
+use Rattle.format.proofs.Stepped.{taken}
 use Rattle.format.proofs.Growing.{place-snoc}
 use Rattle.pass.specs.Tracks.{Took}
 use Rattle.pass.proofs.Walking.{took-stated}
@@ -26,7 +25,7 @@ use Rattle.format.specs.declared.pins.Chip.{Chip}
 use Rattle.pass.proofs.Taking.{Placed, decode-placed}
 use Rattle.firsts.specs.Firsts.{noted, Firsts}
 use Rattle.firsts.proofs.Naming.{firsts-same, firsts-put}
-use lib.Dec.{eqb, ltb}
+use lib.Dec.{eqb}
 use borrow.Author.Tests.{eqb-true, eqb-false}
 use Rattle.naming.specs.Naming.{Names}
 
@@ -70,26 +69,6 @@ module _ (chip : Chip) (id : ℕ) (c : List ℕ) (small : Bytes c) (x : Record) 
             rw (w .1) (firsts-put stringNamed sp before x g (byte c 0) at (rw y refl) (small 0) p),
           )
 
--- an element that is taken is the one that its bytes give
-module _ (σ : Settings) (before : List Record) (bs : List ℕ) (x : Record) where
-  unbroken : (r : Record) (o : Option ℕ) → unlessBroken r o ≡ took x → r ≡ x
-  unbroken r none e = cc
-  unbroken r (some k) e = let z : _≡_ {A = ℕ} 0 1 = cc in absurd (omega arith)
-
-  judged : (o : Option Record) → judge σ before o ≡ took x → o ≡ some x
-  judged none e = let z : _≡_ {A = ℕ} 0 1 = cc in absurd (omega arith)
-  judged (some r) e = ap some (unbroken r (elementBreaks σ before r) e)
-
-  through : (t : Bool) (k : ℕ) (o : Outcome) → orStop t k o ≡ took x → o ≡ took x
-  through true k o e = e
-  through false k o e = let z : _≡_ {A = ℕ} 0 1 = cc in absurd (omega arith)
-
-  pub decoded : step σ before bs ≡ took x → decode (σ .chip) (byte bs 0) (content bs) ≡ some x
-  unfolding step
-  decoded e =
-      judged (decode (σ .chip) (byte bs 0) (content bs))
-      (through (known (byte bs 0)) 7 _ (through (ltb (length before) 96) 11 _ (through (framed bs) 6 _ e)))
-
 -- the loop: some elements are noted, and others are ahead
 pub record Sofar (σ : Settings) (p : List ℕ) (to base : ℕ) (zp sp : List ℕ) (gone : List Record) (i : ℕ) : Type 0 where
   pub mid : List Record
@@ -123,7 +102,7 @@ sofar-next σ p to base zp sp gone i r zp′ sp′ small t l n w =
     let m = n (k .2) (omega (arith, k .3, length-drop i p)) in
     let first : byte bs 0 ≡ byte p i = getD-drop i p 0 0 ∙ ap (byte p) (omega arith) in
     let s = bytes-take (stated bs - 3) (drop 3 bs) (bytes-drop 3 bs (bytes-drop i p small)) in
-    let d : decode (σ .chip) (byte p i) (content bs) ≡ some (k .0) = rw first at (decoded σ (w .mid) bs (k .0) (k .1)) in
+    let d : decode (σ .chip) (byte p i) (content bs) ≡ some (k .0) = rw first at (taken σ (w .mid) bs (k .1) .decoded-8) in
     let f = named (σ .chip) (byte p i) (content bs) s (k .0) d (w .mid) zp sp zp′ sp′ (w .place) (m .1) (w .zones) (w .strings) in
     let q = took-stated σ (w .mid) bs (k .0) (bytes-drop i p small) (omega (arith, k .2, k .3)) (k .1) in
     let a : base + i + stated bs ≡ base + (i + r) = omega (arith, m .0) in

@@ -14,9 +14,10 @@ use Rattle.format.specs.Records.{Record}
 use Rattle.format.specs.Verdict.{stated, framed}
 use Rattle.format.specs.Reader.{Outcome, took, stop, step}
 use Rattle.format.specs.declared.settings.Settings.{Settings}
+use Rattle.format.proofs.Stepped.{unframed}
 use Rattle.pass.specs.Tracks.{Took, none-yet, one-more}
 use Rattle.stream.specs.Running.{Run, going, broken, past, runBytes}
-use Rattle.stream.proofs.Running.{same-step, stated-more, unframed}
+use Rattle.stream.proofs.Running.{same-step, stated-more}
 use Rattle.stream.proofs.Runs.{Whole, run-whole, stays-broken}
 use Rattle.stream.proofs.Arriving.{run-append}
 

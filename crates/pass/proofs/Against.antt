@@ -1,5 +1,5 @@
--- The rules of an element against those before it, by the state and the flags that track them. The one place above the
--- definitions that names them, for the functions that check them.
+-- The rules of an element against those before it, by the state and the flags that track them. The one place above `format` that
+-- goes through their list, for the functions that check them.
 -- Assumes nothing.
 use Prim.Native.Nat.{ℕ, _+_, _<_}
 use native.Mathlib.Omega.{arith}

@@ -8,14 +8,15 @@ use mathlib.Core.List.{List}
 use lib.ListN.{length, getD, take, drop, length-drop}
 use lib.Seq.{drop-drop, getD-drop}
 use lib.Dec.{leb}
-use borrow.Author.Tests.{lt-ltb, le-ltb, le-leb, lt-leb}
+use borrow.Author.Tests.{le-leb, lt-leb}
 use Rattle.format.specs.Slots.{byte}
 use Rattle.format.specs.Records.{Record}
 use Rattle.format.specs.Verdict.{stated, framed, known}
 use Rattle.format.specs.Decode.{content, decode}
-use Rattle.format.specs.Reader.{judge, orStop, step, Outcome, took, stop}
+use Rattle.format.specs.Reader.{judge, orStop, Outcome, took, stop}
 use Rattle.format.specs.declared.settings.Settings.{Settings}
 use Rattle.format.specs.declared.records.Description.{Description}
+use Rattle.format.proofs.Stepped.{unframed, crowded-out, by-identifier}
 use Rattle.pass.specs.Tracks.{Flags, Low, Went, TakeIs, Moves, MoveIs}
 use Rattle.pass.specs.declared.State.{State}
 use Rattle.pass.specs.declared.Step.{Step}
@@ -58,20 +59,14 @@ content-at t at {n} p g =
 byte-first : (t : List ℕ) (at : ℕ) → byte (drop at t) 0 ≡ byte t at
 byte-first t at = getD-drop at t 0 0 ∙ ap (λ (n : ℕ). getD t n 0) (omega arith)
 
--- 6
-pub unframed : (σ : Settings) (t : List ℕ) (at : ℕ) (before : List Record) → framed (drop at t) ≡ false → step σ before (drop at t) ≡ stop 6
-unfolding step
-unframed σ t at before e = rw e refl
-
 module _ (σ : Settings) (t : List ℕ) (at base : ℕ) (s : State) (f : Flags) (r : Moved) (g : Flags) where
   pub move-6 : Low (r .state) → r .stop ≡ 6 → r .state ≡ s → g ≡ f → framed (drop at t) ≡ false → MoveIs σ t at base s f r g
-  unfolding step
-  move-6 low p q w e = record {
-    low = low;
-    fits = λ z. absurd (omega (arith, z, p));
-    moves = λ d before place k. rw e
-        (p, omega arith, q, w);
-  }
+  move-6 low p q w e =
+      record {
+        low = low;
+        fits = λ z. absurd (omega (arith, z, p));
+        moves = λ d before place k. rw (unframed σ before (drop at t) e) (p, omega arith, q, w);
+      }
 
   pub move-11 :
       Low (r .state)
@@ -81,14 +76,12 @@ module _ (σ : Settings) (t : List ℕ) (at base : ℕ) (s : State) (f : Flags) 
       → framed (drop at t) ≡ true
       → 96 ≤ s .count
       → MoveIs σ t at base s f r g
-  unfolding step
-  move-11 low p q w e h = record {
-    low = low;
-    fits = λ z. absurd
-        (omega (arith, z, p));
-    moves = λ d before place k. rw (e, le-ltb (length before) 96 (omega (arith, k .count)))
-        (p, omega arith, q, w);
-  }
+  move-11 low p q w e h =
+      record {
+        low = low;
+        fits = λ z. absurd (omega (arith, z, p));
+        moves = λ d before place k. rw (crowded-out σ before (drop at t) e (omega (arith, k .count))) (p, omega arith, q, w);
+      }
 
   moved :
       (d : Description) (before : List Record) (q : Step) (o : Outcome)
@@ -115,7 +108,6 @@ module _ (σ : Settings) (t : List ℕ) (at base : ℕ) (s : State) (f : Flags) 
       → at ≤ length t
       → s .count < 96
       → MoveIs σ t at base s f r g
-  unfolding step
   move-on q {id} {c} i same w p st l m h k n =
       let d : id ≡ byte (drop at t) 0 = i ∙ sym (byte-first t at) in
       record {
@@ -123,7 +115,7 @@ module _ (σ : Settings) (t : List ℕ) (at base : ℕ) (s : State) (f : Flags) 
         fits = λ _. (m, omega arith);
         moves =
             λ e before place k.
-            rw (framed-good t at l m h, lt-ltb (length before) 96 (omega (arith, k .count)), ← d, ← same)
+            rw (by-identifier σ before (drop at t) (framed-good t at l m h) (omega (arith, k .count)), ← d, ← same)
             (moved e before q (orStop (known id) 7 (judge σ before (decode (σ .chip) id c))) (w .takes e before place k) p st l m
             (omega arith));
       }

@@ -15,6 +15,7 @@ use Rattle.format.specs.declared.settings.Settings.{Settings}
 use Rattle.format.specs.declared.records.Description.{Description}
 use Rattle.format.proofs.Slots.{bytes-drop}
 use Rattle.format.proofs.Decoding.{starts-stated}
+use Rattle.format.proofs.Stepped.{unframed}
 use Rattle.format.proofs.Stepping.{Meets, step-meets}
 use Rattle.format.proofs.Passing.{pass-nil}
 use Rattle.format.proofs.Growing.{place-snoc}
@@ -22,7 +23,7 @@ use Rattle.pass.specs.Tracks.{Flags, Tracks, Moves, MoveIs, Took, none-y
 use Rattle.pass.specs.declared.State.{State}
 use Rattle.pass.specs.declared.Moved.{Moved}
 use Rattle.pass.specs.declared.Over.{Over}
-use Rattle.pass.proofs.Moving.{unframed-short, unframed}
+use Rattle.pass.proofs.Moving.{unframed-short}
 
 -- where the loop is: some elements are taken, and the state and the flags track them
 pub record Onward (σ : Settings) (d : Description) (t : List ℕ) (base : ℕ) (before : List Record) (s : State) (f : Flags)
@@ -144,7 +145,7 @@ module _
           rest = rw (b, same) refl;
           ends = λ e. absurd (omega (arith, a, e));
           more = λ _. omega (arith, length-drop at t);
-          stops = λ _. unframed σ t at (u .gone) (unframed-short t at (omega arith)) ∙ ap stop (sym a);
+          stops = λ _. unframed σ (u .gone) (drop at t) (unframed-short t at (omega arith)) ∙ ap stop (sym a);
         }
 
     -- no byte is left

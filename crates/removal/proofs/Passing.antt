@@ -4,17 +4,16 @@ use Prim.Native.Nat.{ℕ}
 use native.Mathlib.Omega.{arith}
 use mathlib.Core.Path.{_≡_, sym, subst}
 use mathlib.Core.Bool.{true}
-use mathlib.Core.List.{List, [], _∷_, _++_}
+use mathlib.Core.List.{List, [], _∷_}
 use mathlib.Core.Logic.{_↔_}
 use mathlib.Core.Option.{none}
 use borrow.Author.Tests.{leb-true, le-leb}
 use Rattle.format.specs.Records.{Record}
-use Rattle.format.specs.Rules.{ownRules}
 use Rattle.format.specs.FanList.{fanPins, allFanPins, lastUsed, inOrder, rise}
-use Rattle.format.specs.ZonesAndStrings.{role, zoneDeclared, stringDeclared, zones, strings, zonesFit, fresh, rulesAgainst}
+use Rattle.format.specs.ZonesAndStrings.{role, zoneDeclared, stringDeclared, zones, strings, zonesFit, fresh}
 use Rattle.format.specs.Table.{elementBreaks, PassKept}
 use Rattle.format.specs.declared.settings.Settings.{Settings}
-use Rattle.format.proofs.Kept.{EachKept, each-kept, kept-each, kept-split, kept-join}
+use Rattle.format.proofs.Kept.{own-unbroken, against-unbroken, both-kept}
 use Rattle.format.proofs.Growing.{last-snoc}
 use Rattle.format.proofs.FanList.{passed-rise}
 use Rattle.removal.specs.Parts.{Part, done, keep, leave}
@@ -42,14 +41,11 @@ module _ {ss rs : List Record} (p : Part Record ss rs) (r : Record) where
         λ x i j. a .1 x i (part-within (part-numbers stringDeclared p) x j),
       )
 
-  part-against : inOrder ss r ≡ true → EachKept (rulesAgainst rs r) → EachKept (rulesAgainst ss r)
-  unfolding rulesAgainst
-  part-against o k = (o, (part-fit (k .1 .0), (part-fresh (k .1 .1 .0), tt)))
-
   part-breaks : (σ : Settings) → inOrder ss r ≡ true → elementBreaks σ rs r ≡ none → elementBreaks σ ss r ≡ none
   part-breaks σ o h =
-      let k = kept-split (ownRules σ r) (rulesAgainst rs r) (each-kept (ownRules σ r ++ rulesAgainst rs r) h) in
-      kept-each (ownRules σ r ++ rulesAgainst ss r) (kept-join (ownRules σ r) (rulesAgainst ss r) (k .0) (part-against o (k .1)))
+      let k = against-unbroken σ rs r h in
+      both-kept σ ss r (own-unbroken σ rs r h)
+      (record { order-10 = o; room-11 = part-fit (k .room-11); fresh-12 = part-fresh (k .fresh-12) })
 
 passed-after :
     (σ : Settings) {before before′ ss rs : List Record}

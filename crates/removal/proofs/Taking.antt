@@ -13,15 +13,15 @@ use lib.Dec.{eqb}
 use borrow.Author.Tests.{eqb-false, not-true}
 use Rattle.format.specs.Records.{Record, zoneNumber, stringNumber, textOf}
 use Rattle.format.specs.Utf16.{wellFormed}
-use Rattle.format.specs.Rules.{ownRules, coded}
+use Rattle.format.specs.Rules.{coded}
 use Rattle.format.specs.ZonesAndStrings.{Role, placed, zoning, naming, role, gathered, zoneDeclared, stringDeclared}
-use Rattle.format.specs.ZonesAndStrings.{zoneNamed, stringNamed, zones, strings, rulesAgainst, zoneless, nameless}
+use Rattle.format.specs.ZonesAndStrings.{zoneNamed, stringNamed, zones, strings, zoneless, nameless}
 use Rattle.format.specs.Table.{elementBreaks, PassKept, Keeps}
 use Rattle.format.specs.Asked.{nth}
 use Rattle.format.specs.declared.settings.Settings.{Settings}
 use Rattle.format.specs.declared.records.Description.{Description}
 use Rattle.format.specs.declared.records.Placement.{Placement}
-use Rattle.format.proofs.Kept.{and-true, each-kept, kept-split}
+use Rattle.format.proofs.Kept.{and-true, against-unbroken}
 use Rattle.format.proofs.Growing.{gathered-append}
 use Rattle.format.proofs.Strings.{naming-string, own-nth}
 use Rattle.removal.specs.Parts.{Part, keep, leave}
@@ -95,10 +95,7 @@ fresh-new :
     (σ : Settings) (before : List Record) (r : Record)
     → elementBreaks σ before r ≡ none
     → Apart (zoneDeclared (role r)) (zones before) × Apart (stringDeclared (role r)) (strings before)
-unfolding rulesAgainst
-fresh-new σ before r h =
-    let k = kept-split (ownRules σ r) (rulesAgainst before r) (each-kept (ownRules σ r ++ rulesAgainst before r) h) .1 in
-    fresh-exactly before r .0 (k .1 .1 .0)
+fresh-new σ before r h = fresh-exactly before r .0 (against-unbroken σ before r h .fresh-12)
 
 -- 9: no string is numbered 0
 unzero : (r : Record) → coded r ≡ true → Apart (stringDeclared (role r)) (0 ∷ [])

@@ -12,7 +12,7 @@ use borrow.Author.Tests.{eq-eqb, ne-eqb, eqb-true, eqb-false, le-leb, lt-leb}
 use Rattle.format.specs.Records.{string, textOf}
 use Rattle.format.specs.Rules.{numbered, firstBroken, ownRules, shaped}
 use Rattle.format.specs.declared.settings.Settings.{Settings}
-use Rattle.format.proofs.Kept.{misshapen}
+use Rattle.format.proofs.Broken.{misshapen}
 
 -- 'Table 30: 30 bytes', three of them the header
 pub zone-size : (n : ℕ) → eqb n 27 ≡ eqb (3 + n) 30

@@ -12,10 +12,11 @@ use Rattle.format.specs.Slots.{allRoomy}
 use Rattle.format.specs.Records.{Record}
 use Rattle.format.specs.Layout.{layout, layouts}
 use Rattle.format.specs.FanList.{allFanPins}
-use Rattle.format.specs.ZonesAndStrings.{Role, role, zoneDeclared, stringDeclared, gathered, rulesAgainst}
+use Rattle.format.specs.ZonesAndStrings.{Role, role, zoneDeclared, stringDeclared, gathered}
 use Rattle.format.specs.Table.{elementBreaks, PassKept}
 use Rattle.format.specs.declared.settings.Settings.{Settings}
 use Rattle.format.proofs.Slots.{roomy-split, roomy-join}
+use Rattle.format.proofs.Kept.{own-unbroken, against-unbroken, both-kept}
 use Rattle.saving.proofs.Clearing.{Alike, alike-same}
 
 pub data EachAlike : List Record → List Record → Type 0 where
@@ -69,17 +70,15 @@ alike-breaks :
     → Alike s r
     → elementBreaks σ before′ r ≡ none
     → elementBreaks σ before s ≡ none
-unfolding rulesAgainst
-alike-breaks σ p a h =
-    rw (
-      a .own σ,
-      a .fans,
-      a .zoneD,
-      a .stringD,
-      alike-through _ allFanPins (λ r rs. refl) (λ s r b. b .fans) p,
-      alike-gathered zoneDeclared (λ s r b. b .zoneD) p,
-      alike-gathered stringDeclared (λ s r b. b .stringD) p,
-    ) h
+alike-breaks σ {before} {before′} {s} {r} p a h =
+    let k = against-unbroken σ before′ r h in
+    let z = alike-gathered zoneDeclared (λ s r b. b .zoneD) p in
+    both-kept σ before s (rw (a .own σ) (own-unbroken σ before′ r h))
+    (record {
+      order-10 = rw (a .fans, alike-through _ allFanPins (λ r rs. refl) (λ s r b. b .fans) p) (k .order-10);
+      room-11 = rw (a .zoneD, z) (k .room-11);
+      fresh-12 = rw (a .zoneD, z, a .stringD, alike-gathered stringDeclared (λ s r b. b .stringD) p) (k .fresh-12);
+    })
 
 pub alike-passed :
     (σ : Settings) {before before′ ss rs : List Record}

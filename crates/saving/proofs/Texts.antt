@@ -5,23 +5,21 @@ use native.Mathlib.Omega.{arith}
 use mathlib.Core.Path.{_≡_, refl}
 use mathlib.Core.Bool.{Bool, true, false, cond}
 use mathlib.Core.List.{List, [], _∷_, _++_, append-nil}
-use mathlib.Core.Option.{Option, none, some}
 use lib.ListN.{length, drop, length-append, length-take, length-drop}
 use lib.Dec.{ltb}
 use borrow.Author.Tests.{ltb-false}
 use Rattle.format.specs.Slots.{Bytes, byte}
 use Rattle.format.specs.Records.{Record}
 use Rattle.format.specs.Pins.{among}
-use Rattle.format.specs.Rules.{Rule, unlessKept, firstBroken, ownRules}
-use Rattle.format.specs.ZonesAndStrings.{role, zones, stringNamed, allAmong, rulesAgainst}
-use Rattle.format.specs.Verdict.{framed, known}
-use Rattle.format.specs.Decode.{readDescription, decode, content}
-use Rattle.format.specs.Reader.{Outcome, orStop, unlessBroken, judge, step}
+use Rattle.format.specs.ZonesAndStrings.{role, zones, stringNamed, allAmong}
+use Rattle.format.specs.Decode.{readDescription}
+use Rattle.format.specs.Reader.{Outcome, took, stop, step}
 use Rattle.format.specs.Writing.{writing}
 use Rattle.format.specs.declared.pins.Chip.{Chip}
 use Rattle.format.specs.declared.settings.Settings.{Settings}
 use Rattle.format.specs.declared.records.Description.{Description}
 use Rattle.format.proofs.Slots.{bytes-take}
+use Rattle.format.proofs.Stepped.{Says, step-says}
 use Rattle.spelling.specs.Spelling.{digit, digitAt, decimal}
 use Rattle.saving.specs.Saving.{taken, At, atPlace, elements, Change, left-out, cleared, Line, line, Saved, saved, records, Fate, stays, leaves, mends, unseen, settled, sift, answered, byPass, passed, byZone, unindexed, stringIndexes, firstLine, byString, named, byClaim, inZones, ending}
 use Rattle.saving.specs.Lines.{changeText, lineText, textOf, newText}
@@ -30,59 +28,20 @@ use Rattle.saving.proofs.Standing.{Before, standing-before}
 use Rattle.saving.proofs.Choosing.{inZone, clashless}
 use Rattle.saving.proofs.Bounds.{at-most-1457}
 
--- the number of a rule has at most two digits
-abbrev Small : Rule → Type 0
-Small r = r .number < 100
-
-small-append : (rs qs : List Rule) → All Small rs → All Small qs → All Small (rs ++ qs)
-small-append [] qs a b = b
-small-append (r ∷ rs) qs a b = (a .0, small-append rs qs (a .1) b)
-
-own-small : (σ : Settings) (r : Record) → All Small (ownRules σ r)
-unfolding ownRules
-own-small σ r = (omega arith, (omega arith, (omega arith, (omega arith, tt))))
-
-against-small : (kept : List Record) (r : Record) → All Small (rulesAgainst kept r)
-unfolding rulesAgainst
-against-small kept r = (omega arith, (omega arith, (omega arith, tt)))
-
--- so has that on a line
+-- the number on a line has at most two digits
 abbrev SmallFate : Fate → Type 0
 SmallFate (stays r) = Unit {0}
 SmallFate (leaves k) = k < 100
 SmallFate (mends r) = Unit {0}
 SmallFate unseen = Unit {0}
 
-small-broken : (r : Record) (rs : List Rule) → All Small rs → SmallFate (answered (unlessBroken r (firstBroken rs)))
-small-broken r [] h = tt
-small-broken r (q ∷ rs) h = go (q .kept) (small-broken r rs (h .1))
-  where
-    go :
-        (t : Bool)
-        → SmallFate (answered (unlessBroken r (firstBroken rs)))
-        → SmallFate (answered (unlessBroken r (unlessKept t (q .number) (firstBroken rs))))
-    go true f = f
-    go false f = h .0
-
-small-judged : (σ : Settings) (kept : List Record) (o : Option Record) → SmallFate (answered (judge σ kept o))
-small-judged σ kept none = omega arith
-small-judged σ kept (some r) =
-    small-broken r (ownRules σ r ++ rulesAgainst kept r)
-    (small-append (ownRules σ r) (rulesAgainst kept r) (own-small σ r) (against-small kept r))
-
-small-or : (t : Bool) (k : ℕ) (o : Outcome) → k < 100 → SmallFate (answered o) → SmallFate (answered (orStop t k o))
-small-or true k o h f = f
-small-or false k o h f = h
-
 small-pass : (σ : Settings) (kept : List Record) (bs : List ℕ) → SmallFate (byPass σ kept bs)
-unfolding step
 small-pass σ kept bs =
-    by-test SmallFate (ltb (length kept) 96) (answered (step σ kept bs)) unseen
-    (λ e.
-    small-or (framed bs) 6 _ (omega arith)
-    (small-or (ltb (length kept) 96) 11 _ (omega arith)
-    (small-or (known (byte bs 0)) 7 _ (omega arith) (small-judged σ kept (decode (σ .chip) (byte bs 0) (content bs))))))
-    (λ e. tt)
+    by-test SmallFate (ltb (length kept) 96) (answered (step σ kept bs)) unseen (λ e. go (step σ kept bs) (step-says σ kept bs)) (λ e. tt)
+  where
+    go : (o : Outcome) → Says σ kept bs o → SmallFate (answered o)
+    go (took r) h = tt
+    go (stop k) h = h
 
 small-chosen : (t : Bool) (r : Record) (k : ℕ) → k < 100 → SmallFate (cond t (stays r) (leaves k))
 small-chosen true r k h = tt

@@ -6,14 +6,15 @@ use mathlib.Core.Path.{_≡_, refl, sym, _∙_, ap}
 use mathlib.Core.Bool.{Bool, true, false, _&&_, _||_}
 use mathlib.Core.List.{List, [], _∷_, _++_, append-nil}
 use lib.ListN.{length, drop, length-append, length-drop, List·getD-append}
-use lib.Seq.{append-snoc, drop-append-le, take-append-le, drop-append-seam, take-all}
+use lib.Seq.{append-snoc, drop-append-le, take-append-le, drop-append-seam}
 use lib.Dec.{ltb, leb}
 use borrow.Author.Tests.{le-leb, lt-leb, leb-true, leb-false, ltb-true, ltb-false, lt-ltb, le-ltb}
 use Rattle.format.specs.Slots.{byte}
 use Rattle.format.specs.Records.{Record}
-use Rattle.format.specs.Verdict.{stated, framed, known}
-use Rattle.format.specs.Decode.{content, decode}
-use Rattle.format.specs.Reader.{Outcome, took, stop, orStop, judge, step, next, halted, pass}
+use Rattle.format.specs.Verdict.{stated, framed}
+use Rattle.format.specs.Decode.{content}
+use Rattle.format.specs.Reader.{Outcome, took, stop, step, next, halted, pass}
+use Rattle.format.proofs.Stepped.{unframed, same-element}
 use Rattle.format.proofs.Passing.{pass-nil}
 use Rattle.format.specs.declared.settings.Settings.{Settings}
 use Rattle.stream.specs.Running.{going, broken, unready, past, settled, runBytes, finish}
@@ -61,7 +62,7 @@ low-frame u h = and-false (leb 3 (length u)) _ (rw (lt-leb 3 (stated u) h) refl)
 pub stated-more : (u xs : List ℕ) → 3 ≤ length u → stated (u ++ xs) ≡ stated u
 stated-more u xs h = rw (List·getD-append u xs 0 1 (omega arith), List·getD-append u xs 0 2 (omega arith)) refl
 
-full-frame : (u : List ℕ) → 3 ≤ stated u → stated u ≤ length u → framed u ≡ true
+pub full-frame : (u : List ℕ) → 3 ≤ stated u → stated u ≤ length u → framed u ≡ true
 full-frame u h g = rw (le-leb 3 (length u) (omega arith), le-leb 3 (stated u) h, le-leb (stated u) (length u) g) refl
 
 content-more : (u xs : List ℕ) → 3 ≤ length u → stated u ≤ length u → content (u ++ xs) ≡ content u
@@ -94,30 +95,12 @@ pub ready-full : (u : List ℕ) → 3 ≤ length u → stated u ≤ length u →
 ready-full u h g = rw (le-ltb (length u) 3 h, le-ltb (length u) (stated u) g) (and-false (leb 3 (stated u)) false refl)
 
 module _ (σ : Settings) where
-  -- 6, of an element under way and of one whose length is under 3
-  pub unframed : (before : List Record) (bs : List ℕ) → framed bs ≡ false → step σ before bs ≡ stop 6
-  unfolding step
-  unframed before bs h = rw h refl
-
   pub same-step : (before : List Record) (u xs : List ℕ) → 3 ≤ stated u → 3 ≤ length u → stated u ≤ length u → step σ before (u ++ xs) ≡ step σ before u
-  unfolding step
   same-step before u xs h l g =
-      rw (
-        content-more u xs l g,
-        List·getD-append u xs 0 0 (omega arith),
-        full-frame u h g,
-        full-frame (u ++ xs) (omega (arith, stated-more u xs l)) (omega (arith, stated-more u xs l, length-append u xs)),
-      ) refl
-
-  -- a whole element is judged by its bytes after the header
-  pub whole-step :
-      (before : List Record) (u : List ℕ)
-      → 3 ≤ length u
-      → stated u ≡ length u
-      → step σ before u ≡ orStop (ltb (length before) 96) 11 (orStop (known (byte u 0)) 7 (judge σ before (decode (σ .chip) (byte u 0) (drop 3 u))))
-  unfolding step
-  whole-step before u h e =
-      rw (full-frame u (omega arith) (omega arith), take-all (stated u - 3) (drop 3 u) (omega (arith, length-drop 3 u))) refl
+      same-element σ before (u ++ xs) u
+      (full-frame (u ++ xs) (omega (arith, stated-more u xs l)) (omega (arith, stated-more u xs l, length-append u xs)) ∙ sym (full-frame u h g))
+      (List·getD-append u xs 0 0 (omega arith))
+      (content-more u xs l g)
 
   -- one turn of the pass over all bytes
   turn :
@@ -147,7 +130,7 @@ module _ (σ : Settings) where
 
   at-end : (u : List ℕ) (n : ℕ) (before : List Record) (at : ℕ) → unready u ≡ true → length u ≤ n → finish (going before at u) ≡ pass σ n before at u
   at-end [] n before at h l = sym (pass-nil σ n before at)
-  at-end (x ∷ u) n before at h l = sym (halts n before at (x ∷ u) (omega arith) l (unframed before (x ∷ u) (lacks-frame (x ∷ u) (lacks (x ∷ u) h))))
+  at-end (x ∷ u) n before at h l = sym (halts n before at (x ∷ u) (omega arith) l (unframed σ before (x ∷ u) (lacks-frame (x ∷ u) (lacks (x ∷ u) h))))
 
   -- an element is complete, and the pass goes on after it
   judged :
@@ -177,10 +160,10 @@ module _ (σ : Settings) where
       → finish (runBytes σ (past before at (length (u ++ x ∷ [])) (step σ before (u ++ x ∷ []))) xs) ≡ pass σ n before at ((u ++ x ∷ []) ++ xs)
   complete xs u x n before at rec k (low g h) l =
       let v = u ++ x ∷ [] in
-      rw (unframed before v (low-frame v h))
+      rw (unframed σ before v (low-frame v h))
       (broken-stays 6 at xs
       ∙ sym (halts n before at (v ++ xs) (omega (arith, length-append v xs)) (omega (arith, length-append v xs))
-      (unframed before (v ++ xs) (low-frame (v ++ xs) (omega (arith, stated-more v xs g))))))
+      (unframed σ before (v ++ xs) (low-frame (v ++ xs) (omega (arith, stated-more v xs g))))))
   complete xs u x n before at rec k (full g h) l =
       judged xs (u ++ x ∷ []) n before at (step σ before (u ++ x ∷ [])) rec g (omega (arith, reached u x k g)) l refl
 

@@ -14,8 +14,9 @@ use Rattle.format.specs.Records.{Record}
 use Rattle.format.specs.Verdict.{stated}
 use Rattle.format.specs.Reader.{step, stop}
 use Rattle.format.specs.declared.settings.Settings.{Settings}
+use Rattle.format.proofs.Stepped.{unframed}
 use Rattle.stream.specs.Running.{Run, going, broken, unready, past, settled, runByte, runBytes}
-use Rattle.stream.proofs.Running.{Lacks, header, bytes, lacks, stated-more, snoc-length, unframed, low-frame, waits-header, waits-bytes, ready-low, ready-full}
+use Rattle.stream.proofs.Running.{Lacks, header, bytes, lacks, stated-more, snoc-length, low-frame, waits-header, waits-bytes, ready-low, ready-full}
 
 -- a part of an element that waits waits too
 waits-part : (v ys : List ℕ) → 0 < length ys → Lacks (v ++ ys) → unready v ≡ true
