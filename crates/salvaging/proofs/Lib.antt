@@ -1,3 +1,4 @@
 pub mod Deciding
 pub mod Salvaging
 pub mod Only
+pub mod Completing
