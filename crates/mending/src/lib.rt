@@ -108,7 +108,7 @@ fn tidy_kept(t: &[u8], kept: &[usize; 96], n: usize, out: &mut [u8])
 }
 
 // The description, in a table of so many bytes.
-fn put_opening(t: &[u8], cleared: bool, len: usize, out: &mut [u8], chip: Chip)
+pub fn put_opening(t: &[u8], cleared: bool, len: usize, out: &mut [u8], chip: Chip)
     requires { ⌜ (16 ≤ length (now t)) × Bytes (now t) × (byte (now t) 0 ≡ 1) × (16 ≤ length (now out)) × (len ≤ 4096) ⌝ }
     ensures { λ _. ⌜ PutsOpening chip (now (t .entry)) cleared len (now (out .entry)) (now (out .exit)) ⌝ }
 {

@@ -2,3 +2,4 @@ pub mod Deciding
 pub mod Salvaging
 pub mod Only
 pub mod Completing
+pub mod Lonely

@@ -42,6 +42,10 @@ pub record Decided (c : Chip) (t : List ℕ) (p : Plan) (kept log : List ℕ) : 
   pub clears : p .cleared ≡ not (among (described c t .string) (stringIndexes (afterZones c t)))
   pub size : LengthIs t kept (p .kept) (p .len)
 
+-- no element can stand behind the description, whose string index is 0
+abbrev pub Alone : List ℕ → Type 0
+Alone t = (length t ≤ 18) × (byte t 4 ≡ 0)
+
 -- every number that is named is declared, and no claim clashes
 abbrev pub Complete : List Bool → List Bool → List Bool → List Bool → ℕ → Type 0
 Complete zs ss zu su clash = Lacks zu zs false × Lacks su ss false × (clash ≡ 65536)

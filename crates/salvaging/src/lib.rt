@@ -12,7 +12,7 @@ ghost use Rattle.saving.specs.Saving.{taken as takenOf, salvageable};
 ghost use Rattle.pass.specs.Tracks.{flags};
 ghost use Rattle.scanning.specs.Scanned.{Scanned};
 ghost use Rattle.mending.specs.Laid.{Listed};
-ghost use Rattle.salvaging.specs.Decided.{described, Decided, NotesFirst, Complete, Passed, PlanIs};
+ghost use Rattle.salvaging.specs.Decided.{described, Decided, NotesFirst, Alone, Complete, Passed, PlanIs};
 ghost use Rattle.salvaging.specs.Salvages.{Salvages};
 use changes::put_lines;
 use claims::Held;
@@ -20,6 +20,7 @@ use fates::Counts;
 use flags::lacks;
 use format::pins::Chip;
 use mending::new_length;
+use mending::put_opening;
 use mending::put_table;
 use pass::State;
 use saving::Salvaged;
@@ -45,6 +46,13 @@ pub fn salvage(file: &[u8], out: &mut [u8], lines: &mut [u8; 32768], chip: Chip)
     let t = taken(file);
     if !sound(t, chip) {
         return Salvaged::Refused(24, 0);
+    }
+    if alone(t) {
+        if out.len() < 16 {
+            return Salvaged::Refused(16, 0);
+        }
+        put_opening(t, false, 16, out, chip);
+        return Salvaged::Done(16, 0);
     }
     let mut kept = [0usize; 96];
     let mut log = [0usize; 1649];
@@ -83,6 +91,17 @@ fn sound(t: &[u8], chip: Chip) -> bool
     }
     let held = claims::first_claims(d);
     held.clash == 65536
+}
+
+// Whether no element can stand behind the description and its string index is 0: then nothing is changed, and no array is laid out.
+fn alone(t: &[u8]) -> bool
+    requires { ⌜ 16 ≤ length (now t) ⌝ }
+    ensures { λ r. ⌜ (r ≡ true → Alone (now (t .entry))) ⌝ }
+{
+    if 18 < t.len() {
+        return false;
+    }
+    t[4] == 0
 }
 
 // What is kept and what is changed, of bytes with a sound description: the pass, then 13, 14 and 15, unless the pass shows that none of

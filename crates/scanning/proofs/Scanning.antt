@@ -118,7 +118,7 @@ begun c t kept log f n s k l e g w =
       onward = refl;
     }
 
-none-standing : (fuel at : ℕ) (bs : List ℕ) → framed bs ≡ false → standing fuel at bs ≡ []
+pub none-standing : (fuel at : ℕ) (bs : List ℕ) → framed bs ≡ false → standing fuel at bs ≡ []
 none-standing zero at bs h = refl
 none-standing (suc n) at bs h = rw h refl
 
