@@ -1,6 +1,6 @@
 -- The bytes of what is kept as they stand: how long they are, and runs of them.
 -- Assumes nothing.
-use Prim.Native.Nat.{ℕ, suc, _+_, _-_, _/_, _≤_, _<_}
+use Prim.Native.Nat.{ℕ, _+_, _-_, _/_, _≤_, _<_}
 use native.Mathlib.Omega.{arith}
 use native.Mathlib.Numerals.{add-one}
 use mathlib.Core.Path.{_≡_, refl, sym, _∙_, ap, subst}
@@ -42,7 +42,8 @@ raws-most t kept j n h =
     omega (arith, ap length e, length-append a b, f)
 
 -- as long as the layouts
-pub raws-length : (c : Chip) (t ns : List ℕ) (ks : List (At Record)) → Each (Keeps c t) ns ks → length (raws t ns) ≡ length (layouts (records ks))
+pub raws-length :
+    (c : Chip) (t ns : List ℕ) (ks : List (At Record)) → Each (Keeps c t) ns ks → length (raws t ns) ≡ length (layouts (records ks))
 raws-length c t [] [] h = refl
 raws-length c t [] (k ∷ ks) h = absurd h
 raws-length c t (n ∷ ns) [] h = absurd h

@@ -1,12 +1,12 @@
 -- The description in the buffer, and one element that was copied there.
 -- Assumes nothing.
-use Prim.Native.Nat.{ℕ, _+_, _*_, _/_, _%_, _≤_, _<_}
+use Prim.Native.Nat.{ℕ, _+_, _/_, _%_, _≤_}
 use native.Mathlib.Omega.{arith}
 use native.Mathlib.Nat.{add-zero}
 use mathlib.Core.Path.{_≡_, refl, sym, _∙_, ap, subst}
 use mathlib.Core.Bool.{Bool, true, false, cond}
-use mathlib.Core.List.{List, [], _∷_, _++_}
-use lib.ListN.{length, take, drop, set, length-drop}
+use mathlib.Core.List.{List, [], _++_}
+use lib.ListN.{length, drop, set, length-drop}
 use lib.Seq.{length-take-le, getD-drop}
 use lib.Dec.{eqb}
 use Rattle.format.specs.Slots.{byte, Bytes, written, word, Starts}
@@ -30,7 +30,7 @@ use Rattle.spelling.specs.Spelling.{Put}
 use Rattle.spelling.proofs.Putting.{put-one}
 use Rattle.saving.specs.Saving.{At, unindexed, unindexedDescription}
 use Rattle.saving.proofs.Clearing.{unindexed-alike}
-use Rattle.fates.specs.Noted.{Keeps, asKept}
+use Rattle.fates.specs.Noted.{Keeps}
 use Rattle.reserved.specs.Zeroed.{reach, zeroed}
 use Rattle.reserved.proofs.Zeroing.{zeroed-behind, zeroed-there, reach-within}
 use Rattle.mending.specs.Laid.{clearedAt, tidied, raw, describedAs, PutsOpening}

@@ -4,7 +4,7 @@ use Prim.Native.Nat.{ℕ, suc, _+_, _/_, _%_, _≤_, _<_}
 use native.Mathlib.Omega.{arith}
 use native.Mathlib.Numerals.{add-one}
 use mathlib.Core.Path.{_≡_, refl, sym, _∙_, ap, subst}
-use mathlib.Core.List.{List, [], _∷_, _++_, append-nil, append-assoc}
+use mathlib.Core.List.{List, [], _++_, append-nil, append-assoc}
 use lib.ListN.{length, take, drop, getD, length-append, drop-of-length-le, take-append-drop}
 use lib.Seq.{drop-cons, getD-take, length-take-le}
 use lib.Dec.{eqb}
@@ -22,7 +22,7 @@ use Rattle.spelling.proofs.Putting.{then, put-one}
 use Rattle.saving.specs.Saving.{At, records}
 use Rattle.fates.specs.Noted.{Each, Keeps}
 use Rattle.reserved.specs.Zeroed.{reach}
-use Rattle.mending.specs.Laid.{tidied, raw, raws, Listed, Copyable, Copied, Tidies, Fitting}
+use Rattle.mending.specs.Laid.{tidied, raw, raws, Copyable, Copied, Tidies, Fitting}
 use Rattle.mending.proofs.Laying.{size-there, inside, reach-there, tidied-there}
 use Rattle.mending.proofs.Listing.{leftover, sized, spot, keeps-at, left-length, left-written, none-left, Summing}
 use Rattle.mending.proofs.Copying.{raws-length}
@@ -107,7 +107,8 @@ module _ (c : Chip) (t kept : List ℕ) (n : ℕ) (few : n ≤ 96) (long : lengt
     pub tidy-ends : n ≤ i → out ≡ x ++ (written (layouts (records ks)) ++ y)
     tidy-ends b =
         let none = none-left c t kept n few long ks all i b in
-        let gone : drop i (take n kept) ≡ [] = drop-of-length-le (take n kept) {i = i} (omega (arith, b, sized c t kept n few long ks all)) in
+        let gone : drop i (take n kept) ≡ [] =
+        drop-of-length-le (take n kept) {i = i} (omega (arith, b, sized c t kept n few long ks all)) in
         let q : w .so-far ≡ written (layouts (records ks)) =
         sym (append-nil (w .so-far)) ∙ ap (λ (l : List Slot). w .so-far ++ written l) (sym none) ∙ w .whole in
         w .stands

@@ -1,11 +1,11 @@
 -- Bytes that start with an element are, with its reserved places at zero, what is written of its record: by its kind.
 -- Assumes nothing.
-use Prim.Native.Nat.{ℕ, suc, _+_, _*_, _/_, _%_, _≤_}
+use Prim.Native.Nat.{ℕ, suc, _+_, _/_, _%_, _≤_}
 use native.Mathlib.Omega.{arith}
 use mathlib.Core.Path.{_≡_, refl, sym, _∙_, ap}
-use mathlib.Core.Bool.{Bool, true, false, not, _&&_, _||_, cond, false≢true}
+use mathlib.Core.Bool.{Bool, true, false, _&&_, cond, false≢true}
 use mathlib.Core.List.{List, [], _∷_, _++_, map}
-use lib.ListN.{length, take, drop, set, take-append-drop}
+use lib.ListN.{length, drop, set, take-append-drop}
 use lib.Seq.{getD-append-add}
 use lib.Dec.{eqb}
 use borrow.Author.Tests.{not-true, eq-eqb, ne-eqb}
@@ -199,7 +199,8 @@ module _ (c : Chip) (bs rest : List ℕ) where
       w .1 ∙ rw (as-it-stands (w .0) more rest refl (w .2)) refl
   zeroed-there (controller d l) k h =
       let x = controller d l in
-      let w = bus-there 9 (3 + length (body x)) (d .placement) (part x) bs rest (d .bus) (d .address) (on-its-bus (d .bus) (d .address) k) h in
+      let w =
+      bus-there 9 (3 + length (body x)) (d .placement) (part x) bs rest (d .bus) (d .address) (on-its-bus (d .bus) (d .address) k) h in
       w .1 ∙ rw (part-stands x (w .0) rest (w .2)) refl
   zeroed-there (tachometer d a b) k h =
       let w =

@@ -1,20 +1,18 @@
 -- A description with no element behind it and string index 0: nothing is kept, nothing is changed, and the new table has 16 bytes.
 -- Assumes nothing.
-use Prim.Native.Nat.{ℕ, _≤_}
+use Prim.Native.Nat.{ℕ}
 use native.Mathlib.Omega.{arith}
 use mathlib.Core.Path.{_≡_, refl, sym, _∙_, ap}
 use mathlib.Core.Bool.{Bool, true, false, not, cond}
 use mathlib.Core.List.{List, [], _∷_}
 use lib.ListN.{length, drop, replicate, length-replicate}
-use Rattle.format.specs.Slots.{byte, written}
-use Rattle.format.specs.Records.{Record}
+use Rattle.format.specs.Slots.{byte}
 use Rattle.format.specs.Pins.{among}
 use Rattle.format.specs.Writing.{writing}
 use Rattle.format.specs.declared.pins.Chip.{Chip}
 use Rattle.pass.proofs.Moving.{unframed-short}
 use Rattle.spelling.proofs.Putting.{put-none}
-use Rattle.saving.specs.Saving.{At, Line, line, cleared, Saved, saved, elements, sift, byPass, zoned, stringIndexes, named, unclashed}
-use Rattle.fates.specs.Noted.{Each, Keeps, Codes}
+use Rattle.saving.specs.Saving.{line, cleared, Saved, saved, elements, sift, byPass, zoned, stringIndexes, named, unclashed}
 use Rattle.scanning.specs.Scanned.{afterPass}
 use Rattle.scanning.proofs.Scanning.{none-standing}
 use Rattle.mending.specs.Laid.{LengthIs, PutsOpening, PutsTable}

@@ -1,6 +1,5 @@
 -- `put_table` meets its contract: the description, then the bytes of what is kept, then these tidied.
 -- Assumes nothing.
-use borrow.Author.Needs.{needs}
 use native.Mathlib.Omega.{arith}
 use denote.Ref.{now}
 use Rattle.format.specs.Slots.{byte}

@@ -48,7 +48,8 @@ loop-holds c =
       omega (arith, p .1),
       omega arith,
       omega (arith, c .length-at .ensures, size-there _ _ _ _ k, inside _ _ _ _ k),
-      run-begun (now (s .args .t)) (now (s .args .kept)) (s .args .i) (c .length-at .result) (omega (arith, p .1, p .0 .few, p .0 .long)) (c .length-at .ensures),
+      run-begun (now (s .args .t)) (now (s .args .kept)) (s .args .i) (c .length-at .result) (omega (arith, p .1, p .0 .few, p .0 .long))
+          (c .length-at .ensures),
     )
 
 mul-held : tie.Need-mul-held Inv-loop μ-loop

@@ -2,7 +2,7 @@
 -- Assumes nothing.
 use borrow.Author.Needs.{needs}
 use native.Mathlib.Omega.{arith}
-use mathlib.Core.Path.{sym, _∙_, ap}
+use mathlib.Core.Path.{sym, _∙_}
 use denote.Ref.{now}
 use Rattle.reserved.proofs.Zeroing.{on-bus, on-2, on-8, on-10, on-none}
 use Rattle.reserved.proofs.clear_reserved.Statement.{statement}
@@ -52,7 +52,8 @@ slice-write-buf-2 c =
     let a = l .before in
     let s = a .before .before in
     let e =
-    on-8 (s .args .id) (s .args .at) (now (s .args .buf)) (sym (a .on-bus .ensures) ∙ l .if1 .left) (c .before .if2 .left) (c .if3 .taken) in
+    on-8 (s .args .id) (s .args .at) (now (s .args .buf)) (sym (a .on-bus .ensures) ∙ l .if1 .left) (c .before .if2 .left)
+    (c .if3 .taken) in
     omega (arith, e .0, s .pre)
 
 returns-3 : tie.Need-returns-3

@@ -33,7 +33,8 @@ sift-requires-2 c κs =
     let x = y .sift .ensures in
     let n = noted-13 _ _ _ h (f .clear) _ _ _ _ _ p x in
     let q = clears-14 _ _ _ h (f .clear) _ _ (p .index) (w .wide .ensures .0) (w .wide .ensures .1) in (
-      ready-14 _ _ _ h (f .clear) _ _ _ _ _ _ n (omega (arith, x .not-many, p .few-lines, p .notes .few)) _ q (z .note-first .ensures) (p .index) (s .pre .0),
+      ready-14 _ _ _ h (f .clear) _ _ _ _ _ _ n (omega (arith, x .not-many, p .few-lines, p .notes .few)) _ q (z .note-first .ensures)
+          (p .index) (s .pre .0),
       length-replicate {A = ℕ} 96 0,
     )
 
@@ -51,7 +52,9 @@ sift-requires-3 c κs =
     let n = noted-13 _ _ _ h (f .clear) _ _ _ _ _ p x in
     let q = clears-14 _ _ _ h (f .clear) _ _ (p .index) (w .wide .ensures .0) (w .wide .ensures .1) in
     let k = v .sift2 .ensures in
-    let o = noted-14 _ _ _ h (f .clear) _ _ _ _ _ _ n (omega (arith, x .not-many, p .few-lines, p .notes .few)) _ q (z .note-first .ensures) (p .index) k in (
+    let o =
+    noted-14 _ _ _ h (f .clear) _ _ _ _ _ _ n (omega (arith, x .not-many, p .few-lines, p .notes .few)) _ q (z .note-first .ensures)
+    (p .index) k in (
       ready-15 _ _ _ h (f .clear) _ _ _ _ o
           (omega (arith, x .not-many, p .few-lines, p .notes .few, z .note-first .ensures .more, k .not-many, n .few))
           (p .index) (s .pre .0),
@@ -73,7 +76,9 @@ planned-requires c κs =
     let n = noted-13 _ _ _ h (f .clear) _ _ _ _ _ p x in
     let q = clears-14 _ _ _ h (f .clear) _ _ (p .index) (w .wide .ensures .0) (w .wide .ensures .1) in
     let k = v .sift2 .ensures in
-    let o = noted-14 _ _ _ h (f .clear) _ _ _ _ _ _ n (omega (arith, x .not-many, p .few-lines, p .notes .few)) _ q (z .note-first .ensures) (p .index) k in
+    let o =
+    noted-14 _ _ _ h (f .clear) _ _ _ _ _ _ n (omega (arith, x .not-many, p .few-lines, p .notes .few)) _ q (z .note-first .ensures)
+    (p .index) k in
     listed _ _ _ _ _
     (noted-15 _ _ _ h (f .clear) _ _ _ _ o
     (omega (arith, x .not-many, p .few-lines, p .notes .few, z .note-first .ensures .more, k .not-many, n .few))
@@ -95,7 +100,9 @@ returns c =
     let n = noted-13 _ _ _ h (f .clear) _ _ _ _ _ p x in
     let q = clears-14 _ _ _ h (f .clear) _ _ (p .index) (w .wide .ensures .0) (w .wide .ensures .1) in
     let k = v .sift2 .ensures in
-    let o = noted-14 _ _ _ h (f .clear) _ _ _ _ _ _ n (omega (arith, x .not-many, p .few-lines, p .notes .few)) _ q (z .note-first .ensures) (p .index) k in
+    let o =
+    noted-14 _ _ _ h (f .clear) _ _ _ _ _ _ n (omega (arith, x .not-many, p .few-lines, p .notes .few)) _ q (z .note-first .ensures)
+    (p .index) k in
     decided _ _ _ _ _ _ _ (c .planned .ensures)
     (noted-15 _ _ _ h (f .clear) _ _ _ _ o
     (omega (arith, x .not-many, p .few-lines, p .notes .few, z .note-first .ensures .more, k .not-many, n .few))

@@ -87,8 +87,8 @@ put-lines-requires c κs =
     let d = c .before .before .before .before .before .before .before .before .before in
     let e = d .before .before .before .before .before in
     let s = e .before .before .before .before .before in
-    lines-there _ (now (s .args .file)) _ (now (s .args .out)) (now (s .args .lines)) (e .before .before .taken .ensures) (small e) (good e) _ _ _
-    (d .decide .ensures)
+    lines-there _ (now (s .args .file)) _ (now (s .args .out)) (now (s .args .lines)) (e .before .before .taken .ensures) (small e) (good e)
+    _ _ _ (d .decide .ensures)
 
 returns-5 : tie.Need-returns-5
 returns-5 c =

@@ -1,13 +1,11 @@
 -- `scan` meets its contract: what is left to do ends where the whole ends.
 -- Assumes nothing.
-use Prim.Native.Nat.{_+_, _-_, _*_, _<_, _≤_}
+use Prim.Native.Nat.{_+_, _-_, _*_, _≤_}
 use native.Mathlib.Omega.{arith}
-use mathlib.Core.Path.{_≡_, refl}
 use denote.Ref.{now}
-use lib.ListN.{length, drop}
+use lib.ListN.{length}
 use lib.Seq.{length-slice}
 use borrow.Author.Needs.{needs}
-use Rattle.format.specs.Verdict.{stated}
 use Rattle.pass.specs.Tracks.{flags}
 use Rattle.pass.proofs.Moving.{unframed-short, unframed-small, unframed-long}
 use Rattle.scanning.proofs.Scanning.{Scanning, begun, low, ended, filled, turned}
@@ -38,7 +36,8 @@ returns c =
     let i = l .loop .inv in
     let q = c .summed .ensures in
     ended _ _ _ _ _ _ _ _ _ (i .1) _ (q .0) (q .1) (i .0) (l .before .before .before .pre .1)
-    (unframed-small (now (l .before .before .before .args .t)) (l .loop .at) (c .before .before .length-at .ensures) (c .before .if1 .taken))
+    (unframed-small (now (l .before .before .before .args .t)) (l .loop .at) (c .before .before .length-at .ensures)
+    (c .before .if1 .taken))
 
 returns-2 : tie.Need-returns-2 Inv-loop μ-loop
 returns-2 c =
