@@ -3,20 +3,19 @@
 use Prim.Native.Nat.{ℕ, zero, suc, _+_, _≤_, _<_}
 use native.Mathlib.Omega.{arith}
 use mathlib.Core.Path.{_≡_, refl, sym, _∙_, ap}
-use mathlib.Core.Bool.{Bool, true, false, cond}
+use mathlib.Core.Bool.{true}
 use mathlib.Core.List.{List, [], _∷_, _++_, map}
-use lib.ListN.{length, take, drop, set, length-set, length-map, length-append}
-use lib.Seq.{length-take-le, set-append-left}
-use lib.Dec.{eqb}
+use lib.ListN.{length, set, length-set, length-map}
+use lib.Seq.{set-append-left}
 use borrow.Author.Tests.{eq-eqb, ne-eqb, eqb-true, leb-true}
 use Rattle.format.specs.Slots.{Slot, whole, written, byteOf, byte}
 use Rattle.format.specs.Records.{Record, digital, analogue, fan, led, water, pump, voltage, current, controller, tachometer, zone, string, external, rgb}
 use Rattle.format.specs.Layout.{layout}
 use Rattle.format.specs.Rules.{shaped}
 use Rattle.format.specs.ZonesAndStrings.{Role, placed, zoning, naming, role}
-use Rattle.format.specs.Writing.{overwritten}
 use Rattle.format.proofs.Written.{length-written}
 use Rattle.places.specs.Walks.{RoleBytes}
+use Rattle.reserved.proofs.Zeroing.{set-behind}
 use Rattle.saving.specs.Saving.{unindexed}
 use Rattle.mending.specs.Laid.{clearedAt}
 
@@ -70,56 +69,37 @@ written-set [] k = refl
 written-set (s ∷ ss) zero = refl
 written-set (s ∷ ss) (suc k) = ap (λ (l : List ℕ). byteOf s ∷ l) (written-set ss k)
 
-set-behind : (xs ys : List ℕ) (k v : ℕ) → set (xs ++ ys) (length xs + k) v ≡ xs ++ set ys k v
-set-behind [] ys k v = let e : 0 + k ≡ k = omega arith in rw e refl
-set-behind (x ∷ xs) ys k v =
-    let e : suc (length xs) + k ≡ suc (length xs + k) = omega arith in
-    rw e (ap (λ (l : List ℕ). x ∷ l) (set-behind xs ys k v))
-
-set-over :
-    (at k : ℕ) (new b : List ℕ)
-    → at ≤ length b
-    → k < length new
-    → set (overwritten at new b) (at + k) 0 ≡ overwritten at (set new k 0) b
-set-over at k new b h l =
-    let e : length (take at b) ≡ at = length-take-le at b h in
-    let n : at + length (set new k 0) ≡ at + length new = ap (λ (m : ℕ). at + m) (length-set new k 0) in
-    set-append-left (take at b ++ new) (drop (at + length new) b) (at + k) 0 (omega (arith, e, l, length-append (take at b) new))
-    ∙ ap (λ (x : List ℕ). x ++ drop (at + length new) b)
-    (ap (λ (m : ℕ). set (take at b ++ new) (m + k) 0) (sym e) ∙ set-behind (take at b) new k 0)
-    ∙ ap (λ (m : ℕ). take at b ++ set new k 0 ++ drop m b) (sym n)
-
-over-cleared :
-    (at k : ℕ) (ss : List Slot) (b : List ℕ)
-    → at ≤ length b
+set-written :
+    (x : List ℕ) (k : ℕ) (ss : List Slot) (more : List ℕ)
     → k < length ss
-    → set (overwritten at (written ss) b) (at + k) 0 ≡ overwritten at (written (set ss k (whole 0))) b
-over-cleared at k ss b h l =
-    set-over at k (written ss) b h (omega (arith, l, length-written ss)) ∙ ap (λ (x : List ℕ). overwritten at x b) (sym (written-set ss k))
+    → set (x ++ (written ss ++ more)) (length x + k) 0 ≡ x ++ (written (set ss k (whole 0)) ++ more)
+set-written x k ss more l =
+    set-behind x (written ss ++ more) k 0
+    ∙ ap (λ (w : List ℕ). x ++ w)
+    (set-append-left (written ss) more k 0 (omega (arith, l, length-written ss)) ∙ ap (λ (w : List ℕ). w ++ more) (sym (written-set ss k)))
 
--- the index of the element at a place is cleared, by its identifier
-pub cleared-over :
-    (r : Record) (t : List ℕ) (from at : ℕ) (b : List ℕ)
+-- the index of the element behind other bytes is cleared, by its identifier
+pub cleared-behind :
+    (r : Record) (t : List ℕ) (from : ℕ) (x more : List ℕ)
     → RoleBytes t from (role r)
     → shaped r ≡ true
-    → at ≤ length b
-    → clearedAt (byte t from) at (overwritten at (written (layout r)) b) ≡ overwritten at (written (layout (unindexed r))) b
-cleared-over r t from at b h s l =
+    → clearedAt (byte t from) (length x) (x ++ (written (layout r) ++ more)) ≡ x ++ (written (layout (unindexed r)) ++ more)
+cleared-behind r t from x more h s =
     go (role r) h (cleared-layout r)
   where
     long : 5 ≤ length (layout r)
     long = long-enough r s
 
-    laid : {ss : List Slot} → layout (unindexed r) ≡ ss → overwritten at (written ss) b ≡ overwritten at (written (layout (unindexed r))) b
-    laid e = ap (λ (l : List Slot). overwritten at (written l) b) (sym e)
+    laid : {ss : List Slot} → layout (unindexed r) ≡ ss → x ++ (written ss ++ more) ≡ x ++ (written (layout (unindexed r)) ++ more)
+    laid e = ap (λ (l : List Slot). x ++ (written l ++ more)) (sym e)
 
     go :
-        (x : Role)
-        → RoleBytes t from x
-        → layout (unindexed r) ≡ clearedSlots x (layout r)
-        → clearedAt (byte t from) at (overwritten at (written (layout r)) b) ≡ overwritten at (written (layout (unindexed r))) b
+        (p : Role)
+        → RoleBytes t from p
+        → layout (unindexed r) ≡ clearedSlots p (layout r)
+        → clearedAt (byte t from) (length x) (x ++ (written (layout r) ++ more)) ≡ x ++ (written (layout (unindexed r)) ++ more)
     go (placed p) h e =
-        rw (ne-eqb (byte t from) 11 (h .0), ne-eqb (byte t from) 12 (h .1)) (over-cleared at 3 (layout r) b l (omega (arith, long)))
+        rw (ne-eqb (byte t from) 11 (h .0), ne-eqb (byte t from) 12 (h .1)) (set-written x 3 (layout r) more (omega (arith, long)))
         ∙ laid e
-    go (zoning bytes) h e = rw (eq-eqb (byte t from) 11 (h .0)) (over-cleared at 4 (layout r) b l (omega (arith, long))) ∙ laid e
+    go (zoning bytes) h e = rw (eq-eqb (byte t from) 11 (h .0)) (set-written x 4 (layout r) more (omega (arith, long))) ∙ laid e
     go (naming bytes) h e = rw (h .0) refl ∙ laid e

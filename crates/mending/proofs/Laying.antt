@@ -1,28 +1,27 @@
--- The description and one element in the buffer.
+-- The description in the buffer, and one element that was copied there.
 -- Assumes nothing.
-use Prim.Native.Nat.{ℕ, _+_, _*_, _/_, _%_, _≤_, _<_}
+use Prim.Native.Nat.{ℕ, _+_, _/_, _%_, _≤_}
 use native.Mathlib.Omega.{arith}
+use native.Mathlib.Nat.{add-zero}
 use mathlib.Core.Path.{_≡_, refl, sym, _∙_, ap, subst}
 use mathlib.Core.Bool.{Bool, true, false, cond}
-use mathlib.Core.List.{List, [], _∷_, _++_}
-use lib.ListN.{length, take, drop, set}
+use mathlib.Core.List.{List, [], _++_}
+use lib.ListN.{length, drop, set, length-drop}
+use lib.Seq.{length-take-le, getD-drop}
 use lib.Dec.{eqb}
-use Rattle.format.specs.Slots.{byte, Bytes, written, word, allRoomy}
+use Rattle.format.specs.Slots.{byte, Bytes, written, word, Starts}
 use Rattle.format.specs.Records.{Record, elementOf}
-use Rattle.format.specs.Layout.{opening, layout, part, fixed}
-use Rattle.format.specs.Rules.{descriptionRoomy, elementRoomy, shaped}
+use Rattle.format.specs.Layout.{opening, idOf, layout}
+use Rattle.format.specs.Rules.{descriptionRoomy, shaped}
 use Rattle.format.specs.ZonesAndStrings.{role}
 use Rattle.format.specs.Verdict.{stated}
 use Rattle.format.specs.Decode.{readDescription}
-use Rattle.format.specs.Writing.{overwritten, elementSlots, writing}
+use Rattle.format.specs.Writing.{overwritten, writing}
 use Rattle.format.specs.declared.pins.Chip.{Chip}
 use Rattle.format.specs.declared.records.Description.{Description}
-use Rattle.format.specs.declared.records.Element.{Element}
-use Rattle.format.proofs.Slots.{over-starts, starts-roomy, bytes-drop, roomy-split, starts-length}
+use Rattle.format.proofs.Slots.{starts-over, over-starts, starts-more, take-fits, starts-roomy}
 use Rattle.format.proofs.EachKind.{description-fits}
-use Rattle.format.proofs.Written.{length-written}
 use Rattle.format.proofs.Kept.{own-kept}
-use Rattle.demands.proofs.Assembled.{slots-written, slots-length, body-roomy}
 use Rattle.demands.proofs.Demand2.{opening-roomy}
 use Rattle.places.specs.Walks.{RoleBytes}
 use Rattle.places.proofs.Roles.{role-bytes}
@@ -31,9 +30,11 @@ use Rattle.spelling.specs.Spelling.{Put}
 use Rattle.spelling.proofs.Putting.{put-one}
 use Rattle.saving.specs.Saving.{At, unindexed, unindexedDescription}
 use Rattle.saving.proofs.Clearing.{unindexed-alike}
-use Rattle.fates.specs.Noted.{Keeps, asKept}
-use Rattle.mending.specs.Laid.{clearedAt, describedAs, PutsKept, PutsOpening}
-use Rattle.mending.proofs.Clearing.{cleared-over, long-enough}
+use Rattle.fates.specs.Noted.{Keeps}
+use Rattle.reserved.specs.Zeroed.{reach, zeroed}
+use Rattle.reserved.proofs.Zeroing.{zeroed-behind, zeroed-there, reach-within}
+use Rattle.mending.specs.Laid.{clearedAt, tidied, raw, describedAs, PutsOpening}
+use Rattle.mending.proofs.Clearing.{cleared-behind, long-enough}
 
 -- the description that stands in the bytes has room for its numbers
 pub read-roomy : (c : Chip) (t : List ℕ) → Bytes t → 16 ≤ length t → byte t 0 ≡ 1 → descriptionRoomy (readDescription c (byte t)) ≡ true
@@ -101,58 +102,47 @@ module _ (c : Chip) (t : List ℕ) (n : ℕ) (k : At Record) (h : Keeps c t n k)
   pub inside : (n / 2 + length (layout (k .what)) ≤ length t) × (5 ≤ length (layout (k .what)))
   inside = (omega (arith, size-there, stands-there .within), omega (arith, same-size, long-enough (h .r) whole-shape))
 
-  module _ (e : Element) (p : List ℕ) (is : e ≡ elementOf (h .r)) (has : p ≡ written (part (h .r))) (at : ℕ) (out : List ℕ)
-      (room : at + length (layout (k .what)) ≤ length out) where
-    pub fits-there :
-        Bytes t
-        → length t ≤ 4096
-        → (elementRoomy e ≡ true) × (length (elementSlots e p) ≤ 4096) × (at + length (elementSlots e p) ≤ length out)
-    fits-there small top =
-        let roomy =
-        starts-roomy (drop (k .place) t) (layout (h .r)) (h .here .stands .rest) (bytes-drop (k .place) t small)
-        (h .here .stands .starts) in
-        let size : length (elementSlots (elementOf (h .r)) (written (part (h .r)))) ≡ length (layout (k .what)) = slots-length (h .r)
-        ∙ sym same-size in
-        rw (is, has) (
-          roomy-split (fixed (elementOf (h .r))) (part (h .r)) (body-roomy (h .r) roomy) .0,
-          omega (arith, size, inside, top),
-          omega (arith, size, room),
-        )
+  pub id-there : byte t (n / 2) ≡ idOf (elementOf (h .r))
+  id-there =
+      let st = stands-there .stands in
+      ap (λ (m : ℕ). byte t m) (sym (add-zero (n / 2)))
+      ∙ sym (getD-drop (n / 2) t 0 0)
+      ∙ starts-over (drop (n / 2) t) (layout (h .r)) (st .rest) (st .starts) .0
 
-    module _ (after : List ℕ) (put : after ≡ overwritten at (written (elementSlots e p)) out) (r len : ℕ)
-        (size : len ≡ stated (drop (n / 2) t)) (ends : r ≡ at + len) where
-      laid : after ≡ overwritten at (written (layout (h .r))) out
-      laid = put ∙ rw (is, has) (ap (λ (l : List ℕ). overwritten at l out) (slots-written (h .r)))
+  pub reach-there : reach (byte t (n / 2)) ≤ length (layout (k .what))
+  reach-there = rw id-there (omega (arith, same-size, reach-within (h .r)))
 
-      far : r ≡ at + length (layout (k .what))
-      far = omega (arith, ends, size, size-there)
+  pub raw-length : length (raw t n) ≡ length (layout (k .what))
+  raw-length =
+      length-take-le (stated (drop (n / 2) t)) (drop (n / 2) t) (omega (arith, stands-there .within, length-drop (n / 2) t))
+      ∙ sym size-there
 
-      end-put :
-          (x : Record) (b : List ℕ)
-          → k .what ≡ x
-          → b ≡ overwritten at (written (layout x)) out
-          → Put out at (written (layout (k .what))) r b
-      end-put x b e q =
-          let same = ap (λ (y : Record). length (layout y)) e in
-          let n : at + length (written (layout x)) ≡ r = omega (arith, length-written (layout x), far, same) in
-          rw (e, q)
-          (subst (λ (m : ℕ). Put out at (written (layout x)) m (overwritten at (written (layout x)) out)) n
-          (put-one out at (written (layout x)) (omega (arith, length-written (layout x), room, same))))
+  -- the bytes of the element as they stand, behind others and before others
+  module _ (x more out : List ℕ) (is : out ≡ x ++ (raw t n ++ more)) where
+    starts-there : Starts (raw t n ++ more) (layout (h .r)) more
+    starts-there =
+        let st = stands-there .stands in
+        starts-more (raw t n) (layout (h .r)) [] more
+        (rw (stands-there .size) (take-fits (drop (n / 2) t) (layout (h .r)) (st .rest) (st .starts)))
 
-      -- its index cleared or not
-      pub put-there :
-          (b : List ℕ)
-          → b ≡ cond (eqb (n % 2) 1) (clearedAt (byte t (n / 2)) at after) after
-          → Put out at (written (layout (k .what))) r b
-      put-there b q = go (eqb (n % 2) 1) refl q
-        where
-          go :
-              (x : Bool)
-              → eqb (n % 2) 1 ≡ x
-              → b ≡ cond x (clearedAt (byte t (n / 2)) at after) after
-              → Put out at (written (layout (k .what))) r b
-          go true f q =
-              end-put (unindexed (h .r)) b (h .what ∙ rw f refl)
-              (q ∙ ap (λ (l : List ℕ). clearedAt (byte t (n / 2)) at l) laid ∙ cleared-over (h .r) t (n / 2) at out role-there whole-shape
-              (omega (arith, room)))
-          go false f q = end-put (h .r) b (h .what ∙ rw f refl) (q ∙ laid)
+    zeroed-here : zeroed (byte t (n / 2)) (length x) out ≡ x ++ (written (layout (h .r)) ++ more)
+    zeroed-here =
+        ap (zeroed (byte t (n / 2)) (length x)) is
+        ∙ zeroed-behind (byte t (n / 2)) x (raw t n ++ more)
+        ∙ ap (λ (l : List ℕ). x ++ l)
+        (ap (λ (id : ℕ). zeroed id 0 (raw t n ++ more)) id-there
+        ∙ zeroed-there c (raw t n ++ more) more (h .r) (stands-there .stands .kind) starts-there)
+
+    -- its index cleared or not
+    pub tidied-there : tidied (byte t (n / 2)) (eqb (n % 2) 1) (length x) out ≡ x ++ (written (layout (k .what)) ++ more)
+    tidied-there = go (eqb (n % 2) 1) refl
+      where
+        as-kept : (r : Record) → k .what ≡ r → x ++ (written (layout r) ++ more) ≡ x ++ (written (layout (k .what)) ++ more)
+        as-kept r e = ap (λ (y : Record). x ++ (written (layout y) ++ more)) (sym e)
+
+        go : (b : Bool) → eqb (n % 2) 1 ≡ b → tidied (byte t (n / 2)) b (length x) out ≡ x ++ (written (layout (k .what)) ++ more)
+        go true f =
+            ap (clearedAt (byte t (n / 2)) (length x)) zeroed-here
+            ∙ cleared-behind (h .r) t (n / 2) x more role-there whole-shape
+            ∙ as-kept (unindexed (h .r)) (h .what ∙ rw f refl)
+        go false f = zeroed-here ∙ as-kept (h .r) (h .what ∙ rw f refl)

@@ -1,3 +1,5 @@
 pub mod Clearing
 pub mod Laying
 pub mod Listing
+pub mod Copying
+pub mod Tidying

@@ -1,34 +1,30 @@
--- The loops over what is kept: its length, and its layout behind the description's.
+-- What is kept, from a position on: its layout, and the loop over its length.
 -- Assumes nothing.
-use Prim.Native.Nat.{ℕ, zero, suc, _+_, _*_, _/_, _≤_, _<_}
+use Prim.Native.Nat.{ℕ, _+_, _/_, _≤_, _<_}
 use native.Mathlib.Omega.{arith}
 use native.Mathlib.Numerals.{add-one}
-use mathlib.Core.Path.{_≡_, refl, sym, _∙_, ap, subst}
-use mathlib.Core.List.{List, [], _∷_, _++_, append-nil, append-assoc}
+use mathlib.Core.Path.{_≡_, sym, _∙_, ap}
+use mathlib.Core.List.{List, [], _++_}
 use lib.ListN.{length, take, drop, getD, length-append, drop-of-length-le}
 use lib.Seq.{length-take-le, getD-take}
 use Rattle.format.specs.Slots.{Slot, written}
 use Rattle.format.specs.Records.{Record}
-use Rattle.format.specs.Layout.{opening, layout, layouts, table, placeAfter}
+use Rattle.format.specs.Layout.{layout, layouts, placeAfter}
 use Rattle.format.specs.Verdict.{stated}
 use Rattle.format.specs.declared.pins.Chip.{Chip}
-use Rattle.format.specs.declared.records.Description.{Description}
 use Rattle.format.proofs.Whole.{written-append}
-use Rattle.format.proofs.Written.{length-written}
-use Rattle.spelling.specs.Spelling.{Put}
-use Rattle.spelling.proofs.Putting.{then, put-none}
 use Rattle.saving.specs.Saving.{At, records}
 use Rattle.fates.specs.Noted.{Each, Keeps}
 use Rattle.fates.proofs.Noting.{Spot, each-at, each-length}
 use Rattle.mending.specs.Laid.{LengthIs}
 
 -- what is left of the layout from a position on
-abbrev leftover : List (At Record) → ℕ → List Slot
+abbrev pub leftover : List (At Record) → ℕ → List Slot
 leftover ks i = layouts (records (drop i ks))
 
 module _ (c : Chip) (t kept : List ℕ) (n : ℕ) (few : n ≤ 96) (long : length kept ≡ 96) (ks : List (At Record))
     (all : Each (Keeps c t) (take n kept) ks) where
-  sized : length (take n kept) ≡ n
+  pub sized : length (take n kept) ≡ n
   sized = length-take-le n kept (omega (arith, few, long))
 
   module _ (i : ℕ) (b : i < n) where
@@ -79,53 +75,3 @@ sum-on t kept n i end len few long b e size w c ks all =
 
 pub sum-ends : (t kept : List ℕ) (n i end : ℕ) → n ≤ 96 → length kept ≡ 96 → n ≤ i → Summing t kept n i end → LengthIs t kept n end
 sum-ends t kept n i end few long b w c ks all = omega (arith, w c ks all, ap length (none-left c t kept n few long ks all i b))
-
--- THE INVARIANT of the layout: what stands in the buffer behind the description, and what is left, are all
-pub record Laying (ks : List (At Record)) (len : ℕ) (out₀ : List ℕ) (i end : ℕ) (out : List ℕ) : Type 0 where
-  pub so-far : List ℕ
-  pub put : Put out₀ 16 so-far end out
-  pub sum : end + length (leftover ks i) ≡ len
-  pub whole : so-far ++ written (leftover ks i) ≡ written (layouts (records ks))
-
-pub lay-begun : (ks : List (At Record)) (len : ℕ) (out : List ℕ) → len ≡ placeAfter (records ks) → Laying ks len out 0 16 out
-lay-begun ks len out e = record { so-far = []; put = put-none out 16; sum = omega (arith, e); whole = refl }
-
-module _ (c : Chip) (t kept : List ℕ) (n : ℕ) (few : n ≤ 96) (long : length kept ≡ 96) (ks : List (At Record))
-    (all : Each (Keeps c t) (take n kept) ks) (len : ℕ) (out₀ : List ℕ) (i end : ℕ) (out : List ℕ)
-    (w : Laying ks len out₀ i end out) where
-  pub lay-room : (b : i < n) → end + length (layout (spot c t kept n few long ks all i b .x .what)) ≤ len
-  lay-room b = omega (arith, w .sum, left-length c t kept n few long ks all i b)
-
-  pub lay-on :
-      (b : i < n) (end′ : ℕ) (out′ : List ℕ)
-      → Put out end (written (layout (spot c t kept n few long ks all i b .x .what))) end′ out′
-      → Laying ks len out₀ (i + 1) end′ out′
-  lay-on b end′ out′ p =
-      let x = spot c t kept n few long ks all i b .x .what in
-      record {
-        so-far = w .so-far ++ written (layout x);
-        put = then (w .put) p;
-        sum = omega (arith, w .sum, p .ends, left-length c t kept n few long ks all i b, length-written (layout x));
-        whole =
-            append-assoc (w .so-far) (written (layout x)) (written (leftover ks (i + 1)))
-            ∙ ap (λ (l : List ℕ). w .so-far ++ l) (sym (left-written c t kept n few long ks all i b))
-            ∙ w .whole;
-      }
-
-  pub lay-ends :
-      n ≤ i
-      → (d : Description) (b : List ℕ)
-      → len ≡ placeAfter (records ks)
-      → Put b 0 (written (opening d len)) 16 out₀
-      → Put b 0 (written (table d (records ks))) len out
-  lay-ends h d b size p =
-      let none = none-left c t kept n few long ks all i h in
-      let e : end ≡ len = omega (arith, w .sum, ap length none) in
-      let q : w .so-far ≡ written (layouts (records ks)) =
-      sym (append-nil (w .so-far)) ∙ ap (λ (l : List Slot). w .so-far ++ written l) (sym none) ∙ w .whole in
-      let text : written (opening d len) ++ w .so-far ≡ written (table d (records ks)) =
-      ap (λ (l : List ℕ). written (opening d len) ++ l) q
-      ∙ sym (written-append (opening d len) (layouts (records ks)))
-      ∙ ap (λ (m : ℕ). written (opening d m ++ layouts (records ks))) size in
-      subst (λ (l : List ℕ). Put b 0 l len out) text (subst (λ (m : ℕ). Put b 0 (written (opening d len) ++ w .so-far) m out) e
-      (then p (w .put)))

@@ -24,11 +24,13 @@ use Rattle.saving.proofs.Choosing.{inZone, choose-gathered}
 use Rattle.fates.specs.Noted.{Each, Codes, Keeps, Notes}
 use Rattle.fates.specs.declared.Counts.{Counts}
 use Rattle.fates.proofs.Noting.{each-snoc, cleared-code}
+use Rattle.pass.specs.Tracks.{flags}
 use Rattle.scanning.specs.Scanned.{afterPass, Scanned}
+use Rattle.scanning.specs.declared.Passage.{Passage}
 use Rattle.sifting.specs.Stages.{Given, Ready, Sifted, Claimed}
 use Rattle.sifting.specs.declared.Stage.the-variants.{Zones, Strings, Pins}
-use Rattle.mending.specs.Laid.{LengthIs, Listed}
-use Rattle.salvaging.specs.Decided.{described, afterZones, afterStrings, afterAll, countsOf, Decided, NotesFirst}
+use Rattle.mending.specs.Laid.{Listed}
+use Rattle.salvaging.specs.Decided.{described, afterZones, afterStrings, afterAll, countsOf, Decided, NotesFirst, Passed, PlanIs}
 use Rattle.salvaging.specs.declared.Plan.{Plan}
 
 -- 13 leaves out no string
@@ -62,10 +64,27 @@ same-line : (b : Bool) (x : List Line) → cond (not b) x [] ≡ cond b [] x
 same-line true x = refl
 same-line false x = refl
 
+-- which indexes name a string
+marks-14 :
+    (c : Chip) (t : List ℕ) (ss : List Bool)
+    → Marks ss (strings (records (afterPass c t .kept)))
+    → Marks (set ss 0 true) (stringIndexes (afterZones c t))
+unfolding afterPass afterZones
+marks-14 c t ss m =
+    rw (strings-stay (afterPass c t)) (marks-front ss (strings (records (afterPass c t .kept))) 0 (omega arith) m)
+
+-- what the pass leaves for the others
+pub passed-on :
+    (c : Chip) (t kept log : List ℕ) (zs ss zu su : List Bool) (r : Passage)
+    → Scanned c t kept log (flags zs ss zu su) r
+    → Passed c t kept log zs (set ss 0 true) (r .n)
+passed-on c t kept log zs ss zu su r w =
+    record { notes = w .notes; zone = w .tracks .zone; index = marks-14 c t ss (w .tracks .string); few-lines = w .few-lines }
+
 module _ (c : Chip) (t : List ℕ) (held : Held) (made : HeldIs held (madeAt 0 (firstClaims (described c t))))
     (clear : contested (described c t) [] ≡ none) where
   -- 13
-  module _ (one log : List ℕ) (zs ss : List Bool) (a : Counts) (w : Scanned c t one log zs ss a) where
+  module _ (one log : List ℕ) (zs ss : List Bool) (a : Counts) (w : Passed c t one log zs ss a) where
     pub given-13 :
         Given c Zones t one (a .kept) zs held log (a .lines) (described c t) (zones (records (afterPass c t .kept)))
         (saved [] (afterPass c t .lines)) (afterPass c t .kept)
@@ -91,15 +110,6 @@ module _ (c : Chip) (t : List ℕ) (held : Held) (made : HeldIs held (madeAt 0 (
         → Notes c t two log′ b (afterZones c t)
     unfolding afterPass afterZones
     noted-13 s = s .sifts _ _ _ _ given-13
-
-  -- which indexes name a string
-  pub marks-14 :
-      (ss : List Bool)
-      → Marks ss (strings (records (afterPass c t .kept)))
-      → Marks (set ss 0 true) (stringIndexes (afterZones c t))
-  unfolding afterPass afterZones
-  marks-14 ss m =
-      rw (strings-stay (afterPass c t)) (marks-front ss (strings (records (afterPass c t .kept))) 0 (omega arith) m)
 
   pub clears-14 :
       (l : List Bool) (index : ℕ)
@@ -187,24 +197,22 @@ listed c t kept log e n top =
     record { c = c; ks = afterAll c t .kept; keeps = n .keeps; few = n .few; long = n .kept-long; top = top }
 
 pub decided :
-    (c : Chip) (t : List ℕ) (p : Plan) (kept log : List ℕ) (e : Counts)
-    → p .kept ≡ e .kept
-    → p .lines ≡ e .lines
+    (c : Chip) (t : List ℕ) (p : Plan) (kept log : List ℕ) (e : Counts) (clears : Bool)
+    → PlanIs t kept e clears p
     → Notes c t kept log e (afterAll c t)
-    → p .cleared ≡ not (among (described c t .string) (stringIndexes (afterZones c t)))
-    → LengthIs t kept (e .kept) (p .len)
+    → clears ≡ not (among (described c t .string) (stringIndexes (afterZones c t)))
     → Decided c t p kept log
-decided c t p kept log e a b n s l =
+decided c t p kept log e clears l n s =
     record {
       notes =
           record {
             kept-long = n .kept-long;
             log-long = n .log-long;
-            few = omega (arith, a, n .few);
-            fitting = omega (arith, b, n .fitting);
-            keeps = rw a (n .keeps);
-            codes = rw b (n .codes);
+            few = omega (arith, l .keeps, n .few);
+            fitting = omega (arith, l .lines, n .fitting);
+            keeps = rw (l .keeps) (n .keeps);
+            codes = rw (l .lines) (n .codes);
           };
-      clears = s;
-      size = rw a l;
+      clears = l .clear ∙ s;
+      size = rw (l .keeps) (l .size);
     }

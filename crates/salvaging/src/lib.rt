@@ -9,17 +9,22 @@ ghost use Rattle.format.specs.Claims.{madeAt, firstClaims};
 ghost use Rattle.format.specs.Decode.{readDescription};
 ghost use Rattle.claims.specs.Taken.{HeldIs};
 ghost use Rattle.saving.specs.Saving.{taken as takenOf, salvageable};
+ghost use Rattle.pass.specs.Tracks.{flags};
 ghost use Rattle.scanning.specs.Scanned.{Scanned};
-ghost use Rattle.salvaging.specs.Decided.{described, Decided, NotesFirst};
+ghost use Rattle.mending.specs.Laid.{Listed};
+ghost use Rattle.salvaging.specs.Decided.{described, Decided, NotesFirst, Alone, Complete, Passed, PlanIs};
 ghost use Rattle.salvaging.specs.Salvages.{Salvages};
 use changes::put_lines;
 use claims::Held;
 use fates::Counts;
+use flags::lacks;
 use format::pins::Chip;
 use mending::new_length;
+use mending::put_opening;
 use mending::put_table;
 use pass::State;
 use saving::Salvaged;
+use scanning::Passage;
 use scanning::scan;
 use sifting::Stage;
 use sifting::sift;
@@ -41,6 +46,13 @@ pub fn salvage(file: &[u8], out: &mut [u8], lines: &mut [u8; 32768], chip: Chip)
     let t = taken(file);
     if !sound(t, chip) {
         return Salvaged::Refused(24, 0);
+    }
+    if alone(t) {
+        if out.len() < 16 {
+            return Salvaged::Refused(16, 0);
+        }
+        put_opening(t, false, 16, out, chip);
+        return Salvaged::Done(16, 0);
     }
     let mut kept = [0usize; 96];
     let mut log = [0usize; 1649];
@@ -81,7 +93,19 @@ fn sound(t: &[u8], chip: Chip) -> bool
     held.clash == 65536
 }
 
-// What is kept and what is changed, of bytes with a sound description: the pass, then 13, 14 and 15.
+// Whether no element can stand behind the description and its string index is 0: then nothing is changed, and no array is laid out.
+fn alone(t: &[u8]) -> bool
+    requires { ⌜ 16 ≤ length (now t) ⌝ }
+    ensures { λ r. ⌜ (r ≡ true → Alone (now (t .entry))) ⌝ }
+{
+    if 18 < t.len() {
+        return false;
+    }
+    t[4] == 0
+}
+
+// What is kept and what is changed, of bytes with a sound description: the pass, then 13, 14 and 15, unless the pass shows that none of
+// the three changes anything.
 fn decide(t: &[u8], kept: &mut [usize; 96], log: &mut [usize; 1649], chip: Chip) -> Plan
     requires { ⌜ (length (now t) ≤ 4096) × Bytes (now t) × (salvageable chip (now t) ≡ true) × (length (now kept) ≡ 96) × (length (now log) ≡ 1649) ⌝ }
     ensures { λ r. ⌜ Decided chip (now (t .entry)) r (now (kept .exit)) (now (log .exit)) ⌝ }
@@ -89,54 +113,104 @@ fn decide(t: &[u8], kept: &mut [usize; 96], log: &mut [usize; 1649], chip: Chip)
     let held = claims::first_claims(fields::description(t, chip));
     let mut zs = [false; 256];
     let mut ss = [false; 256];
+    let mut zu = [false; 256];
+    let mut su = [false; 256];
+    let a = pass(t, held, kept, log, &mut zs, &mut ss, &mut zu, &mut su, chip);
+    ss[0] = true;
+    let n = a.n;
+    if complete(&zs, &ss, &zu, &su, a.clash) {
+        return planned(t, kept, n, false);
+    }
+    choose(t, held, kept, log, &zs, &ss, n, chip)
+}
+
+// Whether every number that is named is declared, and no claim clashes.
+fn complete(
+    zs: &[bool; 256],
+    ss: &[bool; 256],
+    zu: &[bool; 256],
+    su: &[bool; 256],
+    clash: usize,
+) -> bool
+    ensures { λ r. ⌜ (r ≡ true → Complete (now (zs .entry)) (now (ss .entry)) (now (zu .entry)) (now (su .entry)) clash) ⌝ }
+{
+    if lacks(zu, zs) {
+        return false;
+    }
+    if lacks(su, ss) {
+        return false;
+    }
+    clash == 65536
+}
+
+// 13, 14 and 15, after the pass.
+fn choose(
+    t: &[u8],
+    held: Held,
+    kept: &mut [usize; 96],
+    log: &mut [usize; 1649],
+    zs: &[bool; 256],
+    ss: &[bool; 256],
+    n: Counts,
+    chip: Chip,
+) -> Plan
+    requires { ⌜ (length (now t) ≤ 4096) × (salvageable chip (now t) ≡ true) × HeldIs held (madeAt 0 (firstClaims (described chip (now t)))) × Passed chip (now t) (now kept) (now log) (now zs) (now ss) n ⌝ }
+    ensures { λ r. ⌜ Decided chip (now (t .entry)) r (now (kept .exit)) (now (log .exit)) ⌝ }
+{
     let mut one = [0usize; 96];
     let mut two = [0usize; 96];
-    let a = pass(t, held, &mut one, log, &mut zs, &mut ss, chip);
-    let b = sift(
+    let a = sift(
         t,
         Stage::Zones,
-        &one,
-        a.kept,
-        &zs,
-        held,
-        &mut two,
-        log,
-        a.lines,
-        chip,
-    );
-    ss[0] = true;
-    let index = wide(t[4]);
-    let cleared = !ss[index];
-    let lines = note_first(log, b.lines, cleared);
-    let c = sift(
-        t,
-        Stage::Strings,
-        &two,
-        b.kept,
-        &ss,
+        kept,
+        n.kept,
+        zs,
         held,
         &mut one,
+        log,
+        n.lines,
+        chip,
+    );
+    let index = wide(t[4]);
+    let cleared = !ss[index];
+    let lines = note_first(log, a.lines, cleared);
+    let b = sift(
+        t,
+        Stage::Strings,
+        &one,
+        a.kept,
+        ss,
+        held,
+        &mut two,
         log,
         lines,
         chip,
     );
-    let d = sift(
+    let c = sift(
         t,
         Stage::Pins,
-        &one,
-        c.kept,
-        &ss,
+        &two,
+        b.kept,
+        ss,
         held,
         kept,
         log,
-        c.lines,
+        b.lines,
         chip,
     );
+    planned(t, kept, c, cleared)
+}
+
+// The plan of what is noted.
+fn planned(t: &[u8], kept: &[usize; 96], n: Counts, cleared: bool) -> Plan
+    requires { ⌜ Listed (now t) (now kept) (n .kept) ⌝ }
+    ensures { λ r. ⌜ PlanIs (now (t .entry)) (now (kept .entry)) n cleared r ⌝ }
+{
     Plan {
-        kept: d.kept,
-        lines: d.lines,
+        kept: n.kept,
+        lines: n.lines,
         cleared,
-        len: new_length(t, kept, d.kept),
+        len: new_length(t, kept, n.kept),
     }
 }
 
@@ -148,15 +222,17 @@ fn pass(
     log: &mut [usize; 1649],
     zs: &mut [bool; 256],
     ss: &mut [bool; 256],
+    zu: &mut [bool; 256],
+    su: &mut [bool; 256],
     chip: Chip,
-) -> Counts
+) -> Passage
     requires { ⌜ (16 ≤ length (now t)) × (length (now t) ≤ 4096) × Bytes (now t) × HeldIs held (madeAt 0 (firstClaims (described chip (now t)))) × (length (now kept) ≡ 96) × (length (now log) ≡ 1649) ⌝ }
-    ensures { λ r. ⌜ Scanned chip (now (t .entry)) (now (kept .exit)) (now (log .exit)) (now (zs .exit)) (now (ss .exit)) r ⌝ }
+    ensures { λ r. ⌜ Scanned chip (now (t .entry)) (now (kept .exit)) (now (log .exit)) (flags (now (zs .exit)) (now (ss .exit)) (now (zu .exit)) (now (su .exit))) r ⌝ }
 {
     *zs = [false; 256];
     *ss = [false; 256];
-    let mut zu = [false; 256];
-    let mut su = [false; 256];
+    *zu = [false; 256];
+    *su = [false; 256];
     let index = wide(t[4]);
     su[index] = true;
     let start = State {
@@ -165,7 +241,7 @@ fn pass(
         held,
         last: 0,
     };
-    scan(t, start, kept, log, zs, ss, &mut zu, &mut su, chip)
+    scan(t, start, kept, log, zs, ss, zu, su, chip)
 }
 
 // The line of the description, whose place is 0: 2 x 14 + 1.

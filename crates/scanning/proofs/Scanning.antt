@@ -14,7 +14,6 @@ use Rattle.format.specs.Slots.{byte, Bytes, Starts}
 use Rattle.format.specs.Records.{Record}
 use Rattle.format.specs.Layout.{layout, placeAfter}
 use Rattle.format.specs.Rules.{firstBroken, ownRules}
-use Rattle.format.specs.ZonesAndStrings.{zones, strings}
 use Rattle.format.specs.Table.{elementBreaks}
 use Rattle.format.specs.Verdict.{stated, framed, Stands}
 use Rattle.format.specs.Decode.{readDescription}
@@ -28,8 +27,7 @@ use Rattle.format.proofs.Kept.{own-unbroken, unbroken-kind}
 use Rattle.format.proofs.Decoding.{starts-stated}
 use Rattle.format.proofs.Stepping.{Meets, step-meets}
 use Rattle.format.proofs.Growing.{place-snoc}
-use Rattle.flags.specs.Marks.{Marks}
-use Rattle.pass.specs.Tracks.{Flags, flags, Low, Tracks, Walked, WalkIs}
+use Rattle.pass.specs.Tracks.{Flags, Low, Tracks, Walked, WalkIs}
 use Rattle.pass.proofs.Walking.{took-stated}
 use Rattle.pass.specs.declared.State.{State}
 use Rattle.pass.specs.declared.Over.{Over}
@@ -42,6 +40,7 @@ use Rattle.fates.specs.declared.Fate.{Fate}
 use Rattle.fates.specs.declared.Fate.the-variants.{Stays, Leaves}
 use Rattle.fates.proofs.Noting.{each-length}
 use Rattle.scanning.specs.Scanned.{afterPass, Scanned, FateOf}
+use Rattle.scanning.specs.declared.Passage.{Passage}
 use Rattle.scanning.proofs.Fronts.{front, front-length, front-stated, framed-whole, front-step, OneTaken, not-yet, taken, one-taken}
 
 pub records-snoc : (ks : List (At Record)) (p : ℕ) (r : Record) → records (ks ++ atPlace p r ∷ []) ≡ records ks ++ r ∷ []
@@ -119,7 +118,7 @@ begun c t kept log f n s k l e g w =
       onward = refl;
     }
 
-none-standing : (fuel at : ℕ) (bs : List ℕ) → framed bs ≡ false → standing fuel at bs ≡ []
+pub none-standing : (fuel at : ℕ) (bs : List ℕ) → framed bs ≡ false → standing fuel at bs ≡ []
 none-standing zero at bs h = refl
 none-standing (suc n) at bs h = rw h refl
 
@@ -151,38 +150,25 @@ module _
     pub low : Low s
     low = record { most = omega (arith, w .tracks .count, kept-many, w .notes .few); few = w .tracks .few }
 
-    scanned :
-        (zs ss zu su : List Bool)
-        → f ≡ flags zs ss zu su
-        → at ≤ length t
-        → length t ≤ 4096
-        → w .so-far ≡ afterPass c t
-        → Scanned c t kept log zs ss n
-    scanned zs ss zu su g b top e =
-        record {
-          notes = subst (λ (v : Saved). Notes c t kept log n v) e (w .notes);
-          zone =
-              subst (λ (v : Saved). Marks zs (zones (records (v .kept)))) e
-              (subst (λ (h : Flags). Marks (h .zones-declared) (zones before)) g (w .tracks .zone));
-          string =
-              subst (λ (v : Saved). Marks ss (strings (records (v .kept)))) e
-              (subst (λ (h : Flags). Marks (h .strings-declared) (strings before)) g (w .tracks .string));
-          few-lines = omega (arith, w .few-lines, b, top);
-        }
+    module _ (r : Passage) (same : r .n ≡ n) (clash : r .clash ≡ s .held .clash) (b : at ≤ length t) (top : length t ≤ 4096) where
+      scanned : w .so-far ≡ afterPass c t → Scanned c t kept log f r
+      scanned e =
+          record {
+            notes = rw same (subst (λ (v : Saved). Notes c t kept log n v) e (w .notes));
+            state = s;
+            tracks = subst (λ (v : Saved). Tracks (readDescription c (byte t)) s f (records (v .kept))) e (w .tracks);
+            clash = clash;
+            few-lines = rw same (omega (arith, w .few-lines, b, top));
+          }
 
-    -- the end: no element can stand there, or enough are kept
-    pub ended :
-        (zs ss zu su : List Bool) → f ≡ flags zs ss zu su → at ≤ length t → length t ≤ 4096 → framed (drop at t) ≡ false → Scanned c t
-        kept log zs ss n
-    ended zs ss zu su g b top h =
-        scanned zs ss zu su g b top
-        (sym (ap (sift (byPass (writing c)) (w .so-far)) (none-standing (w .fuel) at (drop at t) h)) ∙ w .onward)
+      -- the end: no element can stand there, or enough are kept
+      pub ended : framed (drop at t) ≡ false → Scanned c t kept log f r
+      ended h = scanned (sym (ap (sift (byPass (writing c)) (w .so-far)) (none-standing (w .fuel) at (drop at t) h)) ∙ w .onward)
 
-    pub filled :
-        (zs ss zu su : List Bool) → f ≡ flags zs ss zu su → at ≤ length t → length t ≤ 4096 → 96 ≤ n .kept → Scanned c t kept log zs ss n
-    filled zs ss zu su g b top h =
-        scanned zs ss zu su g b top
-        (sym (full-sift (writing c) (w .so-far) (standing (w .fuel) at (drop at t)) (omega (arith, kept-many, h))) ∙ w .onward)
+      pub filled : 96 ≤ n .kept → Scanned c t kept log f r
+      filled h =
+          scanned
+          (sym (full-sift (writing c) (w .so-far) (standing (w .fuel) at (drop at t)) (omega (arith, kept-many, h))) ∙ w .onward)
 
 -- one turn
 not-zero : (n : ℕ) → ((n ≡ 0 → ⊥) → ⊥) → n ≡ 0

@@ -19,6 +19,12 @@ use pass::State;
 use pass::walk;
 use walking::length_at;
 
+// How many are kept and how many changes there are; and the place of the first clash among the kept ones, 65,536 where there is none.
+pub struct Passage {
+    pub n: Counts,
+    pub clash: usize,
+}
+
 // All elements, from a state that stands for the description alone. An element that is kept stands at `end` in the new table so far.
 pub fn scan(
     t: &[u8],
@@ -30,9 +36,9 @@ pub fn scan(
     zu: &mut [bool; 256],
     su: &mut [bool; 256],
     chip: Chip,
-) -> Counts
+) -> Passage
     requires { ⌜ (16 ≤ length (now t)) × (length (now t) ≤ 4096) × Bytes (now t) × Tracks (readDescription chip (byte (now t))) start (flags (now zs) (now ss) (now zu) (now su)) [] × (length (now kept) ≡ 96) × (length (now log) ≡ 1649) ⌝ }
-    ensures { λ r. ⌜ Scanned chip (now (t .entry)) (now (kept .exit)) (now (log .exit)) (now (zs .exit)) (now (ss .exit)) r ⌝ }
+    ensures { λ r. ⌜ Scanned chip (now (t .entry)) (now (kept .exit)) (now (log .exit)) (flags (now (zs .exit)) (now (ss .exit)) (now (zu .exit)) (now (su .exit))) r ⌝ }
 {
     let settings = Settings {
         chip,
@@ -46,13 +52,13 @@ pub fn scan(
         let len = length_at(t, at);
         let left = t.len() - at;
         if len < 3 {
-            return n;
+            return summed(n, s);
         }
         if left < len {
-            return n;
+            return summed(n, s);
         }
         if 96 <= n.kept {
-            return n;
+            return summed(n, s);
         }
         let next = at + len;
         let r = walk(&t[at..next], end, s, zs, ss, zu, su, settings);
@@ -61,7 +67,17 @@ pub fn scan(
         s = r.state;
         at = next;
     }
-    n
+    summed(n, s)
+}
+
+fn summed(n: Counts, s: State) -> Passage
+    ensures { λ r. ⌜ (r .n ≡ n) × (r .clash ≡ s .held .clash) ⌝ }
+{
+    let held = s.held;
+    Passage {
+        n,
+        clash: held.clash,
+    }
 }
 
 // What the pass's answer to one element makes of it.

@@ -8,7 +8,7 @@ use Rattle.salvaging.proofs.pass.Tie as tie
 
 scan-requires : tie.Need-scan-requires
 scan-requires c κs =
-    let p = c .before .before .before .before .before .before .before .before .before .before .before .pre in
+    let p = c .before .before .before .before .before .before .before .before .before .before .before .before .before .pre in
     let w = c .before .before .before .before .before .before .wide in
     (p .0, p .1, p .2, at-start _ _ (w .result) (w .ensures .1) (w .ensures .0) refl refl (p .3) refl, p .4, p .5)
 

@@ -1,13 +1,11 @@
 -- `scan` meets its contract: what is left to do ends where the whole ends.
 -- Assumes nothing.
-use Prim.Native.Nat.{_+_, _-_, _*_, _<_, _≤_}
+use Prim.Native.Nat.{_+_, _-_, _*_, _≤_}
 use native.Mathlib.Omega.{arith}
-use mathlib.Core.Path.{_≡_, refl}
 use denote.Ref.{now}
-use lib.ListN.{length, drop}
+use lib.ListN.{length}
 use lib.Seq.{length-slice}
 use borrow.Author.Needs.{needs}
-use Rattle.format.specs.Verdict.{stated}
 use Rattle.pass.specs.Tracks.{flags}
 use Rattle.pass.proofs.Moving.{unframed-short, unframed-small, unframed-long}
 use Rattle.scanning.proofs.Scanning.{Scanning, begun, low, ended, filled, turned}
@@ -34,23 +32,28 @@ sub-left c = omega (arith, c .before .before .loop .inv .0)
 
 returns : tie.Need-returns Inv-loop μ-loop
 returns c =
-    let l = c .before .before .before in
+    let l = c .before .before .before .before in
     let i = l .loop .inv in
-    ended _ _ _ _ _ _ _ _ _ (i .1) _ _ _ _ refl (i .0) (l .before .before .before .pre .1)
-    (unframed-small (now (l .before .before .before .args .t)) (l .loop .at) (c .before .length-at .ensures) (c .if1 .taken))
+    let q = c .summed .ensures in
+    ended _ _ _ _ _ _ _ _ _ (i .1) _ (q .0) (q .1) (i .0) (l .before .before .before .pre .1)
+    (unframed-small (now (l .before .before .before .args .t)) (l .loop .at) (c .before .before .length-at .ensures)
+    (c .before .if1 .taken))
 
 returns-2 : tie.Need-returns-2 Inv-loop μ-loop
 returns-2 c =
-    let l = c .before .before .before .before in
+    let l = c .before .before .before .before .before in
     let i = l .loop .inv in
-    ended _ _ _ _ _ _ _ _ _ (i .1) _ _ _ _ refl (i .0) (l .before .before .before .pre .1)
-    (unframed-long (now (l .before .before .before .args .t)) (l .loop .at) (c .before .before .length-at .ensures) (c .if2 .taken))
+    let q = c .summed2 .ensures in
+    ended _ _ _ _ _ _ _ _ _ (i .1) _ (q .0) (q .1) (i .0) (l .before .before .before .pre .1)
+    (unframed-long (now (l .before .before .before .args .t)) (l .loop .at) (c .before .before .before .length-at .ensures)
+    (c .before .if2 .taken))
 
 returns-3 : tie.Need-returns-3 Inv-loop μ-loop
 returns-3 c =
-    let l = c .before .before .before .before .before .before in
+    let l = c .before .before .before .before .before .before .before in
     let i = l .loop .inv in
-    filled _ _ _ _ _ _ _ _ _ (i .1) _ _ _ _ refl (i .0) (l .before .before .before .pre .1) (c .if3 .taken)
+    let q = c .summed3 .ensures in
+    filled _ _ _ _ _ _ _ _ _ (i .1) _ (q .0) (q .1) (i .0) (l .before .before .before .pre .1) (c .before .if3 .taken)
 
 -- what is known of the element at a place, once no test has stopped the loop
 pub record Known (e : tie.Else3 Inv-loop μ-loop) : Type 0 where
@@ -113,10 +116,11 @@ loop-again c =
 
 returns-4 : tie.Need-returns-4 Inv-loop μ-loop
 returns-4 c =
-    let l = c .before in
+    let l = c .before .before in
     let i = l .loop .inv in
-    ended _ _ _ _ _ _ _ _ _ (i .1) _ _ _ _ refl (i .0) (l .before .before .before .pre .1)
-    (unframed-short (now (l .before .before .before .args .t)) (l .loop .at) (omega (arith, c .loop-test .left)))
+    let q = c .summed4 .ensures in
+    ended _ _ _ _ _ _ _ _ _ (i .1) _ (q .0) (q .1) (i .0) (l .before .before .before .pre .1)
+    (unframed-short (now (l .before .before .before .args .t)) (l .loop .at) (omega (arith, c .before .loop-test .left)))
 
 pub scan-spec : {M : Type 1} → statement M
 scan-spec =
@@ -129,8 +133,11 @@ scan-spec =
     add-loop
     (λ c κs. search needs)
     sub-left
+    (λ c κs. search needs)
     returns
+    (λ c κs. search needs)
     returns-2
+    (λ c κs. search needs)
     returns-3
     add-next
     (λ c. search needs)
@@ -144,4 +151,5 @@ scan-spec =
     add-end
     loop-less
     loop-again
+    (λ c κs. search needs)
     returns-4)
