@@ -29,7 +29,10 @@ module _ (σ : Settings) where
 
       go : (t : Bool) (o : Outcome) → step σ before (u ++ x ∷ []) ≡ o → PlacedAt (n + 1) (settled σ before at (u ++ x ∷ []) t)
       go true o q = (omega (arith, m, k .0), k .1)
-      go false (took y) q = rw q (omega (arith, m, k .0), omega (arith, taken σ before (u ++ x ∷ []) q .few-11, length-append before (y ∷ [])))
+      go false (took y) q = rw q (
+        omega (arith, m, k .0),
+        omega (arith, taken σ before (u ++ x ∷ []) q .few-11, length-append before (y ∷ [])),
+      )
       go false (stop j) q = rw q (omega (arith, stop-small σ before (u ++ x ∷ []) q))
   placed-byte n (broken k p) x h = h
 
@@ -40,7 +43,12 @@ module _ (σ : Settings) where
       rw e (placed-bytes (n + 1) (runByte σ s x) xs (placed-byte n s x k))
 
 -- a pass under way is sound
-on-sound : (d : Description) (w : Way) (head : List ℕ) (f : Flags) (zp sp : List ℕ) (before : List Record) (at : ℕ) (u : List ℕ) (n m : ℕ) → On d w head f zp sp before at u → (at + length u ≡ n) × (length before ≤ 96) → n + m ≤ 4097 → Sound w m
+on-sound :
+    (d : Description) (w : Way) (head : List ℕ) (f : Flags) (zp sp : List ℕ) (before : List Record) (at : ℕ) (u : List ℕ) (n m : ℕ)
+    → On d w head f zp sp before at u
+    → (at + length u ≡ n) × (length before ≤ 96)
+    → n + m ≤ 4097
+    → Sound w m
 on-sound d w head f zp sp before at u n m o p l =
     record {
       ends = omega (arith, o .here, o .under .long, p .0);
@@ -49,7 +57,10 @@ on-sound d w head f zp sp before at u n m o p l =
     }
 
 module _ (σ : Settings) (w : Way) (q head : List ℕ) (f : Flags) (zp sp : List ℕ) where
-  pub goes-on : (r : Way) (head′ : List ℕ) (f′ : Flags) (zp′ sp′ : List ℕ) → PassIs σ w q head f zp sp r head′ f′ zp′ sp′ → GoIs σ w q head f zp sp r head′ f′ zp′ sp′
+  pub goes-on :
+      (r : Way) (head′ : List ℕ) (f′ : Flags) (zp′ sp′ : List ℕ)
+      → PassIs σ w q head f zp sp r head′ f′ zp′ sp′
+      → GoIs σ w q head f zp sp r head′ f′ zp′ sp′
   goes-on r head′ f′ zp′ sp′ x = record { more = go }
     where
       go :

@@ -6,10 +6,10 @@ use mathlib.Core.Path.{_≡_, refl, sym, _∙_, ap, subst}
 use mathlib.Core.Bool.{Bool, true, false, _&&_, false≢true, and-eq-true-iff}
 use mathlib.Core.List.{List, []}
 use mathlib.Core.Option.{Option, none, some}
-use lib.ListN.{length, set, replicate, length-replicate, getD-replicate}
+use lib.ListN.{length, replicate, length-replicate, getD-replicate}
 use lib.Dec.{leb}
-use borrow.Author.Tests.{leb-true, leb-false, le-leb}
-use Rattle.format.specs.Slots.{byte, Bytes}
+use borrow.Author.Tests.{leb-true, le-leb}
+use Rattle.format.specs.Slots.{Bytes}
 use Rattle.format.specs.Rules.{numbered, strapped, descriptionRules}
 use Rattle.format.specs.ZonesAndStrings.{Role, zoneNamed, stringNamed}
 use Rattle.format.specs.Claims.{madeAt, firstClaims}
@@ -17,13 +17,13 @@ use Rattle.format.specs.Table.{descriptionBreaks}
 use Rattle.format.specs.declared.pins.Chip.{Chip}
 use Rattle.format.specs.declared.settings.Settings.{Settings}
 use Rattle.format.specs.declared.records.Description.{Description}
-use Rattle.format.proofs.Kept.{zero-none, some-number, description-numbered, description-kept}
+use Rattle.format.proofs.Kept.{zero-none, description-numbered, description-kept}
 use Rattle.claims.specs.Taken.{HeldIs}
-use Rattle.pass.specs.Tracks.{Flags, Low}
+use Rattle.pass.specs.Tracks.{Flags}
 use Rattle.firsts.specs.Firsts.{Firsts}
 use Rattle.reader.proofs.Reading.{at-start}
-use Rattle.stream.specs.Running.{Run, going, broken, runBytes, begin}
-use Rattle.closing.specs.Ways.{Gone, On, WayIs}
+use Rattle.stream.specs.Running.{going, runBytes, begin}
+use Rattle.closing.specs.Ways.{Gone, WayIs}
 use Rattle.closing.specs.declared.Way.{Way}
 use Rattle.closing.proofs.Ending.{on-after}
 use Rattle.advancing.specs.Advancing.{opened, AtSixteen, Fresh, Sound, SoundIs, Cleared, ClearIs, GoIs, AdvanceIs}
@@ -56,7 +56,8 @@ module _ (σ : Settings) (d e : Description) (k : ℕ) (r : Way) (same : e ≡ d
       → ((c : Chip) → strapped c e ≡ true → HeldIs (r .state .held) (madeAt 0 (firstClaims e)))
       → Fresh σ d r
   open-good z p q l m a b c h =
-      let free : descriptionBreaks (σ .chip) d ≡ none = zero-none (descriptionRules (σ .chip) d) (description-numbered (σ .chip) d) (sym number ∙ z) in
+      let free : descriptionBreaks (σ .chip) d ≡ none = zero-none (descriptionRules (σ .chip) d) (description-numbered (σ .chip) d)
+      (sym number ∙ z) in
       let w = description-kept (σ .chip) d free .pins-10 in
       record {
         good =
@@ -69,7 +70,8 @@ module _ (σ : Settings) (d e : Description) (k : ℕ) (r : Way) (same : e ≡ d
               count = a;
               zones = b;
               fans = c;
-              held = subst (λ (x : Description). HeldIs (r .state .held) (madeAt 0 (firstClaims x))) same (h (σ .chip) (subst (λ (x : Description). strapped (σ .chip) x ≡ true) (sym same) w));
+              held = subst (λ (x : Description). HeldIs (r .state .held) (madeAt 0 (firstClaims x))) same
+                  (h (σ .chip) (subst (λ (x : Description). strapped (σ .chip) x ≡ true) (sym same) w));
             };
         bad = λ j y. absurd (none-some (sym free ∙ y));
       }
@@ -156,7 +158,12 @@ module _ (σ : Settings) (w : Way) (fresh : Bool) (q : List ℕ) (string : ℕ) 
         more = λ _ d m s k p small h l. stays σ w q head f zp sp d s n k;
       }
     where
-      go : (d : Description) → Fresh σ d w → (o : Option ℕ) → descriptionBreaks (σ .chip) d ≡ o → WayIs d w head f zp sp (opened o (runBytes σ begin q))
+      go :
+          (d : Description)
+          → Fresh σ d w
+          → (o : Option ℕ)
+          → descriptionBreaks (σ .chip) d ≡ o
+          → WayIs d w head f zp sp (opened o (runBytes σ begin q))
       go d k none z = absurd (n (k .good z .goes))
       go d k (some j) z = k .bad j z
 
@@ -171,7 +178,8 @@ module _ (σ : Settings) (w : Way) (fresh : Bool) (q : List ℕ) (string : ℕ) 
   advance-begun f₁ zp₁ sp₁ r head′ f′ zp′ sp′ a g y c x =
       record {
         still = λ z. absurd (a z);
-        first = λ _ d k e size small m l. go d k (descriptionBreaks (σ .chip) d) refl (λ t. begins σ w q string head f₁ zp₁ sp₁ c r head′ f′ zp′ sp′ x d t e size small m l);
+        first = λ _ d k e size small m l. go d k (descriptionBreaks (σ .chip) d) refl
+            (λ t. begins σ w q string head f₁ zp₁ sp₁ c r head′ f′ zp′ sp′ x d t e size small m l);
         more = λ z. absurd (false≢true (sym z ∙ y));
       }
     where

@@ -3,11 +3,10 @@
 use Prim.Native.Nat.{ℕ, _+_, _<_, _≤_}
 use mathlib.Core.Path.{_≡_}
 use mathlib.Core.Bool.{Bool, true, false}
-use mathlib.Core.List.{List, [], _++_}
+use mathlib.Core.List.{List}
 use mathlib.Core.Option.{Option, none, some}
 use lib.ListN.{length, set, replicate}
-use Rattle.format.specs.Slots.{byte, Bytes}
-use Rattle.format.specs.Records.{Record}
+use Rattle.format.specs.Slots.{Bytes}
 use Rattle.format.specs.Claims.{madeAt, firstClaims}
 use Rattle.format.specs.Table.{descriptionBreaks}
 use Rattle.format.specs.declared.settings.Settings.{Settings}
@@ -64,7 +63,8 @@ abbrev pub PlacedAt : ℕ → Run → Type 0
 PlacedAt n (going before at u) = (at + length u ≡ n) × (length before ≤ 96)
 PlacedAt n (broken k p) = k < 256
 
-pub record GoIs (σ : Settings) (w : Way) (q head : List ℕ) (f : Flags) (zp sp : List ℕ) (r : Way) (head′ : List ℕ) (f′ : Flags) (zp′ sp′ : List ℕ) : Type 0 where
+pub record GoIs (σ : Settings) (w : Way) (q head : List ℕ) (f : Flags) (zp sp : List ℕ) (r : Way) (head′ : List ℕ) (f′ : Flags)
+    (zp′ sp′ : List ℕ) : Type 0 where
   pub more :
       (d : Description) (n : ℕ) (s : Run)
       → w .stop ≡ 0
@@ -75,7 +75,8 @@ pub record GoIs (σ : Settings) (w : Way) (q head : List ℕ) (f : Flags) (zp sp
       → n + length q ≤ 4097
       → WayIs d r head′ f′ zp′ sp′ (runBytes σ s q)
 
-pub record AdvanceIs (σ : Settings) (w : Way) (fresh : Bool) (q : List ℕ) (string : ℕ) (head : List ℕ) (f : Flags) (zp sp : List ℕ) (r : Way) (head′ : List ℕ) (f′ : Flags) (zp′ sp′ : List ℕ) : Type 0 where
+pub record AdvanceIs (σ : Settings) (w : Way) (fresh : Bool) (q : List ℕ) (string : ℕ) (head : List ℕ) (f : Flags) (zp sp : List ℕ)
+    (r : Way) (head′ : List ℕ) (f′ : Flags) (zp′ sp′ : List ℕ) : Type 0 where
   pub still : length q ≡ 0 → (r ≡ w) × (head′ ≡ head) × (f′ ≡ f) × (zp′ ≡ zp) × (sp′ ≡ sp)
   pub first :
       fresh ≡ true

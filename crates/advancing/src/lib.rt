@@ -1,9 +1,6 @@
 // The pass from its first byte on: it opens where the description is whole, its flags are cleared where the first element begins, and
 // numbers that no pass has are left alone.
-ghost use mathlib.Core.Path.{_≡_};
 ghost use mathlib.Core.Bool.{true, false};
-ghost use Prim.Native.Nat.{_+_, _≤_};
-ghost use lib.ListN.{length};
 ghost use Rattle.format.specs.Slots.{byte};
 ghost use Rattle.format.specs.Decode.{readDescription};
 ghost use Rattle.pass.specs.Tracks.{flags};
@@ -59,7 +56,9 @@ fn clear(
     zp: &mut [u16; 256],
     sp: &mut [u16; 256],
 )
-    ensures { λ _. ⌜ ClearIs fresh string (flags (now (zs .entry)) (now (ss .entry)) (now (zu .entry)) (now (su .entry))) (now (zp .entry)) (now (sp .entry)) (flags (now (zs .exit)) (now (ss .exit)) (now (zu .exit)) (now (su .exit))) (now (zp .exit)) (now (sp .exit)) ⌝ }
+    ensures { λ _. ⌜ ClearIs fresh string (flags (now (zs .entry)) (now (ss .entry)) (now (zu .entry)) (now (su .entry)))
+        (now (zp .entry)) (now (sp .entry)) (flags (now (zs .exit)) (now (ss .exit)) (now (zu .exit)) (now (su .exit))) (now (zp .exit))
+        (now (sp .exit)) ⌝ }
 {
     if !fresh {
         return;
@@ -87,7 +86,9 @@ fn go_on(
     sp: &mut [u16; 256],
     settings: Settings,
 ) -> Way
-    ensures { λ r. ⌜ GoIs settings w (now (q .entry)) (now (head .entry)) (flags (now (zs .entry)) (now (ss .entry)) (now (zu .entry)) (now (su .entry))) (now (zp .entry)) (now (sp .entry)) r (now (head .exit)) (flags (now (zs .exit)) (now (ss .exit)) (now (zu .exit)) (now (su .exit))) (now (zp .exit)) (now (sp .exit)) ⌝ }
+    ensures { λ r. ⌜ GoIs settings w (now (q .entry)) (now (head .entry))
+        (flags (now (zs .entry)) (now (ss .entry)) (now (zu .entry)) (now (su .entry))) (now (zp .entry)) (now (sp .entry)) r
+        (now (head .exit)) (flags (now (zs .exit)) (now (ss .exit)) (now (zu .exit)) (now (su .exit))) (now (zp .exit)) (now (sp .exit)) ⌝ }
 {
     let m = q.len();
     if !sound(w, m) {
@@ -111,7 +112,9 @@ pub fn advance(
     sp: &mut [u16; 256],
     settings: Settings,
 ) -> Way
-    ensures { λ r. ⌜ AdvanceIs settings w fresh (now (q .entry)) string (now (head .entry)) (flags (now (zs .entry)) (now (ss .entry)) (now (zu .entry)) (now (su .entry))) (now (zp .entry)) (now (sp .entry)) r (now (head .exit)) (flags (now (zs .exit)) (now (ss .exit)) (now (zu .exit)) (now (su .exit))) (now (zp .exit)) (now (sp .exit)) ⌝ }
+    ensures { λ r. ⌜ AdvanceIs settings w fresh (now (q .entry)) string (now (head .entry))
+        (flags (now (zs .entry)) (now (ss .entry)) (now (zu .entry)) (now (su .entry))) (now (zp .entry)) (now (sp .entry)) r
+        (now (head .exit)) (flags (now (zs .exit)) (now (ss .exit)) (now (zu .exit)) (now (su .exit))) (now (zp .exit)) (now (sp .exit)) ⌝ }
 {
     if q.len() == 0 {
         return w;

@@ -1,6 +1,6 @@
 -- The lines one behind another: what stands in the buffer, and the text of what is left, are the whole text.
 -- Assumes nothing.
-use Prim.Native.Nat.{ℕ, suc, _+_, _*_, _/_, _%_, _≤_, _<_}
+use Prim.Native.Nat.{ℕ, _+_, _*_, _/_, _%_, _≤_, _<_}
 use native.Mathlib.Omega.{arith}
 use native.Mathlib.Numerals.{add-one}
 use mathlib.Core.Path.{_≡_, refl, sym, _∙_, ap, subst}
@@ -13,7 +13,7 @@ use Rattle.saving.specs.Saving.{Line}
 use Rattle.saving.specs.Lines.{changeText, lineText, textOf}
 use Rattle.saving.proofs.Texts.{decimal-length, change-length}
 use Rattle.fates.specs.Noted.{Each, Codes, changeOf}
-use Rattle.fates.proofs.Noting.{Spot, each-at, each-length}
+use Rattle.fates.proofs.Noting.{each-at, each-length}
 use Rattle.changes.specs.Written.{PutsChange, PutsLine}
 
 -- a line from its parts

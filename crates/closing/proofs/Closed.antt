@@ -3,22 +3,21 @@
 use Prim.Native.Nat.{ℕ, zero, suc, _+_, _-_, _<_, _≤_}
 use native.Mathlib.Omega.{arith}
 use mathlib.Core.Path.{_≡_, refl, sym, _∙_, ap, subst}
-use mathlib.Core.Bool.{Bool, true, false}
-use mathlib.Core.List.{List, [], _∷_, _++_}
+use mathlib.Core.Bool.{true, false}
+use mathlib.Core.List.{List, [], _∷_}
 use lib.ListN.{length, take, drop, length-drop}
 use lib.Seq.{ext-getD, getD-take, length-take-le}
-use Rattle.format.specs.Slots.{byte, Bytes}
+use Rattle.format.specs.Slots.{byte}
 use Rattle.format.specs.Records.{Record}
 use Rattle.format.specs.Layout.{placeAfter}
 use Rattle.format.specs.Verdict.{known}
-use Rattle.format.specs.Reader.{stop, step}
+use Rattle.format.specs.Reader.{stop}
 use Rattle.format.specs.declared.settings.Settings.{Settings}
 use Rattle.format.specs.declared.records.Description.{Description}
 use Rattle.found.specs.Judged.{Judged}
 use Rattle.found.specs.declared.Found.{Found}
-use Rattle.pass.specs.Tracks.{Flags, Low}
+use Rattle.pass.specs.Tracks.{Flags}
 use Rattle.pass.specs.declared.State.{State}
-use Rattle.pass.specs.declared.Step.{Step}
 use Rattle.underway.specs.Under.{Holds, UnderIs}
 use Rattle.underway.specs.declared.Under.{Under}
 use Rattle.closing.specs.Ways.{Gone, Plain, Whole, Then, FixedIs}
@@ -33,7 +32,8 @@ first-kept u head v k w = sym (k .held .same 0 (omega arith) (omega (arith, w .0
 kept-whole : (head v : List ℕ) → Holds head v → length v ≤ 30 → take (length v) head ≡ v
 kept-whole head v h l =
     let n = length-take-le (length v) head (omega (arith, h .size)) in
-    ext-getD 0 (take (length v) head) v n (λ i a. getD-take (length v) head i 0 (omega (arith, a, n)) ∙ h .same i (omega (arith, a, n)) (omega (arith, a, n)))
+    ext-getD 0 (take (length v) head) v n (λ i a. getD-take (length v) head i 0 (omega (arith, a, n))
+    ∙ h .same i (omega (arith, a, n)) (omega (arith, a, n)))
 
 pub judged-as : (σ : Settings) (k id : ℕ) (c : List ℕ) (e : Found) → id ≡ k → Judged σ k c e → Judged σ id c e
 judged-as σ k id c e q j = subst (λ (i : ℕ). Judged σ i c e) (sym q) j
@@ -59,7 +59,8 @@ module _ (σ : Settings) (u : Under) (head : List ℕ) (at : ℕ) (s : State) (f
 
   pub closed-11 : 96 ≤ s .count → w .stop ≡ 11 → w .at ≡ at → Closes f zp sp
   closed-11 n e q d before v k whole p g =
-      crowded-then σ d before v s f (record { stop = 0; state = s }) f zp sp w head (k .bytes) whole refl p (k .held .size) (omega (arith, n, g .tracks .count)) e q
+      crowded-then σ d before v s f (record { stop = 0; state = s }) f zp sp w head (k .bytes) whole refl p (k .held .size)
+      (omega (arith, n, g .tracks .count)) e q
 
   pub closed-long :
       {id j : ℕ}
@@ -77,11 +78,13 @@ module _ (σ : Settings) (u : Under) (head : List ℕ) (at : ℕ) (s : State) (f
   closed-long {id} {j} i n a b c e l m t q d before v k whole p g =
       let first : byte v 0 ≡ id = first-kept u head v k whole ∙ sym i in
       let o = long-outcome σ before id (drop 3 v) (omega (arith, l, k .long, length-drop 3 v)) a b c e m in
-      let z = the-step σ d before v s f (record { stop = 0; state = s }) f zp sp w head (k .bytes) whole first p (k .held .size) (omega (arith, n, g .tracks .count)) ∙ o .0 in
+      let z = the-step σ d before v s f (record { stop = 0; state = s }) f zp sp w head (k .bytes) whole first p (k .held .size)
+      (omega (arith, n, g .tracks .count)) ∙ o .0 in
       rw z (t, o .1, q)
 
   pub closed-fixed :
-      (g : Flags) (zp′ sp′ : List ℕ) (n : ℕ) → n ≡ u .len → u .len ≤ 30 → FixedIs σ (take n head) at s f zp sp w g zp′ sp′ → Closes g zp′ sp′
+      (g : Flags) (zp′ sp′ : List ℕ) (n : ℕ) → n ≡ u .len → u .len ≤ 30 → FixedIs σ (take n head) at s f zp sp w g zp′ sp′
+      → Closes g zp′ sp′
   closed-fixed g zp′ sp′ n m l x d before v k whole p y =
       let e : take n head ≡ v = ap (λ (n : ℕ). take n head) (m ∙ k .long) ∙ kept-whole head v (k .held) (omega (arith, l, k .long)) in
       subst (λ (p : List ℕ). FixedIs σ p at s f zp sp w g zp′ sp′) e x .then d before head (k .held .size) (k .bytes) whole p y

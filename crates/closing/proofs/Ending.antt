@@ -2,11 +2,11 @@
 -- Assumes nothing.
 use Prim.Native.Nat.{ℕ, _+_, _-_, _<_, _≤_}
 use native.Mathlib.Omega.{arith}
-use mathlib.Core.Path.{_≡_, refl, sym, _∙_, ap, subst}
-use mathlib.Core.Bool.{Bool, true, false}
+use mathlib.Core.Path.{_≡_, refl, _∙_}
+use mathlib.Core.Bool.{true}
 use mathlib.Core.List.{List, [], _∷_, _++_}
-use mathlib.Core.Option.{Option, none, some}
-use lib.ListN.{length, take, drop, length-drop}
+use mathlib.Core.Option.{some}
+use lib.ListN.{length, drop, length-drop}
 use lib.Seq.{take-all}
 use Rattle.format.specs.Slots.{byte, Bytes}
 use Rattle.format.specs.Records.{Record}
@@ -19,16 +19,16 @@ use Rattle.format.specs.declared.settings.Settings.{Settings}
 use Rattle.format.specs.declared.records.Description.{Description}
 use Rattle.format.proofs.Stepped.{taken, crowded-out, by-identifier}
 use Rattle.format.proofs.Growing.{place-snoc}
-use Rattle.pass.specs.Tracks.{Flags, Low, Tracks, Went}
+use Rattle.pass.specs.Tracks.{Flags, Went}
 use Rattle.pass.specs.declared.State.{State}
 use Rattle.pass.specs.declared.Step.{Step}
 use Rattle.pass.proofs.Walking.{took-stated}
 use Rattle.firsts.specs.Firsts.{Firsts}
-use Rattle.stream.specs.Running.{Run, going, broken, past}
+use Rattle.stream.specs.Running.{going}
 use Rattle.stream.proofs.Running.{full-frame}
 use Rattle.underway.specs.Under.{UnderIs}
 use Rattle.underway.specs.declared.Under.{Under}
-use Rattle.closing.specs.Ways.{Gone, On, WayIs, Whole, Then}
+use Rattle.closing.specs.Ways.{Gone, WayIs, Whole, Then}
 use Rattle.closing.specs.declared.Way.{Way}
 
 -- nothing is held of no bytes
@@ -74,7 +74,8 @@ module _
     pub went-then :
         length before < 96
         → Went d before s f r g (orStop (known id) 7 (judge σ before (decode (σ .chip) id (drop 3 v))))
-        → ((x : Record) → decode (σ .chip) id (drop 3 v) ≡ some x → r .stop ≡ 0 → Firsts zoneNamed zp (before ++ x ∷ []) × Firsts stringNamed sp (before ++ x ∷ []))
+        → ((x : Record) → decode (σ .chip) id (drop 3 v) ≡ some x → r .stop ≡ 0 → Firsts zoneNamed zp (before ++ x ∷ [])
+        × Firsts stringNamed sp (before ++ x ∷ []))
         → w .under .len ≡ 0
         → w .under .at ≡ 0
         → w .stop ≡ r .stop

@@ -1,11 +1,11 @@
 -- An element of more than 30 bytes that has no part is 8, or 7 where there is no such kind.
 -- Assumes nothing.
-use Prim.Native.Nat.{ℕ, _+_, _<_, _≤_}
+use Prim.Native.Nat.{ℕ, _+_, _<_}
 use native.Mathlib.Omega.{arith}
 use mathlib.Core.Path.{_≡_, refl, sym, _∙_, ap}
 use mathlib.Core.Bool.{Bool, true, false}
-use mathlib.Core.List.{List, []}
-use mathlib.Core.Option.{Option, none, some}
+use mathlib.Core.List.{List}
+use mathlib.Core.Option.{Option, some}
 use lib.ListN.{length}
 use lib.Dec.{eqb}
 use borrow.Author.Tests.{eqb-true, ne-eqb}
@@ -18,7 +18,11 @@ use Rattle.format.proofs.Kept.{own-breaks}
 use Rattle.format.proofs.Broken.{misshapen}
 
 module _ (σ : Settings) (before : List Record) (id : ℕ) (c : List ℕ) (h : 27 < length c) where
-  cases : (n k : ℕ) (a b : Option Record) → (n ≡ k → judge σ before a ≡ stop 8) → judge σ before b ≡ stop 8 → judge σ before (pick (eqb n k) a b) ≡ stop 8
+  cases :
+      (n k : ℕ) (a b : Option Record)
+      → (n ≡ k → judge σ before a ≡ stop 8)
+      → judge σ before b ≡ stop 8
+      → judge σ before (pick (eqb n k) a b) ≡ stop 8
   cases n k a b f g = go (eqb n k) refl
     where
       go : (t : Bool) → eqb n k ≡ t → judge σ before (pick t a b) ≡ stop 8

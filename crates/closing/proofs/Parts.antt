@@ -5,32 +5,30 @@ use native.Mathlib.Omega.{arith}
 use mathlib.Core.Path.{_≡_, refl, sym, _∙_, ap, subst}
 use mathlib.Core.Bool.{Bool, true, false}
 use mathlib.Core.Logic.{_⊎_, inl, inr}
-use mathlib.Core.List.{List, [], _∷_, _++_}
-use mathlib.Core.Option.{some}
+use mathlib.Core.List.{List}
 use lib.ListN.{length, take, drop, length-drop}
 use lib.Dec.{eqb}
 use borrow.Author.Tests.{eqb-true, eqb-false}
 use Rattle.format.specs.Slots.{byte, Bytes}
 use Rattle.format.specs.Records.{Record}
 use Rattle.format.specs.Layout.{placeAfter}
-use Rattle.format.specs.ZonesAndStrings.{placed, role, zoneNamed, stringNamed}
+use Rattle.format.specs.ZonesAndStrings.{placed, role}
 use Rattle.format.specs.Rules.{numbered, firstBroken, ownRules}
 use Rattle.format.specs.FanList.{fanPins}
 use Rattle.format.specs.Claims.{claimsOf}
 use Rattle.claims.specs.Taken.{ClaimsAre}
-use Rattle.format.specs.Decode.{readPlacement, decode}
+use Rattle.format.specs.Decode.{readPlacement}
 use Rattle.format.specs.declared.settings.Settings.{Settings}
 use Rattle.format.specs.declared.records.Description.{Description}
 use Rattle.format.proofs.Slots.{bytes-drop}
 use Rattle.found.specs.Judged.{FansAre, Judged}
 use Rattle.found.specs.declared.Found.{Found}
-use Rattle.pass.specs.Tracks.{Flags, flags, Low, Tracks, StepIs, TextJudged, PlacedStep, TakeIs}
+use Rattle.pass.specs.Tracks.{flags, StepIs, TextJudged, PlacedStep, TakeIs}
 use Rattle.pass.specs.declared.State.{State}
 use Rattle.pass.specs.declared.Step.{Step}
 use Rattle.pass.proofs.Stepped.{own-fault}
 use Rattle.pass.proofs.Taking.{take-text, take-placed}
-use Rattle.firsts.specs.Firsts.{Firsts}
-use Rattle.underway.specs.Under.{Holds, UnderIs}
+use Rattle.underway.specs.Under.{UnderIs}
 use Rattle.underway.specs.declared.Under.{Under}
 use Rattle.judging.specs.Whole.{TextIs, NumberIs}
 use Rattle.judging.proofs.Fixed.{after-header}
@@ -70,7 +68,8 @@ module _ (u : Under) (head : List ℕ) (at : ℕ) (s : State) (r : Step) (w : Wa
       let small = bytes-drop 3 v (k .bytes) in
       let step = j .steps σ c small (t .says v k e σ) (m .says v k) at zs zu su in
       let take = take-text σ 12 c at s (flags zs ss zu su) r (flags zs ss′ zu su) (j .low) refl step in
-      let none : Names 12 c at zp sp zp sp = record { text = λ _. (refl, refl); zoning = λ z. absurd (omega (arith, z)); placed = λ _ n. absurd (n refl) } in
+      let none : Names 12 c at zp sp zp sp = record
+      { text = λ _. (refl, refl); zoning = λ z. absurd (omega (arith, z)); placed = λ _ n. absurd (n refl) } in
       went-then σ d before v s (flags zs ss zu su) r (flags zs ss′ zu su) zp sp w head (k .bytes) whole e p (k .held .size)
       (omega (arith, few, g .tracks .count))
       (take .takes d before p (g .tracks))
@@ -83,7 +82,10 @@ module _ (u : Under) (head : List ℕ) (at : ℕ) (s : State) (r : Step) (w : Wa
 
 -- the step of a device, by the bytes that are kept and by all
 module _ (e : Found) (b c : List ℕ) (at : ℕ) (s : State) (zu su : List Bool) (r : Step) (zu′ su′ : List Bool) where
-  pub placed-as : PlacedStep e b at s zu su r zu′ su′ → (e .fault ≡ 0 → readPlacement (byte b) ≡ readPlacement (byte c)) → PlacedStep e c at s zu su r zu′ su′
+  pub placed-as :
+      PlacedStep e b at s zu su r zu′ su′
+      → (e .fault ≡ 0 → readPlacement (byte b) ≡ readPlacement (byte c))
+      → PlacedStep e c at s zu su r zu′ su′
   placed-as p q =
       record {
         low = p .low;

@@ -5,23 +5,23 @@ use native.Mathlib.Omega.{arith}
 use mathlib.Core.Path.{_≡_, refl, sym, _∙_, ap, subst}
 use mathlib.Core.Bool.{Bool, true, false, _&&_, not, and-eq-true-iff, false≢true}
 use mathlib.Core.Logic.{_⊎_, inl, inr}
-use mathlib.Core.List.{List, [], _∷_, _++_}
+use mathlib.Core.List.{List, []}
 use lib.ListN.{length, drop, length-drop, drop-of-length-le}
 use lib.Dec.{eqb, ltb}
 use borrow.Author.Tests.{ltb-true, ltb-false, eqb-true, eqb-false, not-true}
-use Rattle.format.specs.Slots.{byte, Bytes}
+use Rattle.format.specs.Slots.{Bytes}
 use Rattle.format.specs.Records.{Record}
 use Rattle.format.specs.Layout.{placeAfter}
 use Rattle.format.specs.Verdict.{stated}
-use Rattle.format.specs.Reader.{Outcome, took, stop, step}
+use Rattle.format.specs.Reader.{stop, step}
 use Rattle.format.specs.declared.settings.Settings.{Settings}
 use Rattle.format.specs.declared.records.Description.{Description}
 use Rattle.format.proofs.Stepped.{unframed}
-use Rattle.pass.specs.Tracks.{Flags, Low, Tracks, Took, none-yet, one-more, Walked, WalkIs}
+use Rattle.pass.specs.Tracks.{Flags, Took, none-yet, one-more, Walked, WalkIs}
 use Rattle.pass.specs.declared.State.{State}
 use Rattle.pass.specs.declared.Over.{Over}
 use Rattle.pass.proofs.Moving.{unframed-short, unframed-long}
-use Rattle.stream.specs.Running.{Run, going, broken, unready, past, runBytes}
+use Rattle.stream.specs.Running.{going, broken, unready, runBytes}
 use Rattle.stream.proofs.Running.{Lacks, header, bytes, lacks, waits-bytes, ready-full}
 use Rattle.stream.proofs.Runs.{run-whole}
 use Rattle.naming.specs.Naming.{AllNamed}
@@ -73,7 +73,8 @@ module _
     whole-goes r zp′ sp′ z t a b n =
         let l : at + (o .place - at) ≡ o .place = omega (arith, w .from) in
         let path : Took σ before at p (walked .gone) (o .place) (drop (o .place - at) p) = rw (walked .rest) at (walked .way) in
-        let m = n .all σ before (walked .gone) small (omega (arith, t, w .to, w .from)) e (rw (t, l) path) (k .zone-first) (k .string-first) in
+        let m = n .all σ before (walked .gone) small (omega (arith, t, w .to, w .from)) e (rw (t, l) path) (k .zone-first)
+        (k .string-first) in
         record {
           more = walked .gone;
           way = rw (a, t) path;

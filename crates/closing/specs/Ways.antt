@@ -4,7 +4,7 @@ use Prim.Native.Nat.{ℕ, _+_, _-_, _<_, _≤_}
 use mathlib.Core.Path.{_≡_}
 use mathlib.Core.Logic.{_⊎_}
 use mathlib.Core.Bool.{Bool, true}
-use mathlib.Core.List.{List, [], _∷_, _++_}
+use mathlib.Core.List.{List, []}
 use lib.ListN.{length, drop}
 use Rattle.format.specs.Slots.{byte, Bytes}
 use Rattle.format.specs.Records.{Record}
@@ -32,7 +32,8 @@ pub record Gone (d : Description) (s : State) (f : Flags) (zp sp : List ℕ) (be
   pub string-first : Firsts stringNamed sp before
 
 -- the pass is under way
-pub record On (d : Description) (w : Way) (head : List ℕ) (f : Flags) (zp sp : List ℕ) (before : List Record) (at : ℕ) (u : List ℕ) : Type 0 where
+pub record On (d : Description) (w : Way) (head : List ℕ) (f : Flags) (zp sp : List ℕ) (before : List Record) (at : ℕ)
+    (u : List ℕ) : Type 0 where
   pub goes : w .stop ≡ 0
   pub here : w .at ≡ at
   pub place : at ≡ placeAfter before
@@ -52,14 +53,16 @@ pub record Plain (w : Way) (most : ℕ) : Type 0 where
   pub within : w .at ≤ most
 
 -- the whole elements at the start of some bytes: all that are there, or up to one that stops the pass
-pub record Onward (σ : Settings) (d : Description) (p : List ℕ) (at : ℕ) (before : List Record) (r : Ran) (f : Flags) (zp sp : List ℕ) : Type 0 where
+pub record Onward (σ : Settings) (d : Description) (p : List ℕ) (at : ℕ) (before : List Record) (r : Ran) (f : Flags)
+    (zp sp : List ℕ) : Type 0 where
   pub more : List Record
   pub way : Took σ before at p more (r .way .at) (drop (r .taken) p)
   pub left : Gone d (r .way .state) f zp sp more
   pub place : r .way .at ≡ placeAfter more
   pub rest : r .taken < length p → step σ more (drop (r .taken) p) ≡ stop 6
 
-pub record WholeIs (σ : Settings) (p : List ℕ) (at : ℕ) (s : State) (f : Flags) (zp sp : List ℕ) (r : Ran) (f′ : Flags) (zp′ sp′ : List ℕ) : Type 0 where
+pub record WholeIs (σ : Settings) (p : List ℕ) (at : ℕ) (s : State) (f : Flags) (zp sp : List ℕ) (r : Ran) (f′ : Flags)
+    (zp′ sp′ : List ℕ) : Type 0 where
   pub plain : Plain (r .way) (at + length p)
   pub within : r .taken ≤ length p
   pub here : r .way .stop ≡ 0 → r .way .at ≡ at + r .taken
@@ -86,7 +89,8 @@ Whole v = (3 ≤ stated v) × (stated v ≡ length v)
 abbrev pub Then : Settings → Description → List Record → ℕ → List ℕ → Way → List ℕ → Flags → List ℕ → List ℕ → Type 0
 Then σ d before at v r head f zp sp = WayIs d r head f zp sp (past before at (length v) (step σ before v))
 
-pub record FixedIs (σ : Settings) (p : List ℕ) (at : ℕ) (s : State) (f : Flags) (zp sp : List ℕ) (r : Way) (f′ : Flags) (zp′ sp′ : List ℕ) : Type 0 where
+pub record FixedIs (σ : Settings) (p : List ℕ) (at : ℕ) (s : State) (f : Flags) (zp sp : List ℕ) (r : Way) (f′ : Flags)
+    (zp′ sp′ : List ℕ) : Type 0 where
   pub plain : Plain r (at + length p)
   pub then :
       (d : Description) (before : List Record) (head : List ℕ)
@@ -108,7 +112,8 @@ pub record TextClosed (u : Under) (head : List ℕ) (at : ℕ) (s : State) (ss :
       → Gone d s (flags zs ss zu su) zp sp before
       → Then σ d before at v r head (flags zs ss′ zu su) zp sp
 
-pub record DeviceClosed (id : ℕ) (e : Found) (u : Under) (head : List ℕ) (at : ℕ) (s : State) (zu su : List Bool) (zp sp : List ℕ) (r : Way) (zu′ su′ : List Bool) (zp′ sp′ : List ℕ) : Type 0 where
+pub record DeviceClosed (id : ℕ) (e : Found) (u : Under) (head : List ℕ) (at : ℕ) (s : State) (zu su : List Bool) (zp sp : List ℕ)
+    (r : Way) (zu′ su′ : List Bool) (zp′ sp′ : List ℕ) : Type 0 where
   pub plain : Plain r (at + u .len)
   pub then :
       (σ : Settings) (d : Description) (before : List Record) (v : List ℕ) (zs ss : List Bool)
@@ -121,7 +126,8 @@ pub record DeviceClosed (id : ℕ) (e : Found) (u : Under) (head : List ℕ) (at
       → Gone d s (flags zs ss zu su) zp sp before
       → Then σ d before at v r head (flags zs ss zu′ su′) zp′ sp′
 
-pub record CloseIs (σ : Settings) (u : Under) (head : List ℕ) (at : ℕ) (s : State) (f : Flags) (zp sp : List ℕ) (r : Way) (f′ : Flags) (zp′ sp′ : List ℕ) : Type 0 where
+pub record CloseIs (σ : Settings) (u : Under) (head : List ℕ) (at : ℕ) (s : State) (f : Flags) (zp sp : List ℕ) (r : Way) (f′ : Flags)
+    (zp′ sp′ : List ℕ) : Type 0 where
   pub plain : Plain r (at + u .len)
   pub then :
       (d : Description) (before : List Record) (v : List ℕ)

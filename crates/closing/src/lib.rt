@@ -6,7 +6,7 @@ ghost use lib.ListN.{length};
 ghost use Rattle.format.specs.Verdict.{known};
 ghost use Rattle.pass.specs.Tracks.{flags, Low};
 ghost use Rattle.stream.specs.Running.{unready};
-ghost use Rattle.closing.specs.Ways.{Plain, WholeIs, FixedIs, TextClosed, DeviceClosed, CloseIs};
+ghost use Rattle.closing.specs.Ways.{WholeIs, FixedIs, TextClosed, DeviceClosed, CloseIs};
 use format::settings::Settings;
 use found::Found;
 use pass::State;
@@ -65,7 +65,9 @@ fn whole(
     settings: Settings,
 ) -> Ran
     requires { ⌜ (at + length (now p) ≤ 4097) × Low s ⌝ }
-    ensures { λ r. ⌜ WholeIs settings (now (p .entry)) at s (flags (now (zs .entry)) (now (ss .entry)) (now (zu .entry)) (now (su .entry))) (now (zp .entry)) (now (sp .entry)) r (flags (now (zs .exit)) (now (ss .exit)) (now (zu .exit)) (now (su .exit))) (now (zp .exit)) (now (sp .exit)) ⌝ }
+    ensures { λ r. ⌜ WholeIs settings (now (p .entry)) at s
+        (flags (now (zs .entry)) (now (ss .entry)) (now (zu .entry)) (now (su .entry))) (now (zp .entry)) (now (sp .entry)) r
+        (flags (now (zs .exit)) (now (ss .exit)) (now (zu .exit)) (now (su .exit))) (now (zp .exit)) (now (sp .exit)) ⌝ }
 {
     let r = pass::walk(p, at, s, zs, ss, zu, su, settings);
     let state = r.state;
@@ -107,7 +109,9 @@ pub fn front(
     settings: Settings,
 ) -> Ran
     requires { ⌜ (at + length (now p) ≤ 4097) × Low s ⌝ }
-    ensures { λ r. ⌜ WholeIs settings (now (p .entry)) at s (flags (now (zs .entry)) (now (ss .entry)) (now (zu .entry)) (now (su .entry))) (now (zp .entry)) (now (sp .entry)) r (flags (now (zs .exit)) (now (ss .exit)) (now (zu .exit)) (now (su .exit))) (now (zp .exit)) (now (sp .exit)) ⌝ }
+    ensures { λ r. ⌜ WholeIs settings (now (p .entry)) at s
+        (flags (now (zs .entry)) (now (ss .entry)) (now (zu .entry)) (now (su .entry))) (now (zp .entry)) (now (sp .entry)) r
+        (flags (now (zs .exit)) (now (ss .exit)) (now (zu .exit)) (now (su .exit))) (now (zp .exit)) (now (sp .exit)) ⌝ }
 {
     if waits(p) {
         return Ran {
@@ -132,7 +136,9 @@ fn fixed(
     settings: Settings,
 ) -> Way
     requires { ⌜ (at + length (now p) ≤ 4097) × Low s ⌝ }
-    ensures { λ r. ⌜ FixedIs settings (now (p .entry)) at s (flags (now (zs .entry)) (now (ss .entry)) (now (zu .entry)) (now (su .entry))) (now (zp .entry)) (now (sp .entry)) r (flags (now (zs .exit)) (now (ss .exit)) (now (zu .exit)) (now (su .exit))) (now (zp .exit)) (now (sp .exit)) ⌝ }
+    ensures { λ r. ⌜ FixedIs settings (now (p .entry)) at s
+        (flags (now (zs .entry)) (now (ss .entry)) (now (zu .entry)) (now (su .entry))) (now (zp .entry)) (now (sp .entry)) r
+        (flags (now (zs .exit)) (now (ss .exit)) (now (zu .exit)) (now (su .exit))) (now (zp .exit)) (now (sp .exit)) ⌝ }
 {
     let r = pass::walk(p, at, s, zs, ss, zu, su, settings);
     let state = r.state;
@@ -170,7 +176,8 @@ fn device(
     sp: &mut [u16; 256],
 ) -> Way
     requires { ⌜ (at + u .len ≤ 4097) × (s .count < 96) × (s .zones ≤ 12) ⌝ }
-    ensures { λ r. ⌜ DeviceClosed id f u (now (head .entry)) at s (now (zu .entry)) (now (su .entry)) (now (zp .entry)) (now (sp .entry)) r (now (zu .exit)) (now (su .exit)) (now (zp .exit)) (now (sp .exit)) ⌝ }
+    ensures { λ r. ⌜ DeviceClosed id f u (now (head .entry)) at s (now (zu .entry)) (now (su .entry)) (now (zp .entry))
+        (now (sp .entry)) r (now (zu .exit)) (now (su .exit)) (now (zp .exit)) (now (sp .exit)) ⌝ }
 {
     let h = &head[..];
     let r = pass::placed_step(f, &h[3..30], at, s, zu, su);
@@ -220,7 +227,9 @@ pub fn close(
     settings: Settings,
 ) -> Way
     requires { ⌜ (at + u .len ≤ 4097) × (u .at ≤ 10000) × Low s ⌝ }
-    ensures { λ r. ⌜ CloseIs settings u (now (head .entry)) at s (flags (now (zs .entry)) (now (ss .entry)) (now (zu .entry)) (now (su .entry))) (now (zp .entry)) (now (sp .entry)) r (flags (now (zs .exit)) (now (ss .exit)) (now (zu .exit)) (now (su .exit))) (now (zp .exit)) (now (sp .exit)) ⌝ }
+    ensures { λ r. ⌜ CloseIs settings u (now (head .entry)) at s
+        (flags (now (zs .entry)) (now (ss .entry)) (now (zu .entry)) (now (su .entry))) (now (zp .entry)) (now (sp .entry)) r
+        (flags (now (zs .exit)) (now (ss .exit)) (now (zu .exit)) (now (su .exit))) (now (zp .exit)) (now (sp .exit)) ⌝ }
 {
     if 96 <= s.count {
         return broken(11, at, s);

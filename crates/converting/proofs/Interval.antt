@@ -68,7 +68,8 @@ module _ (up : Bool) (c : ℕ) (ps : List ℕ) (five : length ps ≡ 5) where
 
   ended : (i : ℕ) → Left up c ps i → 4 ≤ i → Over ≡ walk up 0 ps c
   ended i x l =
-      let e : drop i ps ≡ getD ps i 0 ∷ [] = drop-cons ps i 0 (omega arith) ∙ ap (λ (l : List ℕ). getD ps i 0 ∷ l) (drop-of-length-le ps {i = suc i} (omega arith)) in
+      let e : drop i ps ≡ getD ps i 0 ∷ [] = drop-cons ps i 0 (omega arith)
+      ∙ ap (λ (l : List ℕ). getD ps i 0 ∷ l) (drop-of-length-le ps {i = suc i} (omega arith)) in
       rw e at (x .rest)
 
   -- a count behind a point is behind those before it

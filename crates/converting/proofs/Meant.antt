@@ -1,14 +1,13 @@
 -- A temperature as one number: what it means is what the formula gives.
 -- Assumes nothing.
 use Prim.Native.Nat.{ℕ, _≤_}
-use mathlib.Core.Path.{_≡_, refl, sym, _∙_, ap}
+use mathlib.Core.Path.{_≡_}
 use mathlib.Core.Bool.{true, false}
 use borrow.Author.Tests.{le-leb, le-ltb}
 use Rattle.converting.specs.Outcomes.{tenths}
 use Rattle.converting.specs.Conversions.{points, strict, Temperature}
 use Rattle.converting.specs.Formula.{temperatureOf, meant}
 use Rattle.converting.specs.declared.Converted.{Converted}
-use Rattle.converting.specs.declared.Converted.the-variants.{Refused}
 use Rattle.converting.specs.declared.Calibration.{Calibration}
 use Rattle.converting.proofs.Walking.{temperature-meets}
 

@@ -66,11 +66,18 @@ module _ (up : Bool) (c d : ℕ) (order : after up d c ≡ false) where
   at-least m s (a ∷ []) h = to-over
   at-least m s (a ∷ b ∷ ps) h = by-test (after up b d) (at-least m (s + 250) (b ∷ ps) (omega arith))
     where
-      by-test : (t : Bool) → NotHotter (tenths m) (walk up (s + 250) (b ∷ ps) d) → NotHotter (tenths m) (cond t (walk up (s + 250) (b ∷ ps) d) (tenths (step s a b d)))
+      by-test :
+          (t : Bool)
+          → NotHotter (tenths m) (walk up (s + 250) (b ∷ ps) d)
+          → NotHotter (tenths m) (cond t (walk up (s + 250) (b ∷ ps) d) (tenths (step s a b d)))
       by-test true go = go
       by-test false go = by-tenths (step-least m s a b d h)
 
-  walk-rises : (s a : ℕ) (ps : List ℕ) → strict up (a ∷ ps) ≡ true → after up c a ≡ false → NotHotter (walk up s (a ∷ ps) c) (walk up s (a ∷ ps) d)
+  walk-rises :
+      (s a : ℕ) (ps : List ℕ)
+      → strict up (a ∷ ps) ≡ true
+      → after up c a ≡ false
+      → NotHotter (walk up s (a ∷ ps) c) (walk up s (a ∷ ps) d)
   walk-rises s a [] str h = to-over
   walk-rises s a (b ∷ ps) str h = by-tests (after up b c) (after up b d) refl refl (walk-rises (s + 250) b ps (chain up a b ps str .1))
     where
@@ -102,13 +109,22 @@ module _ (up : Bool) (c d : ℕ) (order : after up d c ≡ false) where
       by-tests false false e f = walk-rises 0 a ps str e
 
 -- along the calibration, whichever way it goes
-along : {p : Calibration} {c d : ℕ} {r q : Converted} (up : Bool) → strict up (points p) ≡ true → after up d c ≡ false → c ≤ 1023 → d ≤ 1023 → Temperature p c r → Temperature p d q → NotHotter r q
+along :
+    {p : Calibration} {c d : ℕ} {r q : Converted} (up : Bool)
+    → strict up (points p) ≡ true
+    → after up d c ≡ false
+    → c ≤ 1023
+    → d ≤ 1023
+    → Temperature p c r
+    → Temperature p d q
+    → NotHotter r q
 along {p} {c} {d} up str order l m x y =
     rw (temperature-unique x (course-meets up l str), temperature-unique y (course-meets up m str))
     (course-rises up c d order (p .at0 .0) (p .at25 .0 ∷ p .at50 .0 ∷ p .at75 .0 ∷ p .at100 .0 ∷ []) str)
 
 -- of two counts the greater is no colder where the calibration rises, and no hotter where it falls
-module _ {p : Calibration} {c d : ℕ} {r q : Converted} (order : c ≤ d) (scale : d ≤ 1023) (x : Temperature p c r) (y : Temperature p d q) where
+module _ {p : Calibration} {c d : ℕ} {r q : Converted} (order : c ≤ d) (scale : d ≤ 1023) (x : Temperature p c r)
+    (y : Temperature p d q) where
   pub rises : strict true (points p) ≡ true → NotHotter r q
   rises str = along true str (le-ltb d c order) (omega arith) scale x y
 

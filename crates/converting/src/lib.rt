@@ -2,7 +2,7 @@
 ghost use mathlib.Core.Path.{_≡_};
 ghost use mathlib.Core.Bool.{true, cond};
 ghost use Prim.Native.Nat.{_≤_, _<_};
-ghost use Rattle.converting.specs.Outcomes.{outcomeOf, tenths, deciamps, decivolts};
+ghost use Rattle.converting.specs.Outcomes.{outcomeOf, deciamps, decivolts};
 ghost use Rattle.converting.specs.Rounding.{Nearest};
 ghost use Rattle.converting.specs.Conversions.{weighed, points, after, strict, apart, Linear, Temperature, Speed};
 ghost use Rattle.converting.specs.Formula.{step, course, temperatureOf, meant};

@@ -6,7 +6,7 @@ use native.Mathlib.Nat.{div-eq-of-lt, div-div-eq-div-mul, div-lt-iff-lt-mul}
 use mathlib.Core.Path.{_≡_, refl, sym, _∙_, ap}
 use mathlib.Core.Bool.{Bool, true, false, cond}
 use mathlib.Core.List.{List, [], _∷_, _++_, append-assoc}
-use lib.Dec.{eqb, ltb}
+use lib.Dec.{ltb}
 use borrow.Author.Tests.{ltb-true, ltb-false, ne-eqb}
 use Rattle.spelling.specs.Spelling.{Put, digit, digitAt, decimal}
 use Rattle.decimals.specs.Decimals.{leading, decimals}

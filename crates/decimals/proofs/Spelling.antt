@@ -1,14 +1,12 @@
 -- The digits of a number from the last to the first: what stands behind the digits that are still to come.
 -- Assumes nothing.
-use Prim.Native.Nat.{ℕ, zero, suc, _+_, _-_, _*_, _/_, _%_, _^_, _<_, _≤_}
+use Prim.Native.Nat.{ℕ, zero, suc, _+_, _-_, _/_, _^_, _<_, _≤_}
 use native.Mathlib.Omega.{arith}
 use native.Mathlib.Nat.{pow-succ'}
 use mathlib.Core.Path.{_≡_, refl, sym, _∙_, ap}
-use mathlib.Core.Bool.{cond}
 use mathlib.Core.List.{List, [], _∷_, _++_, append-assoc}
 use lib.ListN.{length, set, take, drop, length-set, length-drop}
 use lib.Seq.{take-all, drop-cons, drop-length, drop-set-lt, getD-set-same}
-use lib.Dec.{eqb}
 use borrow.Author.Tests.{ne-eqb}
 use Rattle.spelling.specs.Spelling.{Put, digit}
 use Rattle.decimals.specs.Decimals.{leading, decimals, Spelt}
@@ -27,7 +25,12 @@ set-front l i x h =
     ∙ ap (λ (y : ℕ). y ∷ drop (suc i) (set l i x)) (getD-set-same l i x 0 h)
     ∙ ap (λ (t : List ℕ). x ∷ t) (drop-set-lt (suc i) l i x (omega arith))
 
-pub first-digit : (n x : ℕ) (bytes : List ℕ) → length bytes ≡ 20 → n < 18446744073709551616 → x ≡ digit n → Spelling n (set bytes 19 x) 19 (n / 10)
+pub first-digit :
+    (n x : ℕ) (bytes : List ℕ)
+    → length bytes ≡ 20
+    → n < 18446744073709551616
+    → x ≡ digit n
+    → Spelling n (set bytes 19 x) 19 (n / 10)
 unfolding decimals
 first-digit n x bytes l h e =
     let none : drop 20 bytes ≡ [] = ap (λ (k : ℕ). drop k bytes) (sym l) ∙ drop-length bytes in
@@ -56,7 +59,8 @@ module _ {n from m : ℕ} {bytes : List ℕ} (s : Spelling n bytes from m) where
           let here = append-assoc (leading k (m / 10)) (digit m ∷ []) (drop (suc k) bytes) in
           rw one
           record {
-            text = ap (λ (d : List ℕ). leading k (m / 10) ++ d) (set-front bytes k x (omega (arith, s .twenty)) ∙ rw e) ∙ sym here ∙ (rw (ne-eqb m 0 h) at t);
+            text = ap (λ (d : List ℕ). leading k (m / 10) ++ d) (set-front bytes k x (omega (arith, s .twenty)) ∙ rw e) ∙ sym here
+                ∙ (rw (ne-eqb m 0 h) at t);
             within = omega arith;
             twenty = length-set bytes k x ∙ s .twenty;
             small = omega (arith, rw pow-succ' at l);

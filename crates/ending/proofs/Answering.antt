@@ -3,7 +3,7 @@
 use Prim.Native.Nat.{ℕ, _+_, _*_, _%_, _<_, _≤_}
 use native.Mathlib.Omega.{arith}
 use native.Mathlib.Nat.{mod-eq-of-lt}
-use mathlib.Core.Path.{_≡_, refl, sym, _∙_, ap, subst}
+use mathlib.Core.Path.{_≡_, refl, sym, _∙_, subst}
 use mathlib.Core.Bool.{Bool, true, false, false≢true}
 use mathlib.Core.List.{List, [], _∷_}
 use mathlib.Core.Option.{Option, none, some}
@@ -14,20 +14,20 @@ use borrow.Author.Tests.{le-leb, lt-leb, eq-eqb, ne-eqb, eqb-true, eqb-false}
 use Rattle.format.specs.Slots.{byte}
 use Rattle.format.specs.Verdict.{stated}
 use Rattle.format.specs.Table.{descriptionBreaks}
-use Rattle.format.specs.Reader.{overAll, conclude, unlessMisdescribed, orRefuseAt0}
+use Rattle.format.specs.Reader.{overAll, conclude, unlessMisdescribed}
 use Rattle.format.specs.declared.settings.Settings.{Settings}
 use Rattle.format.specs.declared.records.Description.{Description}
 use Rattle.format.specs.declared.answers.Answer.{Answer}
 use Rattle.format.specs.declared.answers.Answer.the-variants.{Refused}
 use Rattle.pass.specs.Tracks.{Flags}
 use Rattle.stream.specs.Running.{Run, going, broken, runBytes, begin, finish}
-use Rattle.stream.specs.Arriving.{State, after, answer}
+use Rattle.stream.specs.Arriving.{after}
 use Rattle.closing.specs.Ways.{WayIs}
 use Rattle.closing.specs.declared.Way.{Way}
 use Rattle.states.specs.Numbers.{number, wayOf}
 use Rattle.advancing.specs.Advancing.{opened, Fresh, PlacedAt}
 use Rattle.advancing.proofs.Placing.{description-small, placed-bytes}
-use Rattle.ending.specs.Stands.{lent, described, Stands, StandsFor}
+use Rattle.ending.specs.Stands.{lent, described, StandsFor}
 use Rattle.ending.specs.Ending.{AloneIs, OverIs, PassedIs, VerdictIs}
 
 -- where the pass is
@@ -39,7 +39,12 @@ module _ (w : Way) (bare : Bool) (string : ℕ) (f : Flags) (zp sp : List ℕ) (
       number-of : {k : ℕ} → w .stop ≡ k → k < 256 → w .stop % 256 ≡ k
       number-of e h = rw e (mod-eq-of-lt h)
 
-      first : (σ : Settings) (d : Description) → Fresh σ d w → (o : Option ℕ) → descriptionBreaks (σ .chip) d ≡ o → a ≡ unlessMisdescribed o (overAll d [])
+      first :
+          (σ : Settings) (d : Description)
+          → Fresh σ d w
+          → (o : Option ℕ)
+          → descriptionBreaks (σ .chip) d ≡ o
+          → a ≡ unlessMisdescribed o (overAll d [])
       first σ d k none q = absurd (n (k .good q .goes))
       first σ d k (some j) q =
           let b = k .bad j q in
@@ -68,7 +73,9 @@ module _ (w : Way) (bare : Bool) (string : ℕ) (f : Flags) (zp sp : List ℕ) (
         first σ d k e (some j) q = let b = k .bad j q in absurd (omega (arith, b .0, b .1, z))
 
     module _ (t : bare ≡ false) where
-      later : ((d : Description) (head : List ℕ) (s : Run) → WayIs d w head f zp sp s → string ≡ d .string → a ≡ conclude d (finish s)) → PassedIs w bare string f zp sp a
+      later :
+          ((d : Description) (head : List ℕ) (s : Run) → WayIs d w head f zp sp s → string ≡ d .string → a ≡ conclude d (finish s))
+          → PassedIs w bare string f zp sp a
       later g = record { fresh = λ y. absurd (false≢true (sym t ∙ y)); pass = λ _ d head m s k q e. g d head s k e }
 
       pub passed-6 : (w .under .len ≡ 0 → ⊥) → a ≡ Refused 6 (w .at) → PassedIs w bare string f zp sp a
@@ -93,7 +100,10 @@ concluding d none s = refl
 concluding d (some k) s = refl
 
 -- where the pass of a table is after its bytes
-pub placed-of : (σ : Settings) (d : Description) (c : List ℕ) → 16 ≤ length c → PlacedAt (length c) (opened (descriptionBreaks (σ .chip) d) (runBytes σ begin (drop 16 c)))
+pub placed-of :
+    (σ : Settings) (d : Description) (c : List ℕ)
+    → 16 ≤ length c
+    → PlacedAt (length c) (opened (descriptionBreaks (σ .chip) d) (runBytes σ begin (drop 16 c)))
 placed-of σ d c h = go (descriptionBreaks (σ .chip) d) refl
   where
     there : PlacedAt (length c) (runBytes σ begin (drop 16 c))

@@ -4,8 +4,8 @@ use Prim.Native.Nat.{ℕ, _+_, _<_}
 use native.Mathlib.Omega.{arith}
 use mathlib.Core.Path.{_≡_, refl, sym, _∙_, ap}
 use mathlib.Core.Bool.{Bool, true, false, _||_, false≢true}
-use mathlib.Core.List.{List, [], _∷_, _++_, append-nil}
-use mathlib.Core.Option.{Option, none, some}
+use mathlib.Core.List.{List, [], _∷_, append-nil}
+use mathlib.Core.Option.{none}
 use lib.ListN.{length, getD, set}
 use lib.Dec.{eqb}
 use borrow.Author.Tests.{eq-eqb, ne-eqb}
@@ -13,8 +13,7 @@ use Rattle.format.specs.Records.{Record}
 use Rattle.format.specs.Layout.{layout}
 use Rattle.format.specs.Pins.{among}
 use Rattle.format.specs.ZonesAndStrings.{Role, role, gathered, zones, strings, zoneNamed, stringNamed, zoneless, nameless}
-use Rattle.format.specs.Claims.{claims, madeAt, firstClaims, firstClash}
-use Rattle.format.specs.Reader.{overAll}
+use Rattle.format.specs.Claims.{claims, madeAt, firstClaims}
 use Rattle.format.specs.declared.records.Description.{Description}
 use Rattle.format.specs.declared.answers.Answer.{Answer}
 use Rattle.format.specs.declared.answers.Answer.the-variants.{Accepted, Refused}
@@ -52,7 +51,8 @@ lacking-none used seen places t l e =
 unnamed : (names : Role → List ℕ) (n at : ℕ) (rs : List Record) → among n (gathered names rs) ≡ false → firstPlace names n at rs ≡ 0
 unnamed names n at [] h = refl
 unnamed names n at (r ∷ rs) h =
-    go (among n (names (role r))) (unnamed names n (at + length (layout r)) rs) (sym (among-append n (names (role r)) (gathered names rs)) ∙ h)
+    go (among n (names (role r))) (unnamed names n (at + length (layout r)) rs)
+    (sym (among-append n (names (role r)) (gathered names rs)) ∙ h)
   where
     go :
         (t : Bool)
@@ -98,7 +98,8 @@ module _ (string : ℕ) (s : State) (f : Flags) (zp sp : List ℕ) (a : Answer) 
     string-least : {t : ℕ} {seen : List Bool} → LackingIs (f .strings-named) seen sp t → LeastTo 256 sp seen t
     string-least l =
         l .least
-        (placeless stringNamed (f .strings-named) (d .string ∷ gathered stringNamed rs) rs (g .tracks .string-use) other sp (g .string-first))
+        (placeless stringNamed (f .strings-named) (d .string ∷ gathered stringNamed rs) rs (g .tracks .string-use) other sp
+        (g .string-first))
 
     declared : Marks (set (f .strings-declared) 0 true) (0 ∷ strings rs)
     declared = marks-front (f .strings-declared) (strings rs) 0 (omega arith) (g .tracks .string)
@@ -111,14 +112,16 @@ module _ (string : ℕ) (s : State) (f : Flags) (zp sp : List ℕ) (a : Answer) 
               λ d rs e g.
               p
               ∙ sym
-              (rw (a-name zoneNamed zp (f .zones-declared) (zones rs) rs z (g .zone-first) (g .tracks .zone) (zone-least d rs g l) (zone-low d rs g) h)
+              (rw (a-name zoneNamed zp (f .zones-declared) (zones rs) rs z (g .zone-first) (g .tracks .zone) (zone-least d rs g l)
+              (zone-low d rs g) h)
               refl);
         }
 
     module _ (h : z ≡ 0) where
       zoned : (d : Description) (rs : List Record) → Gone d s f zp sp rs → zoneless rs ≡ none
       zoned d rs g =
-          no-name zoneNamed zp (f .zones-declared) (zones rs) rs z (g .zone-first) (g .tracks .zone) (zone-least d rs g l) (zone-low d rs g) h
+          no-name zoneNamed zp (f .zones-declared) (zones rs) rs z (g .zone-first) (g .tracks .zone) (zone-least d rs g l)
+          (zone-low d rs g) h
 
       module _ (i : ℕ) (w : (i ≡ string) × (i < 256)) where
         own :
@@ -133,7 +136,8 @@ module _ (string : ℕ) (s : State) (f : Flags) (zp sp : List ℕ) (a : Answer) 
         pub over-14-description : getD (set (f .strings-declared) 0 true) i false ≡ false → a ≡ Refused 14 0 → OverIs string s f zp sp a
         over-14-description y p = record { concludes = λ d rs e g. p ∙ sym (rw (zoned d rs g, own false y d rs e g) refl) }
 
-        module _ (y : getD (set (f .strings-declared) 0 true) i false ≡ true) (t : ℕ) (k : LackingIs (f .strings-named) (set (f .strings-declared) 0 true) sp t) where
+        module _ (y : getD (set (f .strings-declared) 0 true) i false ≡ true) (t : ℕ)
+            (k : LackingIs (f .strings-named) (set (f .strings-declared) 0 true) sp t) where
           pub over-14 : (t ≡ 0 → ⊥) → a ≡ Refused 14 t → OverIs string s f zp sp a
           over-14 x p =
               record {

@@ -45,7 +45,8 @@ fn concluded(
     zp: &[u16; 256],
     sp: &[u16; 256],
 ) -> Answer
-    ensures { λ r. ⌜ OverIs string s (flags (now (zs .entry)) (now (ss .entry)) (now (zu .entry)) (now (su .entry))) (now (zp .entry)) (now (sp .entry)) r ⌝ }
+    ensures { λ r. ⌜ OverIs string s (flags (now (zs .entry)) (now (ss .entry)) (now (zu .entry)) (now (su .entry))) (now (zp .entry))
+        (now (sp .entry)) r ⌝ }
 {
     let z = lacking(zu, zs, zp);
     if z != 0 {
@@ -87,7 +88,8 @@ fn passed(
     zp: &[u16; 256],
     sp: &[u16; 256],
 ) -> Answer
-    ensures { λ r. ⌜ PassedIs w bare string (flags (now (zs .entry)) (now (ss .entry)) (now (zu .entry)) (now (su .entry))) (now (zp .entry)) (now (sp .entry)) r ⌝ }
+    ensures { λ r. ⌜ PassedIs w bare string (flags (now (zs .entry)) (now (ss .entry)) (now (zu .entry)) (now (su .entry)))
+        (now (zp .entry)) (now (sp .entry)) r ⌝ }
 {
     if w.stop != 0 {
         return Answer::Refused(rule(w.stop), w.at);
@@ -115,7 +117,8 @@ pub fn verdict(
     zp: &[u16; 256],
     sp: &[u16; 256],
 ) -> Answer
-    ensures { λ r. ⌜ VerdictIs (now (n .entry)) (now (first .entry)) (flags (now (zs .entry)) (now (ss .entry)) (now (zu .entry)) (now (su .entry))) (now (zp .entry)) (now (sp .entry)) r ⌝ }
+    ensures { λ r. ⌜ VerdictIs (now (n .entry)) (now (first .entry))
+        (flags (now (zs .entry)) (now (ss .entry)) (now (zu .entry)) (now (su .entry))) (now (zp .entry)) (now (sp .entry)) r ⌝ }
 {
     let count = n[2];
     if count < 16 {

@@ -19,7 +19,10 @@ pub compares-fitted : (c : Chip) (b b′ buf : List ℕ) (x : Outcome) (after : 
 compares-fitted c b b′ buf x after (compared d d′ rs rs′ a a′ put) =
     omega (arith, put .ends, text-bound (archived c) d d′ rs rs′ (a .keeps) (a′ .keeps))
 compares-fitted c b b′ buf x after (firstRefused {k = k} {p = p} v) = (omega arith, value-bound (archived c) b (RefusedTable k p) v)
-compares-fitted c b b′ buf x after (secondRefused {k = k} {p = p} d rs a v) = (omega arith, value-bound (archived c) b′ (RefusedTable k p) v)
+compares-fitted c b b′ buf x after (secondRefused {k = k} {p = p} d rs a v) = (
+  omega arith,
+  value-bound (archived c) b′ (RefusedTable k p) v,
+)
 
 -- no second outcome
 pub diff-unique :

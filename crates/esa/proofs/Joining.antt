@@ -14,11 +14,12 @@ use Rattle.format.specs.Rules.{descriptionRoomy, elementRoomy}
 use Rattle.format.specs.Table.{descriptionBreaks}
 use Rattle.format.specs.Verdict.{stated}
 use Rattle.format.specs.Answers.{valueOfWritten}
-use Rattle.format.specs.Writing.{writing, orRefused, unlessBrokenAt, partBreaks, newLength, lengthStands, hasRoom, startAnswer, appendAnswer}
+use Rattle.format.specs.Writing.{writing, orRefused, unlessBrokenAt, partBreaks, newLength, lengthStands, hasRoom, startAnswer}
+use Rattle.format.specs.Writing.{appendAnswer}
 use Rattle.format.specs.declared.records.Description.{Description}
 use Rattle.format.specs.declared.records.Element.{Element}
 use Rattle.format.specs.declared.answers.Written.{Written}
-use Rattle.format.specs.declared.answers.Written.the-variants.{Length, Refused}
+use Rattle.format.specs.declared.answers.Written.the-variants.{Length}
 use Rattle.writer.specs.Calls.{Started, Appended}
 use Rattle.writer.proofs.Answering.{at-most}
 use Rattle.format.proofs.Lengths.{fits-length}

@@ -19,7 +19,12 @@ label-fits σ b k Lent f = tt
 label-fits σ b k (Refused j p) f = found-refused σ b k (Refused j p) f refl
 
 -- no second outcome
-pub label-unique : (σ : Settings) (b : List ℕ) (k : ℕ) (name : List ℕ) (r r′ : ℕ) → Bytes b → LabelFor σ b k name r → LabelFor σ b k name r′ → r ≡ r′
+pub label-unique :
+    (σ : Settings) (b : List ℕ) (k : ℕ) (name : List ℕ) (r r′ : ℕ)
+    → Bytes b
+    → LabelFor σ b k name r
+    → LabelFor σ b k name r′
+    → r ≡ r′
 label-unique σ b k name r r′ small l l′ =
     l .number
     ∙ ap (λ (x : Source). packedLabel x (length name)) (only-find σ b k small (l .answer) (l′ .answer) (l .found) (l′ .found))

@@ -97,7 +97,8 @@ refused-bound σ b k x {j} {p} g is =
     place-bound σ b k (NotGiven j p) (h .beside) (h .gives)
 
 pub refused-text :
-    (σ : Settings) (b : List ℕ) (k : ℕ) (x : Placed) {j p : ℕ} (r : ℕ) → GivesPlace σ b k x → x ≡ Refused j p → r ≡ packs j p → TextPlaced σ b k r
+    (σ : Settings) (b : List ℕ) (k : ℕ) (x : Placed) {j p : ℕ} (r : ℕ) → GivesPlace σ b k x → x ≡ Refused j p → r ≡ packs j p
+    → TextPlaced σ b k r
 refused-text σ b k x {j} {p} r g is m =
     let h = place-as σ b k x (Refused j p) g is in
     record { beside = NotGiven j p; part = h .beside; gives = h .gives; place = Refused j p; placed = h; number = m }
@@ -106,7 +107,8 @@ pub length-bound : (σ : Settings) (b : List ℕ) (k : ℕ) (p : List ℕ) → G
 length-bound σ b k p h = part-bound σ b k (h .beside) p (h .gives)
 
 -- the text of an element by its identifier
-module _ (σ : Settings) (b : List ℕ) (k : ℕ) (a : Asked) {e : Case} {id : ℕ} (g : GivesElement σ b k a) (is : a ≡ Element e) (h : id ≡ idOf e) where
+module _ (σ : Settings) (b : List ℕ) (k : ℕ) (a : Asked) {e : Case} {id : ℕ} (g : GivesElement σ b k a) (is : a ≡ Element e)
+    (h : id ≡ idOf e) where
   pub string-for : {r : ℕ} → id ≡ 12 → TextPlaced σ b k r → TextFor σ b k r
   string-for {r} q t = text-for σ b k a (Element e) g is r (rw (eq-eqb (idOf e) 12 (sym h ∙ q)) t)
 

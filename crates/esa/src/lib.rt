@@ -144,8 +144,8 @@ pub extern "C" fn esa_fan(table: &[u8], zone: u8, settings: u64) -> u64
     packing::zoned(fans::in_zone(table, zone, settings_of(settings)))
 }
 
-// What a count, or of a fan or a pump the pulses in one second, means at element k. Beside 0 stands four times the reading, or 1 for under 0,
-// 2 for over 100; beside a refusal its place.
+// What a count, or of a fan or a pump the pulses in one second, means at element k. Beside 0 stands four times the reading, or 1
+// for under 0, 2 for over 100; beside a refusal its place.
 #[no_mangle]
 pub extern "C" fn esa_reading(table: &[u8], k: usize, count: u64, settings: u64) -> u64
     ensures { λ r. ⌜ ReadingFor (settingsOf settings) (now (table .entry)) k count r ⌝ }
@@ -188,7 +188,10 @@ pub extern "C" fn esa_receiving_piece(
     sp: &mut [u16; 256],
     piece: &[u8],
 ) -> u64
-    ensures { λ r. ⌜ PieceIs (lent (now (n .entry)) (now (first .entry)) (now (head .entry)) (flags (now (zs .entry)) (now (ss .entry)) (now (zu .entry)) (now (su .entry))) (now (zp .entry)) (now (sp .entry))) (now (piece .entry)) r (lent (now (n .exit)) (now (first .exit)) (now (head .exit)) (flags (now (zs .exit)) (now (ss .exit)) (now (zu .exit)) (now (su .exit))) (now (zp .exit)) (now (sp .exit))) ⌝ }
+    ensures { λ r. ⌜ PieceIs (lent (now (n .entry)) (now (first .entry)) (now (head .entry))
+        (flags (now (zs .entry)) (now (ss .entry)) (now (zu .entry)) (now (su .entry))) (now (zp .entry)) (now (sp .entry)))
+        (now (piece .entry)) r (lent (now (n .exit)) (now (first .exit)) (now (head .exit))
+        (flags (now (zs .exit)) (now (ss .exit)) (now (zu .exit)) (now (su .exit))) (now (zp .exit)) (now (sp .exit))) ⌝ }
 {
     reports::piece(n, first, head, zs, ss, zu, su, zp, sp, piece)
 }
@@ -205,13 +208,15 @@ pub extern "C" fn esa_receiving_end(
     zp: &[u16; 256],
     sp: &[u16; 256],
 ) -> u64
-    ensures { λ r. ⌜ EndedFor (now (n .entry)) (now (first .entry)) (flags (now (zs .entry)) (now (ss .entry)) (now (zu .entry)) (now (su .entry))) (now (zp .entry)) (now (sp .entry)) r (now (n .exit)) ⌝ }
+    ensures { λ r. ⌜ EndedFor (now (n .entry)) (now (first .entry))
+        (flags (now (zs .entry)) (now (ss .entry)) (now (zu .entry)) (now (su .entry))) (now (zp .entry)) (now (sp .entry)) r
+        (now (n .exit)) ⌝ }
 {
     reports::end(n, first, zs, ss, zu, su, zp, sp)
 }
 
-// A trace, over a state that is lent part by part: begins, for a table by the ordinary rules. Beside 0 stands the number of elements, beside a
-// refusal its place.
+// A trace, over a state that is lent part by part: begins, for a table by the ordinary rules. Beside 0 stands the number of
+// elements, beside a refusal its place.
 #[no_mangle]
 pub extern "C" fn esa_tracing_start(
     n: &mut [u64; 7],
@@ -220,7 +225,8 @@ pub extern "C" fn esa_tracing_start(
     table: &[u8],
     settings: u64,
 ) -> u64
-    ensures { λ r. ⌜ TraceStartFor (chipOf settings) (now (table .entry)) (now (n .entry)) (now (sensors .entry)) (now (tallies .entry)) r (now (n .exit)) (now (sensors .exit)) (now (tallies .exit)) ⌝ }
+    ensures { λ r. ⌜ TraceStartFor (chipOf settings) (now (table .entry)) (now (n .entry)) (now (sensors .entry)) (now (tallies .entry)) r
+        (now (n .exit)) (now (sensors .exit)) (now (tallies .exit)) ⌝ }
 {
     packing::answer(readying::start(n, sensors, tallies, table, chip_of(settings)))
 }
@@ -234,7 +240,8 @@ pub extern "C" fn esa_tracing_piece(
     piece: &[u8],
     out: &mut [u8; 65536],
 ) -> usize
-    ensures { λ r. ⌜ TracePiece (now (n .entry)) (now (sensors .entry)) (now (tallies .entry)) (now (piece .entry)) (now (out .entry)) r (now (n .exit)) (now (tallies .exit)) (now (out .exit)) ⌝ }
+    ensures { λ r. ⌜ TracePiece (now (n .entry)) (now (sensors .entry)) (now (tallies .entry)) (now (piece .entry)) (now (out .entry)) r
+        (now (n .exit)) (now (tallies .exit)) (now (out .exit)) ⌝ }
 {
     tracing::piece(n, sensors, tallies, piece, out)
 }
@@ -319,7 +326,8 @@ pub extern "C" fn esa_append(
     numbers: &[u8; 32],
     part: &[u8],
 ) -> u64
-    ensures { λ r. ⌜ AppendedFor (chipOf settings) (now (buffer .entry)) id (now (numbers .entry)) (now (part .entry)) r (now (buffer .exit)) ⌝ }
+    ensures { λ r. ⌜ AppendedFor (chipOf settings) (now (buffer .entry)) id (now (numbers .entry)) (now (part .entry)) r
+        (now (buffer .exit)) ⌝ }
 {
     let chip = chip_of(settings);
     match numbers::element(id, numbers) {
@@ -328,7 +336,8 @@ pub extern "C" fn esa_append(
     }
 }
 
-// The records of an accepted table, written again into a buffer, by the writer's rules. Beside 0 stands the length, beside a refusal its place.
+// The records of an accepted table, written again into a buffer, by the writer's rules. Beside 0 stands the length, beside a
+// refusal its place.
 #[no_mangle]
 pub extern "C" fn esa_rewrite(table: &[u8], settings: u64, out: &mut [u8]) -> u64
     ensures { λ r. ⌜ RewrittenFor (chipOf settings) (now (table .entry)) (now (out .entry)) r (now (out .exit)) ⌝ }
@@ -344,8 +353,8 @@ pub extern "C" fn esa_remove(table: &mut [u8], k: usize, settings: u64) -> u64
     packing::written(removing::remove(table, k, chip_of(settings)))
 }
 
-// What can be saved of a damaged table, at the front of the buffer, and its lines at the front of the other, by the writer's rules. Beside 0
-// stand both lengths, beside a refusal its place.
+// What can be saved of a damaged table, at the front of the buffer, and its lines at the front of the other, by the writer's rules.
+// Beside 0 stand both lengths, beside a refusal its place.
 #[no_mangle]
 pub extern "C" fn esa_salvage(
     file: &[u8],
@@ -353,7 +362,8 @@ pub extern "C" fn esa_salvage(
     out: &mut [u8],
     lines: &mut [u8; 32768],
 ) -> u64
-    ensures { λ r. ⌜ SalvagedFor (chipOf settings) (now (file .entry)) (now (out .entry)) (now (lines .entry)) r (now (out .exit)) (now (lines .exit)) ⌝ }
+    ensures { λ r. ⌜ SalvagedFor (chipOf settings) (now (file .entry)) (now (out .entry)) (now (lines .entry)) r (now (out .exit))
+        (now (lines .exit)) ⌝ }
 {
     packing::salvaged(salvaging::salvage(file, out, lines, chip_of(settings)))
 }
@@ -384,8 +394,8 @@ pub extern "C" fn esa_list(table: &[u8], settings: u64, out: &mut [u8; 4096]) ->
     listing::list(table, out, settings_of(settings))
 }
 
-// The pin sheet of a table, made afresh, by the ordinary rules. Beside 0 stands the number of elements, beside a refusal its place; then the
-// old sheet is kept.
+// The pin sheet of a table, made afresh, by the ordinary rules. Beside 0 stands the number of elements, beside a refusal its place;
+// then the old sheet is kept.
 #[no_mangle]
 pub extern "C" fn esa_sheet(table: &[u8], settings: u64, sheet: &mut [u16; 25]) -> u64
     ensures { λ r. ⌜ SheetFor (chipOf settings) (now (table .entry)) sheetOf (now (sheet .entry)) r (now (sheet .exit)) ⌝ }
@@ -396,7 +406,8 @@ pub extern "C" fn esa_sheet(table: &[u8], settings: u64, sheet: &mut [u16; 25]) 
 // The same of the sheet of the table before its last element was appended, brought forward.
 #[no_mangle]
 pub extern "C" fn esa_sheet_forward(table: &[u8], settings: u64, sheet: &mut [u16; 25]) -> u64
-    ensures { λ r. ⌜ SheetFor (chipOf settings) (now (table .entry)) (λ d rs. forwardOf rs (read (now (sheet .entry)))) (now (sheet .entry)) r (now (sheet .exit)) ⌝ }
+    ensures { λ r. ⌜ SheetFor (chipOf settings) (now (table .entry)) (λ d rs. forwardOf rs (read (now (sheet .entry))))
+        (now (sheet .entry)) r (now (sheet .exit)) ⌝ }
 {
     packing::answer(sheets::forward(table, sheet, ordinary(settings)))
 }

@@ -1,18 +1,15 @@
 -- One element more in the two arrays, by its fate; and what a number at a position stands for.
 -- Assumes nothing.
-use Prim.Native.Nat.{ℕ, zero, suc, _+_, _*_, _/_, _%_, _<_, _≤_}
+use Prim.Native.Nat.{ℕ, zero, suc, _+_, _*_, _/_, _%_, _<_}
 use native.Mathlib.Omega.{arith}
 use native.Mathlib.Numerals.{add-one}
 use mathlib.Core.Path.{_≡_, refl, sym, _∙_, ap, subst}
-use mathlib.Core.Bool.{true, false}
 use mathlib.Core.List.{List, [], _∷_, _++_}
 use lib.ListN.{length, take, drop, getD, set, length-set}
-use lib.Seq.{take-suc-set, length-take-le, drop-cons}
-use lib.Dec.{eqb}
-use borrow.Author.Tests.{eq-eqb}
+use lib.Seq.{take-suc-set}
 use Rattle.format.specs.Records.{Record}
 use Rattle.format.specs.declared.pins.Chip.{Chip}
-use Rattle.saving.specs.Saving.{At, atPlace, Change, left-out, cleared, Line, line, Saved, settled}
+use Rattle.saving.specs.Saving.{atPlace, left-out, cleared, Line, line, Saved, settled}
 use Rattle.saving.specs.Saving as saving
 use Rattle.fates.specs.Noted.{Each, Keeps, changeOf, Codes, Notes, Tells, Settles}
 use Rattle.fates.specs.declared.Fate.{Fate}

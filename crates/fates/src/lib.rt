@@ -1,7 +1,7 @@
 // What becomes of each element of a damaged table, noted in two lent arrays: what is kept, and the changes in the order made. An element
 // that is kept is held as twice its place, and one more where its string index is cleared.
 ghost use mathlib.Core.Path.{_≡_};
-ghost use Prim.Native.Nat.{_+_, _*_, _/_, _<_, _≤_};
+ghost use Prim.Native.Nat.{_+_, _*_, _/_, _<_};
 ghost use Rattle.fates.specs.Noted.{Settles};
 use words::wide;
 

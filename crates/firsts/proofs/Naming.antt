@@ -46,7 +46,12 @@ place-snoc names n at (r ∷ rs) x h = go (among n (names (role r))) (place-snoc
 module _ (names : Role → List ℕ) (l : List ℕ) (before : List Record) (x : Record) (f : Firsts names l before) where
   pub firsts-same : names (role x) ≡ [] → Firsts names l (before ++ x ∷ [])
   firsts-same e =
-      record { size = f .size; place = λ n h. f .place n h ∙ sym (place-snoc names n 16 before x (omega arith) ∙ rw e (go (firstPlace names n 16 before) (eqb (firstPlace names n 16 before) 0) refl)) }
+      record {
+        size = f .size;
+        place = λ n h. f .place n h
+            ∙ sym (place-snoc names n 16 before x (omega arith)
+            ∙ rw e (go (firstPlace names n 16 before) (eqb (firstPlace names n 16 before) 0) refl));
+      }
     where
       go : (p : ℕ) (t : Bool) → eqb p 0 ≡ t → pick t 0 p ≡ p
       go p true q = sym (eqb-true p 0 q)
@@ -57,7 +62,8 @@ module _ (names : Role → List ℕ) (l : List ℕ) (before : List Record) (x : 
   firsts-put n at e h p =
       record {
         size = sized (eqb (getD l n 0) 0);
-        place = λ i k. go i k (eqb i n) refl (eqb (firstPlace names i 16 before) 0) refl ∙ sym (place-snoc names i 16 before x (omega arith) ∙ rw (e, ← p) refl);
+        place = λ i k. go i k (eqb i n) refl (eqb (firstPlace names i 16 before) 0) refl
+            ∙ sym (place-snoc names i 16 before x (omega arith) ∙ rw (e, ← p) refl);
       }
     where
       sized : (t : Bool) → length (noteBy t l n at) ≡ 256
@@ -85,7 +91,10 @@ module _ (names : Role → List ℕ) (l : List ℕ) (before : List Record) (x : 
           other true = getD-set-other l n i at 0 (eqb-false i n q)
           other false = refl
 
-          same : (u : Bool) → eqb (firstPlace names i 16 before) 0 ≡ u → pick u 0 (firstPlace names i 16 before) ≡ firstPlace names i 16 before
+          same :
+              (u : Bool)
+              → eqb (firstPlace names i 16 before) 0 ≡ u
+              → pick u 0 (firstPlace names i 16 before) ≡ firstPlace names i 16 before
           same true v = sym (eqb-true (firstPlace names i 16 before) 0 v)
           same false v = refl
 
@@ -97,7 +106,8 @@ no-sooner names n at (r ∷ rs) h = go (among n (names (role r))) h (no-sooner n
     go :
         (t : Bool)
         → (pick t at (firstPlace names n (at + length (layout r)) rs) ≡ 0 → ⊥)
-        → ((firstPlace names n (at + length (layout r)) rs ≡ 0 → ⊥) → at + length (layout r) ≤ firstPlace names n (at + length (layout r)) rs)
+        → ((firstPlace names n (at + length (layout r)) rs ≡ 0 → ⊥)
+        → at + length (layout r) ≤ firstPlace names n (at + length (layout r)) rs)
         → at ≤ pick t at (firstPlace names n (at + length (layout r)) rs)
     go true h f = omega arith
     go false h f = omega (arith, f h)
@@ -111,7 +121,13 @@ find : (xs ns : List ℕ) → Found xs ns (allAmong xs ns)
 find [] ns = all (λ n h. absurd (false≢true h))
 find (x ∷ xs) ns = go (among x ns) refl (allAmong xs ns) (find xs ns)
   where
-    here : (n : ℕ) (t : Bool) → eqb n x ≡ t → t || among n xs ≡ true → (among n xs ≡ true → among n ns ≡ true) → among x ns ≡ true → among n ns ≡ true
+    here :
+        (n : ℕ) (t : Bool)
+        → eqb n x ≡ t
+        → t || among n xs ≡ true
+        → (among n xs ≡ true → among n ns ≡ true)
+        → among x ns ≡ true
+        → among n ns ≡ true
     here n true q h f e = rw (eqb-true n x q) e
     here n false q h f e = f h
 
@@ -136,21 +152,33 @@ abbrev Named : (Role → List ℕ) → List ℕ → ℕ → List Record → Opti
 Named names declared at rs none = (n : ℕ) → among n declared ≡ false → firstPlace names n at rs ≡ 0
 Named names declared at rs (some p) = Least names declared at rs p
 
-naming : (names : Role → List ℕ) (declared : List ℕ) (at : ℕ) (rs : List Record) → Named names declared at rs (firstNaming names declared at rs)
+naming :
+    (names : Role → List ℕ) (declared : List ℕ) (at : ℕ) (rs : List Record)
+    → Named names declared at rs (firstNaming names declared at rs)
 naming names declared at [] = λ n h. refl
-naming names declared at (r ∷ rs) = go (allAmong (names (role r)) declared) (find (names (role r)) declared) (firstNaming names declared next rs) (naming names declared next rs)
+naming names declared at (r ∷ rs) = go (allAmong (names (role r)) declared) (find (names (role r)) declared)
+    (firstNaming names declared next rs) (naming names declared next rs)
   where
     next : ℕ
     next = at + length (layout r)
 
-    not-here : ((n : ℕ) → among n (names (role r)) ≡ true → among n declared ≡ true) → (n : ℕ) → among n declared ≡ false → firstPlace names n at (r ∷ rs) ≡ firstPlace names n next rs
+    not-here :
+        ((n : ℕ) → among n (names (role r)) ≡ true → among n declared ≡ true)
+        → (n : ℕ)
+        → among n declared ≡ false
+        → firstPlace names n at (r ∷ rs) ≡ firstPlace names n next rs
     not-here f n h = by (among n (names (role r))) refl
       where
         by : (t : Bool) → among n (names (role r)) ≡ t → pick t at (firstPlace names n next rs) ≡ firstPlace names n next rs
         by true q = absurd (false≢true (sym h ∙ f n q))
         by false q = refl
 
-    go : (t : Bool) → Found (names (role r)) declared t → (o : Option ℕ) → Named names declared next rs o → Named names declared at (r ∷ rs) (unlessKept t at o)
+    go :
+        (t : Bool)
+        → Found (names (role r)) declared t
+        → (o : Option ℕ)
+        → Named names declared next rs o
+        → Named names declared at (r ∷ rs) (unlessKept t at o)
     go true (all f) none w = λ n h. not-here f n h ∙ w n h
     go true (all f) (some p) w =
         record {

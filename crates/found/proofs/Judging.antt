@@ -117,7 +117,8 @@ module _ (s : Settings) (d : BusDevice) (part : Part) (r : Found) where
             λ _. record {
               of-controller = λ bs h e. p ∙ sym (ap numbered (miscoded s (controller d bs) h (simp (e ∙ f, and-false))));
               of-tachometer = λ a b e. absurd (false≢true (sym f ∙ e));
-              of-external = λ i a b c e. p ∙ sym (ap numbered (miscoded s (external (externalOf d i) a b c) refl (simp (e ∙ f, and-false))));
+              of-external = λ i a b c e. p
+                  ∙ sym (ap numbered (miscoded s (external (externalOf d i) a b c) refl (simp (e ∙ f, and-false))));
             };
         claimed = λ n. absurd (omega (arith, n, p));
         counted = λ n. absurd (omega (arith, n, p));

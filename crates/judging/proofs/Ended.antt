@@ -1,6 +1,6 @@
 -- The cut of blocks where an element ends: it has gone as far as it goes, so it is the cut of the whole part.
 -- Assumes nothing.
-use Prim.Native.Nat.{ℕ, _+_, _-_, _<_, _≤_}
+use Prim.Native.Nat.{ℕ, _+_, _-_, _≤_}
 use native.Mathlib.Omega.{arith}
 use mathlib.Core.Path.{_≡_, refl, sym, _∙_, ap}
 use mathlib.Core.Bool.{Bool, true, false, _&&_, and-false, false≢true}
@@ -10,9 +10,8 @@ use Rattle.format.specs.Decode.{cutBlocks}
 use mathlib.Core.List.{List, [], append-nil}
 use lib.ListN.{length, drop, length-drop}
 use lib.Dec.{eqb, ltb, leb}
-use borrow.Author.Tests.{eqb-true, eqb-false, eq-eqb, ne-eqb, ltb-true, ltb-false, lt-ltb, le-ltb, le-leb, lt-leb, leb-true}
-use Rattle.blocks.specs.Cutting.{cut, cutOf, isSome, exact, SpeedsAre, SpeedPart, PairsPart}
-use Rattle.blocks.specs.declared.Cut.{Cut}
+use borrow.Author.Tests.{eqb-true, eqb-false, eq-eqb, ne-eqb, ltb-true, ltb-false, le-ltb, le-leb, lt-leb, leb-true}
+use Rattle.blocks.specs.Cutting.{cut, cutOf, isSome, exact, SpeedsAre, SpeedPart}
 use Rattle.blocks.specs.declared.Part.{Part}
 use Rattle.blocks.proofs.Counting.{Counted, counted, countFrom, countOf, fills, shown, all-shown, stuck}
 use Rattle.blocks.proofs.EachKind.{speed-law, counted-pairs}
@@ -54,10 +53,16 @@ module _ (u : Under) (r : Part) where
           let h = ltb-true 12 (u .len) q in
           let n = length-drop 11 v in
           let c : cutOf 6 1 (drop 11 v) ≡ cut (u .at) (eqb (u .mark) 0) =
-          all-shown 1 (drop 11 v) 6 (counted 1 0 true) ∙ ap shown (no-more 1 6 (u .at) (u .blocks) (eqb (u .mark) 0) v (k (omega (arith, e)))) in
+          all-shown 1 (drop 11 v) 6 (counted 1 0 true)
+          ∙ ap shown (no-more 1 6 (u .at) (u .blocks) (eqb (u .mark) 0) v (k (omega (arith, e)))) in
           speed-law (drop 11 v) r
           (w
-          ∙ rw (q, c, same-eqb (u .at + 10) (u .len) (u .at) (length (drop 11 v) + 1) (λ z. omega (arith, z, e, n)) (λ z. omega (arith, z, e, n))) refl)
+          ∙ rw (
+            q,
+            c,
+            same-eqb (u .at + 10) (u .len) (u .at) (length (drop 11 v) + 1) (λ z. omega (arith, z, e, n))
+                (λ z. omega (arith, z, e, n)),
+          ) refl)
           (f ∙ rw c refl)
       go v e k false q =
           let h = ltb-false 12 (u .len) q in
@@ -65,7 +70,8 @@ module _ (u : Under) (r : Part) where
           all-shown 1 (drop 11 v) 6 (counted 1 0 true) ∙ ap shown (none-there 1 6 v (omega arith) (omega (arith, e))) in
           λ m l.
           hollow r (w ∙ rw q refl) (cutBlocks m (drop 11 v))
-          (speed-law (drop 11 v) (record { whole = false; full = true }) (rw c (sym (and-false (eqb 1 (length (drop 11 v) + 1))))) (rw c refl) m l)
+          (speed-law (drop 11 v) (record { whole = false; full = true }) (rw c (sym (and-false (eqb 1 (length (drop 11 v) + 1)))))
+          (rw c refl) m l)
 
   pub pairs-ended :
       (n : ℕ) → 1 ≤ n → r .whole ≡ ltb 12 (u .len) && (eqb (u .at + 12) (u .len) && eqb (u .blocks) n) → r .full ≡ true → PairsIs n u r
@@ -87,13 +93,20 @@ module _ (u : Under) (r : Part) where
           let h = ltb-true 12 (u .len) q in
           let m = length-drop 12 v in
           w
-          ∙ rw (q, same-eqb (u .at + 12) (u .len) (u .at) (length (drop 12 v)) (λ z. omega (arith, z, e, m)) (λ z. omega (arith, z, e, m)), ← between (u .blocks)) refl
-          ∙ sym (ap (λ (c : Counted). fills c (length (drop 12 v)) n n) (no-more 0 n (u .at) (u .blocks) (eqb (u .mark) 0) v (k (omega (arith, e)))))
+          ∙ rw (
+            q,
+            same-eqb (u .at + 12) (u .len) (u .at) (length (drop 12 v)) (λ z. omega (arith, z, e, m))
+                (λ z. omega (arith, z, e, m)),
+            ← between (u .blocks),
+          ) refl
+          ∙ sym (ap (λ (c : Counted). fills c (length (drop 12 v)) n n)
+          (no-more 0 n (u .at) (u .blocks) (eqb (u .mark) 0) v (k (omega (arith, e)))))
           ∙ counted-pairs n n (drop 12 v) (omega arith)
       go v e k false q =
           let h = ltb-false 12 (u .len) q in
           w
           ∙ rw q refl
-          ∙ sym (ap (λ (b : Bool). eqb 0 (length (drop 12 v)) && (b && leb 0 n)) (lt-leb n 0 (omega arith)) ∙ and-false (eqb 0 (length (drop 12 v))))
+          ∙ sym (ap (λ (b : Bool). eqb 0 (length (drop 12 v)) && (b && leb 0 n)) (lt-leb n 0 (omega arith))
+          ∙ and-false (eqb 0 (length (drop 12 v))))
           ∙ sym (ap (λ (c : Counted). fills c (length (drop 12 v)) n n) (none-there 0 n v (omega arith) (omega (arith, e))))
           ∙ counted-pairs n n (drop 12 v) (omega arith)

@@ -1,22 +1,21 @@
 -- The fixed bytes of an element are among the first 30, which are kept; and its text, where it ends.
 -- Assumes nothing.
-use Prim.Native.Nat.{ℕ, _+_, _-_, _%_, _/_, _<_, _≤_}
+use Prim.Native.Nat.{ℕ, _+_, _-_, _%_, _<_, _≤_}
 use native.Mathlib.Omega.{arith}
 use mathlib.Core.Path.{_≡_, refl, sym, _∙_, ap, subst}
 use mathlib.Core.Bool.{Bool, true, false, _&&_, not}
 use mathlib.Core.List.{List, [], append-nil}
-use lib.ListN.{length, getD, take, drop, length-drop}
+use lib.ListN.{length, take, drop, length-drop}
 use lib.Seq.{getD-take, getD-drop, drop-drop}
 use lib.Dec.{eqb, ltb, leb}
-use borrow.Author.Tests.{ltb-true, ltb-false, le-leb, lt-leb, le-ltb, lt-ltb, leb-true, leb-false}
-use Rattle.format.specs.Slots.{byte, Bytes}
+use borrow.Author.Tests.{ltb-true, ltb-false, le-ltb, lt-ltb, leb-true, leb-false}
+use Rattle.format.specs.Slots.{byte}
 use Rattle.format.specs.Utf16.{units, paired, wellFormed}
 use Rattle.format.specs.Decode.{readDevice}
 use Rattle.format.specs.Pins.{among}
 use Rattle.format.specs.Rules.{chipIdentifiers}
 use Rattle.format.specs.declared.pins.Chip.{Chip}
 use Rattle.format.specs.declared.settings.Settings.{Settings}
-use Rattle.blocks.specs.Cutting.{isSome, exact, SpeedPart, PairsPart}
 use Rattle.blocks.specs.declared.Part.{Part}
 use Rattle.found.specs.Judged.{Judged, DeviceFound}
 use Rattle.found.specs.declared.Found.{Found}
@@ -40,7 +39,13 @@ same-device c f g h =
     ) refl
 
 -- a byte after the header, as it is kept and as it came
-pub after-header : (head v : List ℕ) → Holds head v → (i : ℕ) → i < 27 → i + 3 < length v → byte (take 27 (drop 3 head)) i ≡ byte (drop 3 v) i
+pub after-header :
+    (head v : List ℕ)
+    → Holds head v
+    → (i : ℕ)
+    → i < 27
+    → i + 3 < length v
+    → byte (take 27 (drop 3 head)) i ≡ byte (drop 3 v) i
 after-header head v h i a b =
     getD-take 27 (drop 3 head) i 0 a ∙ getD-drop 3 head i 0 ∙ h .same (3 + i) (omega arith) (omega arith) ∙ sym (getD-drop 3 v i 0)
 
@@ -50,7 +55,8 @@ module _ (s : Settings) (u : Under) (head : List ℕ) (part : Part) (r : Found)
     found-of : (v : List ℕ) → UnderIs u head v → 10 < length v → DeviceFound s (readDevice (s .chip) (byte (drop 3 v))) part r
     found-of v w l =
         subst (λ d. DeviceFound s d part r)
-        (same-device (s .chip) (byte (take 27 (drop 3 head))) (byte (drop 3 v)) (λ i h. after-header head v (w .held) i (omega arith) (omega arith))) f
+        (same-device (s .chip) (byte (take 27 (drop 3 head))) (byte (drop 3 v))
+        (λ i h. after-header head v (w .held) i (omega arith) (omega arith))) f
 
     pub controller-is : SpeedIs u part → DeviceIs s 9 u head r
     controller-is k = record { judged = λ v w e. go v w e (ltb 10 (length v)) refl }

@@ -1,6 +1,5 @@
 // What an element says that a cut went through, once it is whole, by what is held of it: 09h, 0Ah and 0Dh by their fixed bytes and
 // the cut of their blocks, 0Ch by its number and how its text ended. The judges are those of a whole table.
-ghost use mathlib.Core.Path.{_≡_};
 ghost use Prim.Native.Nat.{_≤_};
 ghost use Rattle.judging.specs.Whole.{SpeedIs, PairsIs, DeviceIs, TextIs, NumberIs};
 use blocks::Part;

@@ -9,7 +9,8 @@ use lib.ListN.{length, set, length-set, length-map}
 use lib.Seq.{set-append-left}
 use borrow.Author.Tests.{eq-eqb, ne-eqb, eqb-true, leb-true}
 use Rattle.format.specs.Slots.{Slot, whole, written, byteOf, byte}
-use Rattle.format.specs.Records.{Record, digital, analogue, fan, led, water, pump, voltage, current, controller, tachometer, zone, string, external, rgb}
+use Rattle.format.specs.Records.{Record, digital, analogue, fan, led, water, pump, voltage, current, controller, tachometer, zone, string}
+use Rattle.format.specs.Records.{external, rgb}
 use Rattle.format.specs.Layout.{layout}
 use Rattle.format.specs.Rules.{shaped}
 use Rattle.format.specs.ZonesAndStrings.{Role, placed, zoning, naming, role}

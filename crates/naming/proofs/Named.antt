@@ -6,12 +6,12 @@ use mathlib.Core.Path.{_≡_, refl, sym, _∙_, ap, subst}
 use mathlib.Core.Bool.{Bool, true, false}
 use mathlib.Core.List.{List, [], _∷_, _++_}
 use mathlib.Core.Option.{some}
-use lib.ListN.{length, take, drop, length-drop}
+use lib.ListN.{length, drop, length-drop}
 use lib.Seq.{drop-drop, getD-drop}
 use Rattle.format.specs.Slots.{byte, Bytes}
 use Rattle.format.specs.Records.{Record, zone, string}
 use Rattle.format.specs.Layout.{placeAfter}
-use Rattle.format.specs.ZonesAndStrings.{role, zoneNamed, stringNamed}
+use Rattle.format.specs.ZonesAndStrings.{zoneNamed, stringNamed}
 use Rattle.format.specs.Decode.{content, decode}
 use Rattle.format.specs.Verdict.{stated}
 use Rattle.format.specs.declared.settings.Settings.{Settings}
@@ -23,7 +23,7 @@ use Rattle.pass.proofs.Walking.{took-stated}
 use Rattle.naming.proofs.Taken.{First, none-taken, first-taken, first-of, next-taken, took-grows}
 use Rattle.format.specs.declared.pins.Chip.{Chip}
 use Rattle.pass.proofs.Taking.{Placed, decode-placed}
-use Rattle.firsts.specs.Firsts.{noted, Firsts}
+use Rattle.firsts.specs.Firsts.{Firsts}
 use Rattle.firsts.proofs.Naming.{firsts-same, firsts-put}
 use lib.Dec.{eqb}
 use borrow.Author.Tests.{eqb-true, eqb-false}
@@ -47,7 +47,12 @@ module _ (chip : Chip) (id : ℕ) (c : List ℕ) (small : Bytes c) (x : Record) 
       → Firsts zoneNamed zp′ (before ++ x ∷ []) × Firsts stringNamed sp′ (before ++ x ∷ [])
   named before zp sp zp′ sp′ {at} p n f g = go (eqb id 11) refl (eqb id 12) refl
     where
-      go : (t : Bool) → eqb id 11 ≡ t → (u : Bool) → eqb id 12 ≡ u → Firsts zoneNamed zp′ (before ++ x ∷ []) × Firsts stringNamed sp′ (before ++ x ∷ [])
+      go :
+          (t : Bool)
+          → eqb id 11 ≡ t
+          → (u : Bool)
+          → eqb id 12 ≡ u
+          → Firsts zoneNamed zp′ (before ++ x ∷ []) × Firsts stringNamed sp′ (before ++ x ∷ [])
       go true q u v =
           let i = eqb-true id 11 q in
           let w = n .zoning i in
@@ -93,7 +98,8 @@ pub sofar-next :
     → Bytes p
     → to ≤ length p
     → i < to
-    → (3 ≤ stated (drop i p) → i + stated (drop i p) ≤ length p → (r ≡ stated (drop i p)) × Names (byte p i) (content (drop i p)) (base + i) zp sp zp′ sp′)
+    → (3 ≤ stated (drop i p) → i + stated (drop i p) ≤ length p → (r ≡ stated (drop i p))
+    × Names (byte p i) (content (drop i p)) (base + i) zp sp zp′ sp′)
     → Sofar σ p to base zp sp gone i
     → Sofar σ p to base zp′ sp′ gone (i + r)
 sofar-next σ p to base zp sp gone i r zp′ sp′ small t l n w =

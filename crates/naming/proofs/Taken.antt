@@ -7,9 +7,8 @@ use mathlib.Core.Bool.{Bool, true, false, _&&_, and-eq-true-iff}
 use lib.Dec.{leb}
 use borrow.Author.Tests.{leb-true}
 use mathlib.Core.List.{List, [], _∷_, _++_}
-use lib.ListN.{length, take, drop, length-drop, take-append-drop, List·getD-append}
-use lib.Seq.{length-take-le, take-all}
-use Rattle.format.specs.Slots.{byte}
+use lib.ListN.{length, take, drop, take-append-drop}
+use lib.Seq.{length-take-le}
 use Rattle.format.specs.Records.{Record}
 use Rattle.format.specs.Verdict.{stated, framed}
 use Rattle.format.specs.Reader.{Outcome, took, stop, step}
@@ -18,7 +17,7 @@ use Rattle.format.proofs.Stepped.{unframed}
 use Rattle.pass.specs.Tracks.{Took, none-yet, one-more}
 use Rattle.stream.specs.Running.{Run, going, broken, past, runBytes}
 use Rattle.stream.proofs.Running.{same-step, stated-more}
-use Rattle.stream.proofs.Runs.{Whole, run-whole, stays-broken}
+use Rattle.stream.proofs.Runs.{run-whole, stays-broken}
 use Rattle.stream.proofs.Arriving.{run-append}
 
 -- none is taken, or a first one
@@ -56,7 +55,8 @@ by-first :
     (σ : Settings) {rs qs : List Record} {at p : ℕ} {bs left : List ℕ}
     → First σ rs at bs qs p left
     → at < p
-    → (x : Record) × (step σ rs bs ≡ took x) × (3 ≤ stated bs) × (stated bs ≤ length bs) × Took σ (rs ++ x ∷ []) (at + stated bs) (drop (stated bs) bs) qs p left
+    → (x : Record) × (step σ rs bs ≡ took x) × (3 ≤ stated bs) × (stated bs ≤ length bs)
+    × Took σ (rs ++ x ∷ []) (at + stated bs) (drop (stated bs) bs) qs p left
 by-first σ none-taken h = absurd (omega arith)
 by-first σ (first-taken x e l g k) h = (x, e, l, g, k)
 
@@ -65,7 +65,8 @@ pub next-taken :
     (σ : Settings) {rs qs : List Record} {at p : ℕ} {bs left : List ℕ}
     → Took σ rs at bs qs p left
     → at < p
-    → (x : Record) × (step σ rs bs ≡ took x) × (3 ≤ stated bs) × (stated bs ≤ length bs) × Took σ (rs ++ x ∷ []) (at + stated bs) (drop (stated bs) bs) qs p left
+    → (x : Record) × (step σ rs bs ≡ took x) × (3 ≤ stated bs) × (stated bs ≤ length bs)
+    × Took σ (rs ++ x ∷ []) (at + stated bs) (drop (stated bs) bs) qs p left
 next-taken σ k h = by-first σ (first-of σ k) h
 
 -- a whole element at the start of some bytes

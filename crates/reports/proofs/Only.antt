@@ -38,7 +38,8 @@ module _ (l : Lent) (p : List ℕ) (r s : ℕ) (m m′ : Lent) (a : PieceIs l p 
   pub piece-stands : (σ : Settings) (c : List ℕ) → StandsFor σ c l → StandsFor σ (c ++ p) m × StandsFor σ (c ++ p) m′
   piece-stands σ c s = (a .goes σ c s, b .goes σ c s)
 
-module _ (n first : List ℕ) (f : Flags) (zp sp : List ℕ) (r s : ℕ) (n′ m′ : List ℕ) (a : EndedFor n first f zp sp r n′) (b : EndedFor n first f zp sp s m′) where
+module _ (n first : List ℕ) (f : Flags) (zp sp : List ℕ) (r s : ℕ) (n′ m′ : List ℕ) (a : EndedFor n first f zp sp r n′)
+    (b : EndedFor n first f zp sp s m′) where
   pub end-late-only : (number n 0 ≡ 0 → ⊥) → (r ≡ s) × (n′ ≡ m′)
   end-late-only z = (
     a .number ∙ ap packed (a .ends .late z .0 ∙ sym (b .ends .late z .0)) ∙ sym (b .number),

@@ -31,7 +31,10 @@ pub fn piece(
     sp: &mut [u16; 256],
     piece: &[u8],
 ) -> u64
-    ensures { λ r. ⌜ PieceIs (lent (now (n .entry)) (now (first .entry)) (now (head .entry)) (flags (now (zs .entry)) (now (ss .entry)) (now (zu .entry)) (now (su .entry))) (now (zp .entry)) (now (sp .entry))) (now (piece .entry)) r (lent (now (n .exit)) (now (first .exit)) (now (head .exit)) (flags (now (zs .exit)) (now (ss .exit)) (now (zu .exit)) (now (su .exit))) (now (zp .exit)) (now (sp .exit))) ⌝ }
+    ensures { λ r. ⌜ PieceIs (lent (now (n .entry)) (now (first .entry)) (now (head .entry))
+        (flags (now (zs .entry)) (now (ss .entry)) (now (zu .entry)) (now (su .entry))) (now (zp .entry)) (now (sp .entry)))
+        (now (piece .entry)) r (lent (now (n .exit)) (now (first .exit)) (now (head .exit))
+        (flags (now (zs .exit)) (now (ss .exit)) (now (zu .exit)) (now (su .exit))) (now (zp .exit)) (now (sp .exit))) ⌝ }
 {
     long(receiving::piece(n, first, head, zs, ss, zu, su, zp, sp, piece))
 }
@@ -47,7 +50,9 @@ pub fn end(
     zp: &[u16; 256],
     sp: &[u16; 256],
 ) -> u64
-    ensures { λ r. ⌜ EndedFor (now (n .entry)) (now (first .entry)) (flags (now (zs .entry)) (now (ss .entry)) (now (zu .entry)) (now (su .entry))) (now (zp .entry)) (now (sp .entry)) r (now (n .exit)) ⌝ }
+    ensures { λ r. ⌜ EndedFor (now (n .entry)) (now (first .entry))
+        (flags (now (zs .entry)) (now (ss .entry)) (now (zu .entry)) (now (su .entry))) (now (zp .entry)) (now (sp .entry)) r
+        (now (n .exit)) ⌝ }
 {
     packed(receiving::end(n, first, zs, ss, zu, su, zp, sp))
 }

@@ -10,7 +10,8 @@ use lib.Seq.{getD-append-add}
 use lib.Dec.{eqb}
 use borrow.Author.Tests.{not-true, eq-eqb, ne-eqb}
 use Rattle.format.specs.Slots.{Slot, whole, low, high, halves, flag, reserved, byte, byteOf, written, Holds, Starts}
-use Rattle.format.specs.Records.{Record, digital, analogue, fan, led, water, pump, voltage, current, controller, tachometer, zone, string, external, rgb, elementOf}
+use Rattle.format.specs.Records.{Record, digital, analogue, fan, led, water, pump, voltage, current, controller, tachometer, zone, string}
+use Rattle.format.specs.Records.{external, rgb, elementOf}
 use Rattle.format.specs.Layout.{address, device, part, idOf, body, layout}
 use Rattle.format.specs.Rules.{ofItsBus, chosen, ofItsDevice, ofItsKind}
 use Rattle.format.specs.declared.pins.Chip.{Chip}

@@ -12,8 +12,7 @@ use lib.Seq.{take-suc-set}
 use Rattle.format.specs.Slots.{byte}
 use Rattle.format.specs.Pins.{among}
 use Rattle.format.specs.ZonesAndStrings.{Role, placed, zoning, naming, role, zones, strings, stringDeclared, zoneNamed, allAmong}
-use Rattle.format.specs.Layout.{placeAfter}
-use Rattle.format.specs.Claims.{madeAt, firstClaims, claims, contested}
+use Rattle.format.specs.Claims.{madeAt, firstClaims, contested}
 use Rattle.format.specs.declared.pins.Chip.{Chip}
 use Rattle.flags.specs.Marks.{Marks}
 use Rattle.flags.proofs.Marked.{marks-front}
@@ -21,16 +20,16 @@ use Rattle.claims.specs.Taken.{HeldIs, whats}
 use Rattle.claims.specs.declared.Held.{Held}
 use Rattle.saving.specs.Saving.{Line, line, cleared, Saved, saved, records, stringIndexes, firstLine, zoned}
 use Rattle.saving.proofs.Choosing.{inZone, choose-gathered}
-use Rattle.fates.specs.Noted.{Each, Codes, Keeps, Notes}
+use Rattle.fates.specs.Noted.{Each, Codes, Notes}
 use Rattle.fates.specs.declared.Counts.{Counts}
 use Rattle.fates.proofs.Noting.{each-snoc, cleared-code}
 use Rattle.pass.specs.Tracks.{flags}
 use Rattle.scanning.specs.Scanned.{afterPass, Scanned}
 use Rattle.scanning.specs.declared.Passage.{Passage}
-use Rattle.sifting.specs.Stages.{Given, Ready, Sifted, Claimed}
+use Rattle.sifting.specs.Stages.{Given, Ready, Sifted}
 use Rattle.sifting.specs.declared.Stage.the-variants.{Zones, Strings, Pins}
 use Rattle.mending.specs.Laid.{Listed}
-use Rattle.salvaging.specs.Decided.{described, afterZones, afterStrings, afterAll, countsOf, Decided, NotesFirst, Passed, PlanIs}
+use Rattle.salvaging.specs.Decided.{described, afterZones, afterStrings, afterAll, Decided, NotesFirst, Passed, PlanIs}
 use Rattle.salvaging.specs.declared.Plan.{Plan}
 
 -- 13 leaves out no string

@@ -3,18 +3,18 @@
 use Prim.Native.Nat.{ℕ, _+_, _≤_, _<_}
 use native.Mathlib.Omega.{arith}
 use mathlib.Core.Path.{_≡_, refl, sym, _∙_, ap, subst}
-use mathlib.Core.Bool.{Bool, true, false, not, cond, _&&_}
-use mathlib.Core.List.{List, [], _∷_, _++_, append-nil}
+use mathlib.Core.Bool.{Bool, true, false, not, cond}
+use mathlib.Core.List.{List, [], append-nil}
 use mathlib.Core.Option.{Option, none, some}
-use lib.ListN.{length, take, length-take, length-append}
+use lib.ListN.{length, length-take, length-append}
 use lib.Seq.{take-all}
-use lib.Dec.{eqb, leb}
+use lib.Dec.{eqb}
 use borrow.Author.Tests.{le-leb, lt-leb, eq-eqb, ne-eqb}
 use Rattle.format.specs.Slots.{byte, Bytes, written}
-use Rattle.format.specs.Layout.{table, opening, layouts, placeAfter}
+use Rattle.format.specs.Layout.{table, opening, layouts}
 use Rattle.format.specs.Pins.{among}
 use Rattle.format.specs.Rules.{numbered, descriptionRules, strapped}
-use Rattle.format.specs.Claims.{madeAt, firstClaims, firstClash, claims, contested}
+use Rattle.format.specs.Claims.{madeAt, firstClaims, firstClash, contested}
 use Rattle.format.specs.Table.{descriptionBreaks}
 use Rattle.format.specs.Writing.{overwritten}
 use Rattle.format.specs.declared.pins.Chip.{Chip}
@@ -28,10 +28,10 @@ use Rattle.claims.specs.declared.Held.{Held}
 use Rattle.claims.proofs.Firsts.{place-none}
 use Rattle.spelling.specs.Spelling.{Put}
 use Rattle.spelling.proofs.Putting.{put-one, put-one-way}
-use Rattle.saving.specs.Saving.{taken, isNone, sound, salvageable, unindexedDescription, records, stringIndexes, mendedDescription}
-use Rattle.saving.specs.Lines.{textOf, newTable, newText, answer, leavesOf}
+use Rattle.saving.specs.Saving.{taken, isNone, salvageable, unindexedDescription, records, stringIndexes}
+use Rattle.saving.specs.Lines.{newTable, newText, answer}
 use Rattle.saving.specs.declared.Salvaged.the-variants.{Done, Refused}
-use Rattle.saving.proofs.Theorems.{Salvageable, salvageable-says}
+use Rattle.saving.proofs.Theorems.{salvageable-says}
 use Rattle.saving.proofs.Bounds.{table-short}
 use Rattle.mending.specs.Laid.{describedAs, Fitting, PutsTable}
 use Rattle.changes.specs.Written.{Noted, PutsLines}

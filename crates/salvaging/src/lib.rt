@@ -4,9 +4,8 @@ ghost use mathlib.Core.Path.{_≡_};
 ghost use mathlib.Core.Bool.{true};
 ghost use Prim.Native.Nat.{_<_, _≤_};
 ghost use lib.ListN.{length};
-ghost use Rattle.format.specs.Slots.{byte, Bytes};
+ghost use Rattle.format.specs.Slots.{Bytes};
 ghost use Rattle.format.specs.Claims.{madeAt, firstClaims};
-ghost use Rattle.format.specs.Decode.{readDescription};
 ghost use Rattle.claims.specs.Taken.{HeldIs};
 ghost use Rattle.saving.specs.Saving.{taken as takenOf, salvageable};
 ghost use Rattle.pass.specs.Tracks.{flags};
@@ -107,7 +106,8 @@ fn alone(t: &[u8]) -> bool
 // What is kept and what is changed, of bytes with a sound description: the pass, then 13, 14 and 15, unless the pass shows that none of
 // the three changes anything.
 fn decide(t: &[u8], kept: &mut [usize; 96], log: &mut [usize; 1649], chip: Chip) -> Plan
-    requires { ⌜ (length (now t) ≤ 4096) × Bytes (now t) × (salvageable chip (now t) ≡ true) × (length (now kept) ≡ 96) × (length (now log) ≡ 1649) ⌝ }
+    requires { ⌜ (length (now t) ≤ 4096) × Bytes (now t) × (salvageable chip (now t) ≡ true) × (length (now kept) ≡ 96)
+        × (length (now log) ≡ 1649) ⌝ }
     ensures { λ r. ⌜ Decided chip (now (t .entry)) r (now (kept .exit)) (now (log .exit)) ⌝ }
 {
     let held = claims::first_claims(fields::description(t, chip));
@@ -154,7 +154,8 @@ fn choose(
     n: Counts,
     chip: Chip,
 ) -> Plan
-    requires { ⌜ (length (now t) ≤ 4096) × (salvageable chip (now t) ≡ true) × HeldIs held (madeAt 0 (firstClaims (described chip (now t)))) × Passed chip (now t) (now kept) (now log) (now zs) (now ss) n ⌝ }
+    requires { ⌜ (length (now t) ≤ 4096) × (salvageable chip (now t) ≡ true)
+        × HeldIs held (madeAt 0 (firstClaims (described chip (now t)))) × Passed chip (now t) (now kept) (now log) (now zs) (now ss) n ⌝ }
     ensures { λ r. ⌜ Decided chip (now (t .entry)) r (now (kept .exit)) (now (log .exit)) ⌝ }
 {
     let mut one = [0usize; 96];
@@ -226,8 +227,10 @@ fn pass(
     su: &mut [bool; 256],
     chip: Chip,
 ) -> Passage
-    requires { ⌜ (16 ≤ length (now t)) × (length (now t) ≤ 4096) × Bytes (now t) × HeldIs held (madeAt 0 (firstClaims (described chip (now t)))) × (length (now kept) ≡ 96) × (length (now log) ≡ 1649) ⌝ }
-    ensures { λ r. ⌜ Scanned chip (now (t .entry)) (now (kept .exit)) (now (log .exit)) (flags (now (zs .exit)) (now (ss .exit)) (now (zu .exit)) (now (su .exit))) r ⌝ }
+    requires { ⌜ (16 ≤ length (now t)) × (length (now t) ≤ 4096) × Bytes (now t)
+        × HeldIs held (madeAt 0 (firstClaims (described chip (now t)))) × (length (now kept) ≡ 96) × (length (now log) ≡ 1649) ⌝ }
+    ensures { λ r. ⌜ Scanned chip (now (t .entry)) (now (kept .exit)) (now (log .exit))
+        (flags (now (zs .exit)) (now (ss .exit)) (now (zu .exit)) (now (su .exit))) r ⌝ }
 {
     *zs = [false; 256];
     *ss = [false; 256];

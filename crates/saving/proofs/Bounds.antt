@@ -22,7 +22,9 @@ use Rattle.format.proofs.Lengths.{at-most-96}
 use Rattle.format.proofs.Slots.{bytes-take}
 use Rattle.format.proofs.Written.{length-written}
 use Rattle.removal.proofs.Parts.{part-length, part-slots}
-use Rattle.saving.specs.Saving.{taken, At, elements, cleared, Line, line, Saved, saved, records, stays, leaves, unseen, answered, byPass, passed, byZone, zoned, stringIndexes, mendedDescription, firstLine, named, byClaim, inZones, ending}
+use Rattle.saving.specs.Saving.{taken, At, elements, cleared, Line, line, Saved, saved, records, stays, leaves, unseen, answered}
+use Rattle.saving.specs.Saving.{byPass, passed, byZone, zoned, stringIndexes, mendedDescription, firstLine, named, byClaim, inZones}
+use Rattle.saving.specs.Saving.{ending}
 use Rattle.saving.specs.Lines.{newTable}
 use Rattle.saving.proofs.Sifting.{Plain, count, by-test, sift-count}
 use Rattle.saving.proofs.Standing.{standing-count}

@@ -7,7 +7,8 @@ use mathlib.Core.Bool.{true, false≢true}
 use mathlib.Core.List.{List, [], _∷_, map}
 use lib.ListN.{length, set, length-set}
 use Rattle.format.specs.Slots.{Slot, whole, roomy, allRoomy}
-use Rattle.format.specs.Records.{Record, digital, analogue, fan, led, water, pump, voltage, current, controller, tachometer, zone, string, external, rgb, zoneNumber, zoneString}
+use Rattle.format.specs.Records.{Record, digital, analogue, fan, led, water, pump, voltage, current, controller, tachometer, zone, string}
+use Rattle.format.specs.Records.{external, rgb, zoneNumber, zoneString}
 use Rattle.format.specs.Layout.{layout}
 use Rattle.format.specs.Rules.{ownRules}
 use Rattle.format.specs.FanList.{fanPins}

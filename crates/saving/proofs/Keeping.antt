@@ -9,9 +9,11 @@ use mathlib.Core.Logic.{_⊎_, inl, inr, ⊎-elim}
 use mathlib.Core.Option.{Option, none, some}
 use lib.ListN.{length, length-drop}
 use Rattle.format.specs.Slots.{allRoomy, Bytes}
-use Rattle.format.specs.Records.{Record, digital, analogue, fan, led, water, pump, voltage, current, controller, tachometer, zone, string, external, rgb}
+use Rattle.format.specs.Records.{Record, digital, analogue, fan, led, water, pump, voltage, current, controller, tachometer, zone, string}
+use Rattle.format.specs.Records.{external, rgb}
 use Rattle.format.specs.Layout.{opening, layouts}
-use Rattle.format.specs.ZonesAndStrings.{Role, placed, zoning, naming, role, gathered, zoneDeclared, stringDeclared, zoneNamed, stringNamed, zones, strings, allAmong}
+use Rattle.format.specs.ZonesAndStrings.{Role, placed, zoning, naming, role, gathered, zoneDeclared, stringDeclared, zoneNamed}
+use Rattle.format.specs.ZonesAndStrings.{stringNamed, zones, strings, allAmong}
 use Rattle.format.specs.Claims.{Made, claimsOf, madeAt, claims, firstClash, contested}
 use Rattle.format.specs.Layout.{placeAfter}
 use Rattle.format.specs.Table.{descriptionBreaks, PassKept, Keeps}
@@ -26,7 +28,8 @@ use Rattle.removal.proofs.Parts.{part-length, part-slots, part-numbers, part-ro
 use Rattle.removal.proofs.Among.{In, Within, in-one, in-cases, all-within, part-within}
 use Rattle.removal.proofs.Passing.{part-passed}
 use Rattle.removal.proofs.Naming.{zoned-exactly, named-exactly}
-use Rattle.saving.specs.Saving.{isNone, Saved, records, zoned, stringIndexes, mendedDescription, firstLine, named, unclashed, passed, inZones, ending}
+use Rattle.saving.specs.Saving.{isNone, Saved, records, zoned, stringIndexes, mendedDescription, firstLine, named, unclashed}
+use Rattle.saving.specs.Saving.{passed, inZones, ending}
 use Rattle.saving.proofs.Alike.{EachAlike, no-more, alike-gathered, alike-length, alike-roomy, alike-passed}
 use Rattle.saving.proofs.Reading.{pass-saved}
 use Rattle.saving.proofs.Choosing.{choose-holds, choose-gathered, part-records, inZone, clashless, zoned-part, unclashed-part}

@@ -19,7 +19,8 @@ use Rattle.format.specs.Table.{descriptionBreaks}
 use Rattle.format.specs.declared.pins.Chip.{Chip}
 use Rattle.format.specs.declared.records.Description.{Description}
 use Rattle.removal.proofs.Among.{In, Within, in-left, in-right, in-cases, all-within, within-all}
-use Rattle.saving.specs.Saving.{At, atPlace, Line, line, cleared, Saved, saved, records, stays, mends, settled, sift, unindexed, unindexedDescription, mendedDescription, byString}
+use Rattle.saving.specs.Saving.{At, atPlace, Line, line, cleared, Saved, saved, records, stays, mends, settled, sift, unindexed}
+use Rattle.saving.specs.Saving.{unindexedDescription, mendedDescription, byString}
 use Rattle.saving.proofs.Sifting.{by-test, sift-through}
 use Rattle.saving.proofs.Clearing.{Alike, alike-same, set-roomy, unindexed-alike, unindexed-named}
 use Rattle.saving.proofs.Alike.{EachAlike, no-more, one-more}

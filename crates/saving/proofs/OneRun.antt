@@ -14,7 +14,7 @@ use Rattle.format.specs.Records.{Record}
 use Rattle.format.specs.Layout.{layout, layouts, opening, table, placeAfter}
 use Rattle.format.specs.Table.{elementBreaks}
 use Rattle.format.specs.Verdict.{stated, framed, Stands, Breaks, Verdict}
-use Rattle.format.specs.Reader.{took, stop, step}
+use Rattle.format.specs.Reader.{took, step}
 use Rattle.format.specs.declared.records.Description.{Description}
 use Rattle.format.specs.declared.settings.Settings.{Settings}
 use Rattle.format.specs.declared.answers.Answer.{Answer}
@@ -26,7 +26,8 @@ use Rattle.format.proofs.Stepping.{starts-framed, step-meets, step-took, step-s
 use Rattle.format.proofs.Lengths.{layouts-append}
 use Rattle.format.proofs.Demand3.{unique}
 use Rattle.saving.specs.Saving.{At, atPlace, Line, saved, records, unindexed, unindexedDescription}
-use Rattle.saving.specs.Repairing.{Repairs, accepted, leaves-out, clears, clears-first, RepairsPass, ends, reads-on, leaves-over, stops, is-full}
+use Rattle.saving.specs.Repairing.{Repairs, accepted, leaves-out, clears, clears-first, RepairsPass, ends, reads-on, leaves-over}
+use Rattle.saving.specs.Repairing.{stops, is-full}
 use Rattle.saving.proofs.Reading.{records-append}
 use Rattle.saving.proofs.Clearing.{set-roomy, unindexed-alike}
 use Rattle.saving.proofs.Standing.{framed-facts}
@@ -51,7 +52,10 @@ module _ {d : Description} where
       let n = 16 + length (layouts rs) in
       written-bytes (table d rs) (roomy-join (opening d n) (layouts rs) (h .top n (h .limit)) (h .rest))
 
-  room-out : (before : List (At Record)) (k : At Record) (after : List (At Record)) → Room d (before ++ k ∷ after) → Room d (before ++ after)
+  room-out :
+      (before : List (At Record)) (k : At Record) (after : List (At Record))
+      → Room d (before ++ k ∷ after)
+      → Room d (before ++ after)
   room-out before k after h =
       let b = layouts (records before) in
       let m = layout (k .what) in
@@ -83,7 +87,17 @@ module _ {d : Description} where
       record {
         top = h .top;
         rest = rw f (roomy-join b (m′ ++ a) (o .0) (roomy-join m′ a (same .room (i .0)) (i .1)));
-        limit = omega (arith, h .limit, ap length e, ap length f, length-append b (m ++ a), length-append b (m′ ++ a), length-append m a, length-append m′ a, same .long);
+        limit = omega (
+          arith,
+          h .limit,
+          ap length e,
+          ap length f,
+          length-append b (m ++ a),
+          length-append b (m′ ++ a),
+          length-append m a,
+          length-append m′ a,
+          same .long,
+        );
       }
 
   room-first : (ks : List (At Record)) → Room d ks → Room (unindexedDescription d) ks
@@ -104,7 +118,8 @@ same-split (x ∷ b) k a (y ∷ b′) k′ a′ e p =
     let long : length (layout (x .what)) ≡ length (layout (y .what)) = ap (λ (z : At Record). length (layout (z .what))) one in
     let w =
     same-split b k a b′ k′ a′ rest
-    (omega (arith, long, length-append (layout (x .what)) (layouts (records b)), length-append (layout (y .what)) (layouts (records b′)))) in
+    (omega (arith, long, length-append (layout (x .what)) (layouts (records b)), length-append (layout (y .what)) (layouts (records b′))))
+    in
     (cc (w .0), w .1, w .2)
 
 module _ (σ : Settings) where

@@ -27,7 +27,8 @@ use Rattle.format.proofs.Growing.{pass-snoc}
 use Rattle.format.proofs.Stepping.{Meets, step-meets}
 use Rattle.format.proofs.Whole.{written-append}
 use Rattle.format.proofs.Written.{written-starts, length-written}
-use Rattle.saving.specs.Saving.{At, atPlace, Line, line, left-out, Saved, saved, records, Fate, unseen, settled, sift, standing, answered, byPass}
+use Rattle.saving.specs.Saving.{At, atPlace, Line, line, left-out, Saved, saved, records, Fate, unseen, settled, sift, standing}
+use Rattle.saving.specs.Saving.{answered, byPass}
 use Rattle.saving.specs.Repairing.{Repairs, so-far, RepairsPass, ends, reads-on, leaves-over, stops, is-full}
 use Rattle.saving.proofs.Standing.{framed-facts}
 use Rattle.saving.proofs.Reading.{records-append}

@@ -12,7 +12,8 @@ use Rattle.format.specs.Records.{Record}
 use Rattle.format.specs.Layout.{layouts, opening}
 use Rattle.format.specs.Pins.{among}
 use Rattle.format.specs.Rules.{unlessKept}
-use Rattle.format.specs.ZonesAndStrings.{gathered, zoneDeclared, stringDeclared, zoneNamed, stringNamed, zones, strings, firstNaming, nameless}
+use Rattle.format.specs.ZonesAndStrings.{gathered, zoneDeclared, stringDeclared, zoneNamed, stringNamed, zones, strings, firstNaming}
+use Rattle.format.specs.ZonesAndStrings.{nameless}
 use Rattle.format.specs.Verdict.{unnamed}
 use Rattle.format.specs.declared.records.Description.{Description}
 use Rattle.format.specs.declared.settings.Settings.{Settings}
@@ -21,7 +22,8 @@ use Rattle.format.proofs.Written.{written-accepted}
 use Rattle.removal.proofs.Parts.{part-same}
 use Rattle.removal.proofs.Among.{In, Within}
 use Rattle.removal.proofs.Naming.{zoned-exactly}
-use Rattle.saving.specs.Saving.{At, Line, line, cleared, Saved, saved, records, passed, zoned, stringIndexes, unindexedDescription, mendedDescription, firstLine, named, inZones, ending}
+use Rattle.saving.specs.Saving.{At, Line, line, cleared, Saved, saved, records, passed, zoned, stringIndexes, unindexedDescription}
+use Rattle.saving.specs.Saving.{mendedDescription, firstLine, named, inZones, ending}
 use Rattle.saving.specs.Repairing.{Repairs, accepted, clears-first, RepairsPass}
 use Rattle.saving.proofs.Alike.{EachAlike, alike-gathered}
 use Rattle.saving.proofs.Reading.{pass-saved}

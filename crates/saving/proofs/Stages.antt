@@ -13,7 +13,8 @@ use Rattle.format.specs.Records.{Record}
 use Rattle.format.specs.Layout.{table, placeAfter}
 use Rattle.format.specs.Pins.{among}
 use Rattle.format.specs.Rules.{unlessKept}
-use Rattle.format.specs.ZonesAndStrings.{Role, role, gathered, zoneDeclared, stringDeclared, zoneNamed, stringNamed, zones, strings, allAmong, firstNaming, zoneless, nameless}
+use Rattle.format.specs.ZonesAndStrings.{Role, role, gathered, zoneDeclared, stringDeclared, zoneNamed, stringNamed, zones, strings}
+use Rattle.format.specs.ZonesAndStrings.{allAmong, firstNaming, zoneless, nameless}
 use Rattle.format.specs.Claims.{contested}
 use Rattle.format.specs.Verdict.{Verdict, unzoned, unnamed, clashing}
 use Rattle.format.specs.declared.records.Description.{Description}
@@ -25,7 +26,8 @@ use Rattle.removal.specs.Taking.{zonesNamed, stringsNamed}
 use Rattle.removal.proofs.Parts.{part-same, part-append, part-numbers}
 use Rattle.removal.proofs.Among.{In, Within, all-within, in-left, part-within}
 use Rattle.removal.proofs.Naming.{zoned-exactly, named-exactly}
-use Rattle.saving.specs.Saving.{At, atPlace, Line, line, left-out, cleared, Saved, saved, records, stays, leaves, mends, settled, sift, unindexed, byString}
+use Rattle.saving.specs.Saving.{At, atPlace, Line, line, left-out, cleared, Saved, saved, records, stays, leaves, mends, settled}
+use Rattle.saving.specs.Saving.{sift, unindexed, byString}
 use Rattle.saving.specs.Repairing.{Repairs, leaves-out, clears}
 use Rattle.saving.proofs.Clearing.{unindexed-alike, unindexed-named}
 use Rattle.saving.proofs.Alike.{EachAlike, one-more, alike-all, alike-append, alike-gathered}

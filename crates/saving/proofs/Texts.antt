@@ -21,7 +21,9 @@ use Rattle.format.specs.declared.records.Description.{Description}
 use Rattle.format.proofs.Slots.{bytes-take}
 use Rattle.format.proofs.Stepped.{Says, step-says}
 use Rattle.spelling.specs.Spelling.{digit, digitAt, decimal}
-use Rattle.saving.specs.Saving.{taken, At, atPlace, elements, Change, left-out, cleared, Line, line, Saved, saved, records, Fate, stays, leaves, mends, unseen, settled, sift, answered, byPass, passed, byZone, unindexed, stringIndexes, firstLine, byString, named, byClaim, inZones, ending}
+use Rattle.saving.specs.Saving.{taken, At, atPlace, elements, Change, left-out, cleared, Line, line, Saved, saved, records, Fate}
+use Rattle.saving.specs.Saving.{stays, leaves, mends, unseen, settled, sift, answered, byPass, passed, byZone, unindexed}
+use Rattle.saving.specs.Saving.{stringIndexes, firstLine, byString, named, byClaim, inZones, ending}
 use Rattle.saving.specs.Lines.{changeText, lineText, textOf, newText}
 use Rattle.saving.proofs.Sifting.{All, all-snoc, by-test, sift-through}
 use Rattle.saving.proofs.Standing.{Before, standing-before}

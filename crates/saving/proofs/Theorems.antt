@@ -36,7 +36,8 @@ use Rattle.removal.proofs.Among.{not-so}
 use Rattle.removal.proofs.Claims.{part-uncontested}
 use Rattle.removal.proofs.Parts.{part-none}
 use Rattle.removal.proofs.Keeping.{opening-roomy}
-use Rattle.saving.specs.Saving.{At, Line, taken, isNone, sound, salvageable, Saved, saved, records, elements, passed, zoned, stringIndexes, mendedDescription, named, unclashed, inZones, ending}
+use Rattle.saving.specs.Saving.{At, Line, taken, isNone, sound, salvageable, Saved, saved, records, elements, passed, zoned}
+use Rattle.saving.specs.Saving.{stringIndexes, mendedDescription, named, unclashed, inZones, ending}
 use Rattle.saving.specs.Lines.{textOf, tableOf, newTable, newText, answer}
 use Rattle.saving.specs.declared.Salvaged.the-variants.{Done, Refused}
 use Rattle.saving.proofs.Bounds.{table-short}

@@ -26,7 +26,8 @@ use Rattle.removal.proofs.Parts.{part-none, part-same, part-append}
 use Rattle.removal.proofs.Among.{Within, in-here, in-left, in-right, within-all}
 use Rattle.removal.proofs.Naming.{zoned-exactly, named-exactly}
 use Rattle.removal.proofs.Claims.{part-uncontested}
-use Rattle.saving.specs.Saving.{atPlace, isNone, Saved, saved, records, Fate, stays, settled, standing, sift, byPass, zoned, stringIndexes, named, unclashed}
+use Rattle.saving.specs.Saving.{atPlace, isNone, Saved, saved, records, Fate, stays, settled, standing, sift, byPass, zoned}
+use Rattle.saving.specs.Saving.{stringIndexes, named, unclashed}
 use Rattle.saving.proofs.Reading.{records-append}
 use Rattle.saving.proofs.Choosing.{choose-all, inZone, clashless}
 use Rattle.saving.proofs.Mending.{mended-all}

@@ -4,7 +4,8 @@
 use Prim.Native.Nat.{ℕ}
 use mathlib.Core.List.{List, [], _∷_, _++_}
 use lib.ListN.{take}
-use Rattle.format.specs.Known.{headWith, tableA, tableWith, tableOf, after, zoneZ, zone1, fanF, sensorOn, sensorS, sensorT, tachometerOn, stringN, stringS}
+use Rattle.format.specs.Known.{headWith, tableA, tableWith, tableOf, after, zoneZ, zone1, fanF, sensorOn, sensorS, sensorT, tachometerOn}
+use Rattle.format.specs.Known.{stringN, stringS}
 use Rattle.format.specs.EachRule.{zones, strings, rgbNamed}
 use Rattle.format.specs.declared.pins.Chip.{Chip}
 use Rattle.format.specs.declared.pins.Chip.the-variants.{C8051F320, C8051F321}

@@ -12,7 +12,8 @@ use Rattle.format.specs.Writing.{overwritten, writing}
 use Rattle.format.specs.declared.pins.Chip.{Chip}
 use Rattle.format.specs.declared.records.Description.{Description}
 use Rattle.spelling.specs.Spelling.{decimal}
-use Rattle.saving.specs.Saving.{taken, salvageable, Change, left-out, cleared, Line, Saved, records, stringIndexes, mendedDescription, inZones, ending}
+use Rattle.saving.specs.Saving.{taken, salvageable, Change, left-out, cleared, Line, Saved, records, stringIndexes}
+use Rattle.saving.specs.Saving.{mendedDescription, inZones, ending}
 use Rattle.saving.specs.declared.Salvaged.{Salvaged}
 use Rattle.saving.specs.declared.Salvaged.the-variants.{Done, Refused}
 

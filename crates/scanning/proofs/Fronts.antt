@@ -1,19 +1,18 @@
 -- A step of the pass looks at one element's bytes alone; and the reader's walk over the bytes of one element takes it, or stops before it.
 -- Assumes nothing.
-use Prim.Native.Nat.{ℕ, suc, _+_, _-_, _*_, _<_, _≤_}
+use Prim.Native.Nat.{ℕ, suc, _+_, _-_, _≤_}
 use native.Mathlib.Omega.{arith}
 use mathlib.Core.Path.{_≡_, refl, sym, _∙_, ap, subst}
-use mathlib.Core.Bool.{true, false}
+use mathlib.Core.Bool.{true}
 use mathlib.Core.List.{List, [], _∷_, _++_}
-use lib.ListN.{length, take, drop, length-drop}
+use lib.ListN.{length, take, drop}
 use lib.Seq.{take-take, length-take-le, drop-length}
-use lib.Dec.{leb}
 use borrow.Author.Tests.{le-leb}
 use Rattle.format.specs.Slots.{byte}
 use Rattle.format.specs.Records.{Record}
 use Rattle.format.specs.Verdict.{stated, framed}
 use Rattle.format.specs.Decode.{content}
-use Rattle.format.specs.Reader.{step, Outcome, took, stop}
+use Rattle.format.specs.Reader.{step, took}
 use Rattle.format.specs.declared.settings.Settings.{Settings}
 use Rattle.pass.specs.Tracks.{Took, none-yet, one-more}
 

@@ -1,43 +1,39 @@
 -- The code's pass is the one that is defined: what is left to do ends where the whole ends.
 -- Assumes nothing.
-use Prim.Native.Nat.{ℕ, zero, suc, _+_, _-_, _*_, _/_, _%_, _<_, _≤_}
+use Prim.Native.Nat.{ℕ, zero, suc, _+_, _-_, _*_, _%_, _<_, _≤_}
 use native.Mathlib.Omega.{arith}
 use mathlib.Core.Path.{_≡_, refl, sym, _∙_, ap, subst}
-use mathlib.Core.Bool.{Bool, true, false, cond}
+use mathlib.Core.Bool.{true, false}
 use mathlib.Core.List.{List, [], _∷_, _++_}
 use mathlib.Core.Option.{none}
 use lib.ListN.{length, take, drop, length-drop}
 use lib.Seq.{drop-drop, length-take-le}
-use lib.Dec.{ltb, eqb}
+use lib.Dec.{ltb}
 use borrow.Author.Tests.{lt-ltb, le-ltb}
 use Rattle.format.specs.Slots.{byte, Bytes, Starts}
 use Rattle.format.specs.Records.{Record}
 use Rattle.format.specs.Layout.{layout, placeAfter}
-use Rattle.format.specs.Rules.{firstBroken, ownRules}
 use Rattle.format.specs.Table.{elementBreaks}
-use Rattle.format.specs.Verdict.{stated, framed, Stands}
+use Rattle.format.specs.Verdict.{stated, framed}
 use Rattle.format.specs.Decode.{readDescription}
 use Rattle.format.specs.Reader.{step, Outcome, took, stop}
 use Rattle.format.specs.Writing.{writing}
 use Rattle.format.specs.declared.pins.Chip.{Chip}
 use Rattle.format.specs.declared.settings.Settings.{Settings}
-use Rattle.format.specs.declared.records.Description.{Description}
 use Rattle.format.proofs.Slots.{bytes-drop, bytes-take}
 use Rattle.format.proofs.Kept.{own-unbroken, unbroken-kind}
 use Rattle.format.proofs.Decoding.{starts-stated}
 use Rattle.format.proofs.Stepping.{Meets, step-meets}
 use Rattle.format.proofs.Growing.{place-snoc}
-use Rattle.pass.specs.Tracks.{Flags, Low, Tracks, Walked, WalkIs}
+use Rattle.pass.specs.Tracks.{Flags, Low, Tracks, WalkIs}
 use Rattle.pass.proofs.Walking.{took-stated}
 use Rattle.pass.specs.declared.State.{State}
 use Rattle.pass.specs.declared.Over.{Over}
-use Rattle.walking.specs.Walk.{Here}
 use Rattle.saving.specs.Saving.{At, atPlace, standing, Saved, saved, records, settled, sift, answered, byPass}
 use Rattle.saving.specs.Saving as saving
-use Rattle.fates.specs.Noted.{Each, Keeps, asKept, Notes, Tells, Settles}
+use Rattle.fates.specs.Noted.{Keeps, Notes, Tells, Settles}
 use Rattle.fates.specs.declared.Counts.{Counts}
 use Rattle.fates.specs.declared.Fate.{Fate}
-use Rattle.fates.specs.declared.Fate.the-variants.{Stays, Leaves}
 use Rattle.fates.proofs.Noting.{each-length}
 use Rattle.scanning.specs.Scanned.{afterPass, Scanned, FateOf}
 use Rattle.scanning.specs.declared.Passage.{Passage}

@@ -37,8 +37,11 @@ pub fn scan(
     su: &mut [bool; 256],
     chip: Chip,
 ) -> Passage
-    requires { ⌜ (16 ≤ length (now t)) × (length (now t) ≤ 4096) × Bytes (now t) × Tracks (readDescription chip (byte (now t))) start (flags (now zs) (now ss) (now zu) (now su)) [] × (length (now kept) ≡ 96) × (length (now log) ≡ 1649) ⌝ }
-    ensures { λ r. ⌜ Scanned chip (now (t .entry)) (now (kept .exit)) (now (log .exit)) (flags (now (zs .exit)) (now (ss .exit)) (now (zu .exit)) (now (su .exit))) r ⌝ }
+    requires { ⌜ (16 ≤ length (now t)) × (length (now t) ≤ 4096) × Bytes (now t)
+        × Tracks (readDescription chip (byte (now t))) start (flags (now zs) (now ss) (now zu) (now su)) [] × (length (now kept) ≡ 96)
+        × (length (now log) ≡ 1649) ⌝ }
+    ensures { λ r. ⌜ Scanned chip (now (t .entry)) (now (kept .exit)) (now (log .exit))
+        (flags (now (zs .exit)) (now (ss .exit)) (now (zu .exit)) (now (su .exit))) r ⌝ }
 {
     let settings = Settings {
         chip,

@@ -9,7 +9,8 @@ use format::records::Element;
 use format::units::Deciamps;
 use format::units::Decivolts;
 
-// What a record says of its conversion: IMIN and IMAX, VMIN and VMAX, five calibration points, pulses per revolution, or that there is none.
+// What a record says of its conversion: IMIN and IMAX, VMIN and VMAX, five calibration points, pulses per revolution, or that there
+// is none.
 pub enum Sensor {
     Current(Deciamps, Deciamps),
     Voltage(Decivolts, Decivolts),

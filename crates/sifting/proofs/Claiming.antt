@@ -1,9 +1,9 @@
 -- 15: an element's claims after those of the kept ones, places aside.
 -- Assumes nothing.
-use Prim.Native.Nat.{ℕ, _+_, _/_, _<_, _≤_}
+use Prim.Native.Nat.{ℕ, _+_}
 use native.Mathlib.Omega.{arith}
 use mathlib.Core.Path.{_≡_, refl, sym, _∙_, ap, subst}
-use mathlib.Core.Bool.{Bool, true, false, _&&_, not, cond}
+use mathlib.Core.Bool.{Bool, true, false, _&&_, not}
 use mathlib.Core.List.{List, [], _∷_, _++_}
 use mathlib.Core.Option.{Option, none, some}
 use lib.Dec.{eqb}
@@ -18,15 +18,15 @@ use Rattle.format.specs.declared.records.Description.{Description}
 use Rattle.format.specs.declared.records.Element.{Element}
 use Rattle.format.proofs.Kept.{own-kept}
 use Rattle.format.proofs.Growing.{claims-snoc}
-use Rattle.claims.specs.Taken.{ClaimsAre, HeldIs, whats, placeOr, free, isNone}
+use Rattle.claims.specs.Taken.{ClaimsAre, HeldIs, whats, free, isNone}
 use Rattle.claims.specs.declared.Held.{Held}
 use Rattle.claims.specs.declared.Claims.{Claims}
 use Rattle.claims.proofs.Firsts.{place-none}
 use Rattle.claiming.specs.Bare.{bare}
 use Rattle.claiming.proofs.Bare.{bare-same}
-use Rattle.saving.specs.Saving.{At, atPlace, byClaim}
+use Rattle.saving.specs.Saving.{At, byClaim}
 use Rattle.saving.specs.Saving as saving
-use Rattle.fates.specs.Noted.{Keeps, asKept, Tells}
+use Rattle.fates.specs.Noted.{Keeps, Tells}
 use Rattle.fates.specs.declared.Fate.the-variants.{Stays, Leaves}
 use Rattle.sifting.specs.Stages.{Claimed, afterwards}
 use Rattle.sifting.proofs.Judging.{kept-alike, keeps-same}

@@ -1,21 +1,18 @@
 -- What the bytes at the old place tell of an element that is kept: 13 and 14.
 -- Assumes nothing.
-use Prim.Native.Nat.{ℕ, _+_, _*_, _/_, _%_, _<_, _≤_}
+use Prim.Native.Nat.{ℕ, _+_, _*_, _/_, _%_}
 use native.Mathlib.Omega.{arith}
-use mathlib.Core.Path.{_≡_, refl, sym, _∙_, ap, subst}
-use mathlib.Core.Bool.{Bool, true, false, _&&_, cond}
+use mathlib.Core.Path.{_≡_, refl, sym, _∙_, ap}
+use mathlib.Core.Bool.{Bool, true, false, cond}
 use mathlib.Core.List.{List, [], _∷_}
-use lib.ListN.{length}
 use lib.Dec.{eqb}
-use borrow.Author.Tests.{eq-eqb, ne-eqb}
 use Rattle.format.specs.Records.{Record}
 use Rattle.format.specs.Pins.{among}
-use Rattle.format.specs.ZonesAndStrings.{Role, role, zoneNamed, stringNamed, allAmong}
+use Rattle.format.specs.ZonesAndStrings.{role, zoneNamed, stringNamed, allAmong}
 use Rattle.format.specs.Writing.{writing}
 use Rattle.format.specs.declared.pins.Chip.{Chip}
 use Rattle.format.proofs.Kept.{own-kept}
-use Rattle.flags.specs.Marks.{Marks}
-use Rattle.places.specs.Walks.{RoleBytes, namesOf}
+use Rattle.places.specs.Walks.{RoleBytes}
 use Rattle.places.proofs.Roles.{role-bytes}
 use Rattle.walking.specs.Walk.{Here}
 use Rattle.removal.proofs.Among.{In, in-one, within-all}

@@ -1,24 +1,24 @@
 -- The loop over what is kept: what is left to do ends where the whole ends.
 -- Assumes nothing.
-use Prim.Native.Nat.{ℕ, zero, suc, _+_, _-_, _*_, _/_, _<_, _≤_}
+use Prim.Native.Nat.{ℕ, _+_, _-_, _<_, _≤_}
 use native.Mathlib.Omega.{arith}
 use native.Mathlib.Numerals.{add-one}
 use mathlib.Core.Path.{_≡_, refl, sym, _∙_, ap, subst}
 use mathlib.Core.Bool.{Bool}
-use mathlib.Core.List.{List, [], _∷_, _++_}
+use mathlib.Core.List.{List, [], _∷_}
 use lib.ListN.{length, take, drop, getD, drop-of-length-le}
 use lib.Seq.{length-take-le, getD-take}
 use Rattle.format.specs.Records.{Record}
 use Rattle.format.specs.declared.pins.Chip.{Chip}
 use Rattle.format.specs.declared.records.Description.{Description}
 use Rattle.claims.specs.declared.Held.{Held}
-use Rattle.saving.specs.Saving.{At, atPlace, Saved, saved, records, settled}
+use Rattle.saving.specs.Saving.{At, atPlace, Saved, records, settled}
 use Rattle.saving.specs.Saving as saving
 use Rattle.saving.proofs.Reading.{records-append}
-use Rattle.fates.specs.Noted.{Each, Keeps, Codes, Notes, Settles}
+use Rattle.fates.specs.Noted.{Keeps, Notes, Settles}
 use Rattle.fates.specs.declared.Counts.{Counts}
 use Rattle.fates.proofs.Noting.{Spot, each-at, each-length}
-use Rattle.sifting.specs.Stages.{byStage, Carries, afterwards, JudgeIs, Given, Ready, Sifted}
+use Rattle.sifting.specs.Stages.{byStage, Carries, afterwards, JudgeIs, Given, Sifted}
 use Rattle.sifting.specs.declared.Stage.{Stage}
 use Rattle.sifting.specs.declared.Judged.{Judged}
 

@@ -1,6 +1,6 @@
 -- What each of the three passes makes of an element, and of all that are kept.
 -- Assumes nothing.
-use Prim.Native.Nat.{ℕ, _+_, _/_, _<_, _≤_}
+use Prim.Native.Nat.{ℕ, _+_, _≤_}
 use mathlib.Core.Path.{_≡_}
 use mathlib.Core.Bool.{Bool, true}
 use mathlib.Core.List.{List, [], _∷_, _++_}
@@ -14,7 +14,7 @@ use Rattle.format.specs.declared.records.Description.{Description}
 use Rattle.flags.specs.Marks.{Marks}
 use Rattle.claims.specs.Taken.{HeldIs, whats}
 use Rattle.claims.specs.declared.Held.{Held}
-use Rattle.saving.specs.Saving.{At, Line, Saved, saved, records, byZone, byString, byClaim}
+use Rattle.saving.specs.Saving.{At, Saved, byZone, byString, byClaim}
 use Rattle.saving.specs.Saving as saving
 use Rattle.fates.specs.Noted.{Each, Keeps, Codes, Notes, Tells}
 use Rattle.fates.specs.declared.Counts.{Counts}

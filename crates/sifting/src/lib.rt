@@ -1,7 +1,7 @@
 // The three passes of salvage over what is kept: elements with an undeclared zone are left out, missing string indexes cleared, and
 // elements whose claims clash left out, in that order. One loop for the three.
 ghost use mathlib.Core.Path.{_≡_};
-ghost use Prim.Native.Nat.{ℕ, _+_, _<_, _≤_};
+ghost use Prim.Native.Nat.{_+_, _<_};
 ghost use lib.ListN.{length};
 ghost use Rattle.format.specs.Records.{Record};
 ghost use Rattle.saving.specs.Saving.{At};
@@ -45,7 +45,8 @@ pub fn sift(
     chip: Chip,
 ) -> Counts
     requires { ⌜ Ready chip stage (now t) (now from) n (now declared) first (now log) lines × (length (now to) ≡ 96) ⌝ }
-    ensures { λ r. ⌜ Sifted chip stage (now (t .entry)) (now (from .entry)) n (now (declared .entry)) first (now (log .entry)) lines r (now (to .exit)) (now (log .exit)) ⌝ }
+    ensures { λ r. ⌜ Sifted chip stage (now (t .entry)) (now (from .entry)) n (now (declared .entry)) first (now (log .entry)) lines r
+        (now (to .exit)) (now (log .exit)) ⌝ }
 {
     let mut c = counted(0, lines);
     let mut held = first;

@@ -68,7 +68,8 @@ put-one-way c s n n′ after after′ p q =
     let rest : drop n after ≡ drop n after′ =
     p .rest ∙ ap (λ (m : ℕ). drop m c) same ∙ sym (q .rest) ∙ ap (λ (m : ℕ). drop m after′) (sym same) in (
       same,
-      sym (take-append-drop n after) ∙ ap (λ (l : List ℕ). l ++ drop n after) front ∙ ap (λ (l : List ℕ). take n after′ ++ l) rest ∙ take-append-drop n after′,
+      sym (take-append-drop n after) ∙ ap (λ (l : List ℕ). l ++ drop n after) front ∙ ap (λ (l : List ℕ). take n after′ ++ l) rest
+          ∙ take-append-drop n after′,
     )
 
 -- a used pin, and two more that may be unused

@@ -3,7 +3,8 @@ ghost use mathlib.Core.Path.{_≡_};
 ghost use mathlib.Core.List.{_++_};
 ghost use Prim.Native.Nat.{_+_, _<_, _≤_, _/_};
 ghost use lib.ListN.{length};
-ghost use Rattle.spelling.specs.Spelling.{Put, digit, digitAt, upper, decimal, hexPair, hexDigit, pinText, pinOrDash, next, joined, used};
+ghost use Rattle.spelling.specs.Spelling.{Put, digit, digitAt, upper, decimal, hexPair, hexDigit, pinText, pinOrDash, next, joined};
+ghost use Rattle.spelling.specs.Spelling.{used};
 use laying::copy_into;
 
 // Any text.

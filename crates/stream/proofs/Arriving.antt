@@ -106,7 +106,8 @@ module _ (σ : Settings) where
           → answer σ (stateOf σ b)
           ≡ orRefuseAt0 (leb 16 (length b)) 1
           (orRefuseAt0 (eqb (byte b 0) 1) 2
-          (orRefuseAt0 (eqb (stated b) (length b) && leb (stated b) 4096) 3 (afterDescription σ (readDescription (σ .chip) (byte b)) (drop 16 b))))
+          (orRefuseAt0 (eqb (stated b) (length b) && leb (stated b) 4096) 3
+          (afterDescription σ (readDescription (σ .chip) (byte b)) (drop 16 b))))
       go true e =
           rw (
             same-description (σ .chip) (byte (take 16 b)) (byte b) at,

@@ -9,7 +9,6 @@ use lib.ListN.{length, drop, length-append, length-drop, List·getD-append}
 use lib.Seq.{append-snoc, drop-append-le, take-append-le, drop-append-seam}
 use lib.Dec.{ltb, leb}
 use borrow.Author.Tests.{le-leb, lt-leb, leb-true, leb-false, ltb-true, ltb-false, lt-ltb, le-ltb}
-use Rattle.format.specs.Slots.{byte}
 use Rattle.format.specs.Records.{Record}
 use Rattle.format.specs.Verdict.{stated, framed}
 use Rattle.format.specs.Decode.{content}
@@ -45,7 +44,15 @@ data Ready (u : List ℕ) : Type 0 where
 ready : (u : List ℕ) → unready u ≡ false → Ready u
 ready u h = go (ltb (length u) 3) refl (leb 3 (stated u)) refl (ltb (length u) (stated u)) refl h
   where
-    go : (a : Bool) → ltb (length u) 3 ≡ a → (b : Bool) → leb 3 (stated u) ≡ b → (c : Bool) → ltb (length u) (stated u) ≡ c → a || b && c ≡ false → Ready u
+    go :
+        (a : Bool)
+        → ltb (length u) 3 ≡ a
+        → (b : Bool)
+        → leb 3 (stated u) ≡ b
+        → (c : Bool)
+        → ltb (length u) (stated u) ≡ c
+        → a || b && c ≡ false
+        → Ready u
     go true p b r c q e = let z : _≡_ {A = ℕ} 0 1 = cc in absurd (omega arith)
     go false p true r true q e = let z : _≡_ {A = ℕ} 0 1 = cc in absurd (omega arith)
     go false p true r false q e = full (leb-true _ _ r) (ltb-false _ _ q)
@@ -95,10 +102,16 @@ pub ready-full : (u : List ℕ) → 3 ≤ length u → stated u ≤ length u →
 ready-full u h g = rw (le-ltb (length u) 3 h, le-ltb (length u) (stated u) g) (and-false (leb 3 (stated u)) false refl)
 
 module _ (σ : Settings) where
-  pub same-step : (before : List Record) (u xs : List ℕ) → 3 ≤ stated u → 3 ≤ length u → stated u ≤ length u → step σ before (u ++ xs) ≡ step σ before u
+  pub same-step :
+      (before : List Record) (u xs : List ℕ)
+      → 3 ≤ stated u
+      → 3 ≤ length u
+      → stated u ≤ length u
+      → step σ before (u ++ xs) ≡ step σ before u
   same-step before u xs h l g =
       same-element σ before (u ++ xs) u
-      (full-frame (u ++ xs) (omega (arith, stated-more u xs l)) (omega (arith, stated-more u xs l, length-append u xs)) ∙ sym (full-frame u h g))
+      (full-frame (u ++ xs) (omega (arith, stated-more u xs l)) (omega (arith, stated-more u xs l, length-append u xs))
+      ∙ sym (full-frame u h g))
       (List·getD-append u xs 0 0 (omega arith))
       (content-more u xs l g)
 
@@ -107,13 +120,19 @@ module _ (σ : Settings) where
       (n : ℕ) (before : List Record) (at : ℕ) (bs : List ℕ)
       → 0 < length bs
       → length bs ≤ n
-      → (m : ℕ) × (n ≡ suc m) × (pass σ n before at bs ≡ next (step σ before bs) (λ r. pass σ m (before ++ r ∷ []) (at + stated bs) (drop (stated bs) bs)) at)
+      → (m : ℕ) × (n ≡ suc m) × (pass σ n before at bs
+      ≡ next (step σ before bs) (λ r. pass σ m (before ++ r ∷ []) (at + stated bs) (drop (stated bs) bs)) at)
   unfolding pass
   turn n before at [] h l = absurd (omega arith)
   turn zero before at (b ∷ bs) h l = absurd (omega arith)
   turn (suc m) before at (b ∷ bs) h l = (m, refl, refl)
 
-  halts : (n : ℕ) (before : List Record) (at : ℕ) (bs : List ℕ) {k : ℕ} → 0 < length bs → length bs ≤ n → step σ before bs ≡ stop k → pass σ n before at bs ≡ halted k at
+  halts :
+      (n : ℕ) (before : List Record) (at : ℕ) (bs : List ℕ) {k : ℕ}
+      → 0 < length bs
+      → length bs ≤ n
+      → step σ before bs ≡ stop k
+      → pass σ n before at bs ≡ halted k at
   halts n before at bs h l e = turn n before at bs h l .2 ∙ rw e refl
 
   pub broken-stays : (k p : ℕ) (xs : List ℕ) → finish (runBytes σ (broken k p) xs) ≡ halted k p
@@ -128,9 +147,14 @@ module _ (σ : Settings) where
       → length u + length bs ≤ n
       → finish (runBytes σ (going before at u) bs) ≡ pass σ n before at (u ++ bs)
 
-  at-end : (u : List ℕ) (n : ℕ) (before : List Record) (at : ℕ) → unready u ≡ true → length u ≤ n → finish (going before at u) ≡ pass σ n before at u
+  at-end :
+      (u : List ℕ) (n : ℕ) (before : List Record) (at : ℕ)
+      → unready u ≡ true
+      → length u ≤ n
+      → finish (going before at u) ≡ pass σ n before at u
   at-end [] n before at h l = sym (pass-nil σ n before at)
-  at-end (x ∷ u) n before at h l = sym (halts n before at (x ∷ u) (omega arith) l (unframed σ before (x ∷ u) (lacks-frame (x ∷ u) (lacks (x ∷ u) h))))
+  at-end (x ∷ u) n before at h l = sym (halts n before at (x ∷ u) (omega arith) l
+      (unframed σ before (x ∷ u) (lacks-frame (x ∷ u) (lacks (x ∷ u) h))))
 
   -- an element is complete, and the pass goes on after it
   judged :
@@ -157,7 +181,8 @@ module _ (σ : Settings) where
       → Lacks u
       → Ready (u ++ x ∷ [])
       → length (u ++ x ∷ []) + length xs ≤ n
-      → finish (runBytes σ (past before at (length (u ++ x ∷ [])) (step σ before (u ++ x ∷ []))) xs) ≡ pass σ n before at ((u ++ x ∷ []) ++ xs)
+      → finish (runBytes σ (past before at (length (u ++ x ∷ [])) (step σ before (u ++ x ∷ []))) xs)
+      ≡ pass σ n before at ((u ++ x ∷ []) ++ xs)
   complete xs u x n before at rec k (low g h) l =
       let v = u ++ x ∷ [] in
       rw (unframed σ before v (low-frame v h))
@@ -171,7 +196,11 @@ module _ (σ : Settings) where
   run-passes [] u n before at h l = rw (append-nil u) (at-end u n before at h (omega arith))
   run-passes (x ∷ xs) u n before at h l = go (run-passes xs) (unready (u ++ x ∷ [])) refl
     where
-      go : Passes xs → (t : Bool) → unready (u ++ x ∷ []) ≡ t → finish (runBytes σ (settled σ before at (u ++ x ∷ []) t) xs) ≡ pass σ n before at (u ++ x ∷ xs)
+      go :
+          Passes xs
+          → (t : Bool)
+          → unready (u ++ x ∷ []) ≡ t
+          → finish (runBytes σ (settled σ before at (u ++ x ∷ []) t) xs) ≡ pass σ n before at (u ++ x ∷ xs)
       go rec true e = rec (u ++ x ∷ []) n before at e (omega (arith, snoc-length u x)) ∙ ap (pass σ n before at) (append-snoc u x xs)
       go rec false e =
           complete xs u x n before at rec (lacks u h) (ready (u ++ x ∷ []) e) (omega (arith, snoc-length u x))

@@ -1,7 +1,7 @@
 -- Many bytes at once: where none of them completes the element under way it grows by them; where the last of them does it is judged;
 -- and a length under 3 stops the pass as soon as the header is there.
 -- Assumes nothing.
-use Prim.Native.Nat.{ℕ, zero, suc, _+_, _≤_, _<_}
+use Prim.Native.Nat.{ℕ, _+_, _≤_, _<_}
 use native.Mathlib.Omega.{arith}
 use mathlib.Core.Path.{_≡_, refl, sym, _∙_, ap}
 use mathlib.Core.Bool.{Bool, true, false, false≢true}
@@ -12,11 +12,11 @@ use lib.Dec.{leb}
 use borrow.Author.Tests.{leb-true, leb-false}
 use Rattle.format.specs.Records.{Record}
 use Rattle.format.specs.Verdict.{stated}
-use Rattle.format.specs.Reader.{step, stop}
+use Rattle.format.specs.Reader.{step}
 use Rattle.format.specs.declared.settings.Settings.{Settings}
 use Rattle.format.proofs.Stepped.{unframed}
-use Rattle.stream.specs.Running.{Run, going, broken, unready, past, settled, runByte, runBytes}
-use Rattle.stream.proofs.Running.{Lacks, header, bytes, lacks, stated-more, snoc-length, low-frame, waits-header, waits-bytes, ready-low, ready-full}
+use Rattle.stream.specs.Running.{going, broken, unready, past, settled, runBytes}
+use Rattle.stream.proofs.Running.{Lacks, header, bytes, lacks, stated-more, low-frame, waits-header, waits-bytes, ready-full}
 
 -- a part of an element that waits waits too
 waits-part : (v ys : List ℕ) → 0 < length ys → Lacks (v ++ ys) → unready v ≡ true

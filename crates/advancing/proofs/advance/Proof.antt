@@ -1,7 +1,5 @@
 -- `advance` meets its contract, by whether there are bytes, the pass is stopped, and they are the first.
 -- Assumes nothing.
-use native.Mathlib.Omega.{arith}
-use mathlib.Core.Path.{_≡_, refl, sym, _∙_, ap}
 use Rattle.advancing.proofs.Starting.{advance-none, advance-stopped, advance-after}
 use borrow.Author.Needs.{needs}
 use Rattle.advancing.proofs.advance.Statement.{statement}

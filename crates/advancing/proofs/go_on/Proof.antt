@@ -1,7 +1,5 @@
 -- `go_on` meets its contract: it can go on, or it is no pass.
 -- Assumes nothing.
-use native.Mathlib.Omega.{arith}
-use mathlib.Core.Path.{_≡_, refl, sym, _∙_, ap}
 use borrow.Author.Tests.{not-true, not-false}
 use Rattle.advancing.proofs.Placing.{goes-on, stands-still}
 use borrow.Author.Needs.{needs}

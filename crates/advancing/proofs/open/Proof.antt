@@ -1,7 +1,6 @@
 -- `open` meets its contract: the description breaks a rule, or the pass begins.
 -- Assumes nothing.
-use native.Mathlib.Omega.{arith}
-use mathlib.Core.Path.{_≡_, refl, sym, _∙_, ap}
+use mathlib.Core.Path.{ap}
 use Rattle.advancing.proofs.Starting.{open-bad, open-good}
 use Rattle.pass.specs.declared.State.{State}
 use borrow.Author.Needs.{needs}
@@ -19,8 +18,10 @@ returns-2 c =
     let k = c .before .before .before in
     let b = c .broken2 .ensures in
     let s = b .4 in
-    open-good _ _ _ _ _ (k .before .description .ensures) (k .description-breaks .ensures) (c .before .if1 .left) (b .0) (b .1) (b .2) (b .3)
-    (ap (λ (s : State). s .count) s) (ap (λ (s : State). s .zones) s) (ap (λ (s : State). s .last) s) (λ k h. rw s (c .before .before .first-claims .ensures k h))
+    open-good _ _ _ _ _ (k .before .description .ensures) (k .description-breaks .ensures) (c .before .if1 .left) (b .0) (b .1) (b .2)
+    (b .3)
+    (ap (λ (s : State). s .count) s) (ap (λ (s : State). s .zones) s) (ap (λ (s : State). s .last) s)
+    (λ k h. rw s (c .before .before .first-claims .ensures k h))
 
 pub open-spec : {M : Type 1} → statement M
 open-spec =

@@ -1,8 +1,7 @@
 -- `sound` meets its contract, test by test.
 -- Assumes nothing.
 use native.Mathlib.Omega.{arith}
-use mathlib.Core.Path.{_≡_, refl, sym, _∙_, ap}
-use Rattle.advancing.specs.Advancing.{Sound}
+use mathlib.Core.Path.{refl}
 use Rattle.advancing.proofs.Starting.{sound-all, unsound}
 use borrow.Author.Needs.{needs}
 use Rattle.advancing.proofs.sound.Statement.{statement}

@@ -2,7 +2,7 @@
 -- Assumes nothing.
 use Prim.Native.Nat.{_-_}
 use native.Mathlib.Omega.{arith}
-use mathlib.Core.Path.{_≡_, refl, sym, _∙_, ap, subst}
+use mathlib.Core.Path.{_≡_, refl, _∙_}
 use mathlib.Core.Logic.{inl, inr}
 use Rattle.closing.proofs.Closed.{first-kept, judged-as, plain-fixed, closed-11, closed-long, closed-fixed}
 use borrow.Author.Needs.{needs}
@@ -75,7 +75,8 @@ returns-6 c =
     record {
       plain = record { low = rw (b .4) (p .2); none-held = b .2; none-cut = b .3; within = omega (arith, b .1) };
       then =
-          closed-long _ _ _ _ _ _ _ _ _ refl (s .if1 .left) (l .before .before .before .if3 .left) (l .before .before .if4 .left) (l .before .before .before .before .if2 .left) (l .before .if5 .left) (l .if6 .taken)
+          closed-long _ _ _ _ _ _ _ _ _ refl (s .if1 .left) (l .before .before .before .if3 .left) (l .before .before .if4 .left)
+          (l .before .before .before .before .if2 .left) (l .before .if5 .left) (l .if6 .taken)
           (c .before .too-long .ensures) (b .0) (b .1);
     }
 

@@ -1,8 +1,8 @@
 -- `device` meets its contract by what is found of it.
 -- Assumes nothing.
 use native.Mathlib.Omega.{arith}
-use mathlib.Core.Path.{_≡_, refl, sym, _∙_, ap}
-use Rattle.closing.proofs.Parts.{After, device-closes}
+use mathlib.Core.Path.{sym, _∙_}
+use Rattle.closing.proofs.Parts.{device-closes}
 use borrow.Author.Needs.{needs}
 use Rattle.closing.proofs.device.Statement.{statement}
 use Rattle.closing.proofs.device.Tie as tie
@@ -16,7 +16,9 @@ returns c =
     record {
       plain = record { low = rw (b .4) (j .placed-step .ensures .low); none-held = b .2; none-cut = b .3; within = omega (arith, b .1) };
       then =
-          device-closes _ _ _ _ (j .placed-step .result) _ (record { none-held = b .2; none-cut = b .3; same = b .0; good = λ z. absurd (n z); bad = λ _. b .1 }) (a .pre .1) _ _ _ _ _ _ _ _ _ _
+          device-closes _ _ _ _ (j .placed-step .result) _
+          (record { none-held = b .2; none-cut = b .3; same = b .0; good = λ z. absurd (n z); bad = λ _. b .1 })
+          (a .pre .1) _ _ _ _ _ _ _ _ _ _
           (j .placed-step .ensures) (λ z. absurd (n z));
     }
 
@@ -30,7 +32,9 @@ returns-2 c =
     record {
       plain = record { low = rw (b .4) (j .placed-step .ensures .low); none-held = b .2; none-cut = b .3; within = omega (arith, b .1) };
       then =
-          device-closes _ _ _ _ (j .placed-step .result) _ (record { none-held = b .2; none-cut = b .3; same = b .0 ∙ sym n; good = λ _. (b .1, b .4); bad = λ z. absurd (z n) }) (a .pre .1) _ _ _ _ _ _ _ _ _ _
+          device-closes _ _ _ _ (j .placed-step .result) _
+          (record { none-held = b .2; none-cut = b .3; same = b .0 ∙ sym n; good = λ _. (b .1, b .4); bad = λ z. absurd (z n) })
+          (a .pre .1) _ _ _ _ _ _ _ _ _ _
           (j .placed-step .ensures) (λ _. m .name .ensures);
     }
 

@@ -1,7 +1,6 @@
 -- `fixed` meets its contract: it is taken, or it is what stops the pass.
 -- Assumes nothing.
 use native.Mathlib.Omega.{arith}
-use mathlib.Core.Path.{_≡_, refl, sym, _∙_, ap}
 use Rattle.closing.proofs.Pieces.{fixed-breaks, fixed-taken}
 use borrow.Author.Needs.{needs}
 use Rattle.closing.proofs.fixed.Statement.{statement}
@@ -36,7 +35,8 @@ returns-2 c =
       plain = record { low = rw (b .4) (w .ensures .low); none-held = b .2; none-cut = b .3; within = omega (arith, b .1, w .ensures .to) };
       then =
           λ d before head size small whole e k.
-          fixed-taken _ _ _ _ _ _ _ _ _ (w .ensures) d before small e k whole (l .if1 .left) _ head _ _ size (b .0) (b .1) (b .2) (b .3) (b .4) (n .name-all .ensures);
+          fixed-taken _ _ _ _ _ _ _ _ _ (w .ensures) d before small e k whole (l .if1 .left) _ head _ _ size (b .0) (b .1) (b .2) (b .3)
+          (b .4) (n .name-all .ensures);
     }
 
 pub fixed-spec : {M : Type 1} → statement M

@@ -1,8 +1,8 @@
 -- `text` meets its contract by what is held of it.
 -- Assumes nothing.
 use native.Mathlib.Omega.{arith}
-use mathlib.Core.Path.{_≡_, refl, sym, _∙_, ap}
-use Rattle.closing.proofs.Parts.{After, text-closes}
+use mathlib.Core.Path.{sym, _∙_}
+use Rattle.closing.proofs.Parts.{text-closes}
 use borrow.Author.Needs.{needs}
 use Rattle.closing.proofs.text.Statement.{statement}
 use Rattle.closing.proofs.text.Tie as tie
@@ -16,7 +16,8 @@ returns c =
     record {
       plain = record { low = rw (b .4) (j .text-judged .ensures .low); none-held = b .2; none-cut = b .3; within = omega (arith, b .1) };
       then =
-          text-closes _ _ _ _ (j .text-judged .result) _ (record { none-held = b .2; none-cut = b .3; same = b .0; good = λ z. absurd (n z); bad = λ _. b .1 }) (a .pre .1) _ _ _ _
+          text-closes _ _ _ _ (j .text-judged .result) _
+          (record { none-held = b .2; none-cut = b .3; same = b .0; good = λ z. absurd (n z); bad = λ _. b .1 }) (a .pre .1) _ _ _ _
           (j .before .before .before .text .ensures) (j .before .before .number .ensures) (j .text-judged .ensures);
     }
 
@@ -29,7 +30,9 @@ returns-2 c =
     record {
       plain = record { low = rw (b .4) (j .text-judged .ensures .low); none-held = b .2; none-cut = b .3; within = omega (arith, b .1) };
       then =
-          text-closes _ _ _ _ (j .text-judged .result) _ (record { none-held = b .2; none-cut = b .3; same = b .0 ∙ sym n; good = λ _. (b .1, b .4); bad = λ z. absurd (z n) }) (a .pre .1) _ _ _ _
+          text-closes _ _ _ _ (j .text-judged .result) _
+          (record { none-held = b .2; none-cut = b .3; same = b .0 ∙ sym n; good = λ _. (b .1, b .4); bad = λ z. absurd (z n) })
+          (a .pre .1) _ _ _ _
           (j .before .before .before .text .ensures) (j .before .before .number .ensures) (j .text-judged .ensures);
     }
 

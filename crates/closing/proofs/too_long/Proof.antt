@@ -5,7 +5,6 @@ use mathlib.Core.Path.{_≡_, refl, sym, _∙_, ap}
 use mathlib.Core.Bool.{true, false, false≢true}
 use Rattle.format.specs.Verdict.{known}
 use Rattle.pass.proofs.Taking.{not-known}
-use borrow.Author.Needs.{needs}
 use Rattle.closing.proofs.too_long.Statement.{statement}
 use Rattle.closing.proofs.too_long.Tie as tie
 

@@ -1,7 +1,6 @@
 -- `waits` meets its contract: the header is not there, or the length that it gives is looked at.
 -- Assumes nothing.
-use native.Mathlib.Omega.{arith}
-use mathlib.Core.Path.{_≡_, refl, sym, _∙_, ap}
+use mathlib.Core.Path.{refl, sym}
 use denote.Ref.{now}
 use Rattle.stream.proofs.Running.{waits-header}
 use Rattle.closing.proofs.Pieces.{waits-is}
@@ -13,7 +12,8 @@ returns : tie.Need-returns
 returns c = sym (waits-header (now (c .before .before .args .p)) (c .if1 .taken))
 
 returns-2 : tie.Need-returns-2
-returns-2 c = waits-is (now (c .before .before .before .before .before .before .args .p)) (rw (c .before .before .wide .ensures .0, c .wide2 .ensures .0) refl) (c .before .before .before .before .if1 .left)
+returns-2 c = waits-is (now (c .before .before .before .before .before .before .args .p))
+    (rw (c .before .before .wide .ensures .0, c .wide2 .ensures .0) refl) (c .before .before .before .before .if1 .left)
 
 pub waits-spec : {M : Type 1} → statement M
 waits-spec =

@@ -1,7 +1,7 @@
 -- `whole` meets its contract: what the walk took is named, and the pass goes on after it or is stopped.
 -- Assumes nothing.
 use native.Mathlib.Omega.{arith}
-use mathlib.Core.Path.{_≡_, refl, sym, _∙_, ap}
+use mathlib.Core.Path.{refl, sym, _∙_}
 use Rattle.closing.proofs.Pieces.{other-stop, these-stops, whole-goes, whole-breaks}
 use borrow.Author.Needs.{needs}
 use Rattle.closing.proofs.whole.Statement.{statement}
@@ -37,7 +37,8 @@ returns-2 c =
       plain = record { low = rw (b .4) (w .ensures .low); none-held = b .2; none-cut = b .3; within = omega (arith, b .1, w .ensures .to) };
       within = omega (arith, w .ensures .from, w .ensures .to);
       here = λ _. omega (arith, b .1, w .ensures .from);
-      goes = λ _ d before small e k. whole-goes _ _ _ _ _ _ _ _ _ (w .ensures) d before small e k _ _ _ n refl (b .1) (b .4) (c .before .name-all .ensures);
+      goes = λ _ d before small e k. whole-goes _ _ _ _ _ _ _ _ _ (w .ensures) d before small e k _ _ _ n refl (b .1) (b .4)
+          (c .before .name-all .ensures);
       breaks = λ z. absurd (z (b .0));
     }
 

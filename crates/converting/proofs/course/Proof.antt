@@ -1,7 +1,6 @@
 -- `course` meets its contract: the points that the count comes after lead to its interval.
 -- Assumes nothing.
-use mathlib.Core.Path.{_≡_, refl, sym, _∙_, ap}
-use mathlib.Core.Bool.{false}
+use mathlib.Core.Path.{refl, sym, _∙_, ap}
 use borrow.Author.Needs.{needs}
 use Rattle.converting.specs.Outcomes.{tenths}
 use Rattle.converting.specs.Conversions.{points}

@@ -1,11 +1,11 @@
 -- `step` meets its contract: a count no farther than the second point gives at most 250 tenths, so the sum fits.
 -- Assumes nothing.
-use Prim.Native.Nat.{ℕ, _+_, _*_, _/_, _<_, _≤_}
+use Prim.Native.Nat.{_+_, _*_}
 use native.Mathlib.Omega.{arith}
-use native.Mathlib.Nat.{div-le-self, div-lt-iff-lt-mul}
+use native.Mathlib.Nat.{div-le-self}
 use borrow.Author.Needs.{needs}
 use Rattle.converting.specs.Formula.{step}
-use Rattle.converting.proofs.Rounding.{divided, down-up, up-most}
+use Rattle.converting.proofs.Rounding.{up-most}
 use Rattle.converting.proofs.step.Statement.{statement}
 use Rattle.converting.proofs.step.Tie as tie
 
@@ -25,4 +25,5 @@ returns c = (
 pub step-spec : {M : Type 1} → statement M
 step-spec =
     tie.close
-    (tie.spec (λ c κs. search needs) (λ c κs. search needs) (search needs) (search needs) (search needs) (search needs) (search needs) add-t12 cast-t13 returns)
+    (tie.spec (λ c κs. search needs) (λ c κs. search needs) (search needs) (search needs) (search needs) (search needs)
+    (search needs) add-t12 cast-t13 returns)

@@ -21,7 +21,8 @@ sub-from : tie.Need-sub-from Inv-loop μ-loop
 sub-from c = more-room (c .before .loop .inv) (c .loop-test .taken)
 
 array-write-bytes-2 : tie.Need-array-write-bytes-2 Inv-loop μ-loop
-array-write-bytes-2 c = let s = c .before .before .loop .inv in omega (arith, s .within, s .twenty, more-room s (c .before .loop-test .taken))
+array-write-bytes-2 c = let s = c .before .before .loop .inv in omega
+    (arith, s .within, s .twenty, more-room s (c .before .loop-test .taken))
 
 loop-less : tie.Need-loop-less Inv-loop μ-loop
 loop-less c = omega arith

@@ -1,7 +1,6 @@
 -- `alone` meets its contract: 14, 15 or no element.
 -- Assumes nothing.
 use Rattle.ending.proofs.Over.{alone-14, alone-15, alone-0}
-use borrow.Author.Needs.{needs}
 use Rattle.ending.proofs.alone.Statement.{statement}
 use Rattle.ending.proofs.alone.Tie as tie
 

@@ -13,7 +13,8 @@ returns c = over-13 _ _ _ _ _ _ _ (c .before .lacking .ensures) (c .if1 .taken) 
 returns-2 : tie.Need-returns-2
 returns-2 c =
     let z = c .before .before .before in
-    over-14-description _ _ _ _ _ _ _ (z .before .lacking .ensures) (z .if1 .left) _ (c .before .wide .ensures) (not-true _ (c .if2 .taken)) refl
+    over-14-description _ _ _ _ _ _ _ (z .before .lacking .ensures) (z .if1 .left) _ (c .before .wide .ensures)
+    (not-true _ (c .if2 .taken)) refl
 
 returns-3 : tie.Need-returns-3
 returns-3 c =

@@ -17,7 +17,8 @@ returns-3 c =
     let v = c .before in
     let u = v .before .before in
     let k = u .before .before in
-    verdict-3 _ _ _ _ _ _ (k .before .before .if1 .left) (k .if2 .left) _ _ (u .wide .ensures .0) (v .wide2 .ensures .0) (c .if3 .taken) refl
+    verdict-3 _ _ _ _ _ _ (k .before .before .if1 .left) (k .if2 .left) _ _ (u .wide .ensures .0) (v .wide2 .ensures .0)
+    (c .if3 .taken) refl
 
 returns-4 : tie.Need-returns-4
 returns-4 c =

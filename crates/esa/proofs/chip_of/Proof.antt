@@ -1,7 +1,6 @@
 -- `chip_of` meets its contract: the branch taken tells the test.
 -- Assumes nothing.
 use borrow.Author.Tests.{eq-eqb, ne-eqb}
-use borrow.Author.Needs.{needs}
 use Rattle.esa.proofs.chip_of.Statement.{statement}
 use Rattle.esa.proofs.chip_of.Tie as tie
 

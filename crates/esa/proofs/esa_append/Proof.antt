@@ -21,4 +21,5 @@ returns-2 c =
     (unknown-for _ _ _ _ _ _ (c .before .before .element .ensures) (c .enum-told .given .1))
 
 pub esa-append-spec : {M : Type 1} → statement M
-esa-append-spec = tie.close (tie.spec (λ c κs. search needs) (λ c κs. search needs) (search needs) (λ c κs. search needs) written-requires (search needs) (search needs) returns returns-2)
+esa-append-spec = tie.close (tie.spec (λ c κs. search needs) (λ c κs. search needs) (search needs) (λ c κs. search needs) written-requires
+    (search needs) (search needs) returns returns-2)

@@ -13,12 +13,15 @@ pack-requires c κs = omega (arith, described-bound _ _ _ _ (c .before .before .
 returns : tie.Need-returns
 returns c =
     rw (← (c .before .before .before .before .before .settings-of .ensures))
-    (described-for _ _ _ _ (c .before .before .before .before .description .ensures) (c .before .before .d .given .1) _ _ _ refl (c .description2 .ensures))
+    (described-for _ _ _ _ (c .before .before .before .before .description .ensures) (c .before .before .d .given .1) _ _ _ refl
+    (c .description2 .ensures))
 
 returns-2 : tie.Need-returns-2
 returns-2 c =
     rw (← (c .before .before .before .before .before .settings-of .ensures))
-    (described-for _ _ _ _ (c .before .before .before .before .description .ensures) (c .before .before .k .given .1) _ _ _ (c .pack .ensures) refl)
+    (described-for _ _ _ _ (c .before .before .before .before .description .ensures) (c .before .before .k .given .1) _ _ _
+    (c .pack .ensures) refl)
 
 pub esa-describe-spec : {M : Type 1} → statement M
-esa-describe-spec = tie.close (tie.spec (λ c κs. search needs) (λ c κs. search needs) (search needs) (λ c κs. search needs) (search needs) pack-requires returns returns-2)
+esa-describe-spec = tie.close (tie.spec (λ c κs. search needs) (λ c κs. search needs) (search needs) (λ c κs. search needs)
+    (search needs) pack-requires returns returns-2)

@@ -16,7 +16,10 @@ returns c =
     let g = s .before .before .before .before .element .ensures in
     let e = s .before .before .e .given .1 in
     rw (← (c .before .before .before .before .before .before .before .before .before .settings-of .ensures))
-    (fields-for _ _ _ _ _ g e _ _ _ _ (gives-beside _ _ _ _ _ g e _ (λ i. omega (arith, s .before .before .before .before .before .before .shared-slice-known .given i)) (s .part .ensures)) (rw (c .pack .ensures, c .before .wide .ensures .0, c .before .before .id-of .ensures) refl) (c .before .before .before .element2 .ensures))
+    (fields-for _ _ _ _ _ g e _ _ _ _ (gives-beside _ _ _ _ _ g e _
+    (λ i. omega (arith, s .before .before .before .before .before .before .shared-slice-known .given i)) (s .part .ensures))
+    (rw (c .pack .ensures, c .before .wide .ensures .0, c .before .before .id-of .ensures) refl)
+    (c .before .before .before .element2 .ensures))
 
 returns-2 : tie.Need-returns-2
 returns-2 c =
@@ -26,4 +29,6 @@ returns-2 c =
     (fields-for _ _ _ _ _ g e _ _ _ _ (gives-as _ _ _ _ _ g e .gives) (c .pack2 .ensures) refl)
 
 pub esa-fields-spec : {M : Type 1} → statement M
-esa-fields-spec = tie.close (tie.spec (λ c κs. search needs) (λ c κs. search needs) (search needs) (λ c κs. search needs) (λ c κs. search needs) (λ c κs. search needs) (λ c κs. search needs) (λ c κs. search needs) (search needs) pack-requires-2 returns returns-2)
+esa-fields-spec = tie.close (tie.spec (λ c κs. search needs) (λ c κs. search needs) (search needs) (λ c κs. search needs)
+    (λ c κs. search needs) (λ c κs. search needs) (λ c κs. search needs) (λ c κs. search needs)
+    (search needs) pack-requires-2 returns returns-2)

@@ -25,4 +25,5 @@ returns-2 c =
     (placed-for _ _ _ _ _ (c .before .before .before .before .part-place .ensures) (c .before .before .j .given .1) _ (c .pack .ensures))
 
 pub esa-part-spec : {M : Type 1} → statement M
-esa-part-spec = tie.close (tie.spec (λ c κs. search needs) (λ c κs. search needs) (search needs) span-requires (search needs) pack-requires returns returns-2)
+esa-part-spec = tie.close (tie.spec (λ c κs. search needs) (λ c κs. search needs) (search needs) span-requires
+    (search needs) pack-requires returns returns-2)

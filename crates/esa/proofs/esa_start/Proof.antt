@@ -15,4 +15,5 @@ returns c =
     (started-for _ _ _ _ _ _ _ (s .before .description .ensures) (s .start .ensures) (c .written .ensures))
 
 pub esa-start-spec : {M : Type 1} → statement M
-esa-start-spec = tie.close (tie.spec (λ c κs. search needs) (λ c κs. search needs) (λ c κs. search needs) written-requires (search needs) returns)
+esa-start-spec = tie.close (tie.spec (λ c κs. search needs) (λ c κs. search needs) (λ c κs. search needs) written-requires
+    (search needs) returns)

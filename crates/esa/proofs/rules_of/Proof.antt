@@ -1,7 +1,6 @@
 -- `rules_of` meets its contract: the branch taken tells the test.
 -- Assumes nothing.
 use borrow.Author.Tests.{eq-eqb, ne-eqb}
-use borrow.Author.Needs.{needs}
 use Rattle.esa.proofs.rules_of.Statement.{statement}
 use Rattle.esa.proofs.rules_of.Tie as tie
 

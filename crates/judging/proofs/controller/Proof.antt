@@ -1,6 +1,5 @@
 -- `controller` meets its contract: fixed bytes and part are judged apart, and joined.
 -- Assumes nothing.
-use mathlib.Core.Path.{_≡_, refl, sym, _∙_}
 use Rattle.judging.proofs.Fixed.{controller-is}
 use borrow.Author.Needs.{needs}
 use Rattle.judging.proofs.controller.Statement.{statement}
@@ -10,4 +9,5 @@ returns : tie.Need-returns
 returns c = controller-is _ _ _ _ _ (c .device-found .ensures) (c .before .speed-part .ensures)
 
 pub controller-spec : {M : Type 1} → statement M
-controller-spec = tie.close (tie.spec (λ c. search needs) (λ c. search needs) (λ c. search needs) (λ c κs. search needs) (λ c κs. search needs) returns)
+controller-spec = tie.close (tie.spec (λ c. search needs) (λ c. search needs) (λ c. search needs) (λ c κs. search needs)
+    (λ c κs. search needs) returns)

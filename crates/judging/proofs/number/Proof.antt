@@ -1,10 +1,10 @@
 -- `number` meets its contract: past the end a byte is 0.
 -- Assumes nothing.
-use Prim.Native.Nat.{ℕ, _≤_}
+use Prim.Native.Nat.{ℕ}
 use native.Mathlib.Omega.{arith}
-use mathlib.Core.Path.{_≡_, refl, sym, _∙_, ap}
-use mathlib.Core.List.{List, []}
-use lib.ListN.{length, drop, drop-of-length-le}
+use mathlib.Core.Path.{sym, _∙_, ap}
+use mathlib.Core.List.{List}
+use lib.ListN.{drop-of-length-le}
 use lib.Seq.{getD-drop}
 use Rattle.format.specs.Slots.{byte}
 use borrow.Author.Needs.{needs}

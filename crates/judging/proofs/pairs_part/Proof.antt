@@ -1,6 +1,6 @@
 -- `pairs_part` meets its contract by the law of the cut where it ends.
 -- Assumes nothing.
-use mathlib.Core.Path.{_≡_, refl, sym, _∙_}
+use mathlib.Core.Path.{refl}
 use Rattle.judging.proofs.Ended.{pairs-ended}
 use borrow.Author.Needs.{needs}
 use Rattle.judging.proofs.pairs_part.Statement.{statement}

@@ -1,9 +1,7 @@
 -- `text` meets its contract, by whether there is room for the number.
 -- Assumes nothing.
-use mathlib.Core.Path.{_≡_, refl, sym, _∙_}
-use Prim.Native.Nat.{_<_, _≤_}
+use mathlib.Core.Path.{sym, _∙_}
 use native.Mathlib.Omega.{arith}
-use denote.Ref.{now}
 use lib.ListN.{drop, length-drop}
 use lib.Seq.{getD-drop}
 use Rattle.rules.proofs.Contents.{text-short}

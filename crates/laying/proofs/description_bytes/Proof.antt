@@ -28,4 +28,5 @@ returns c =
     )
 
 pub description-bytes-spec : {M : Type 1} → statement M
-description-bytes-spec = tie.close (tie.spec flag-byte-requires (λ c. search needs) (λ c. search needs) cast-t12 (λ c κs. search needs) (λ c κs. search needs) (λ c κs. search needs) returns)
+description-bytes-spec = tie.close (tie.spec flag-byte-requires (λ c. search needs) (λ c. search needs) cast-t12 (λ c κs. search needs)
+    (λ c κs. search needs) (λ c κs. search needs) returns)

@@ -1,14 +1,8 @@
 -- `length_at` meets its contract: what two bytes say, or 3.
 -- Assumes nothing.
 use native.Mathlib.Omega.{arith}
-use mathlib.Core.Path.{_≡_, refl, sym, _∙_, ap}
-use Prim.Native.Nat.{ℕ, _+_, _*_}
-use mathlib.Core.List.{List}
-use lib.ListN.{drop}
-use lib.Seq.{getD-drop}
+use mathlib.Core.Path.{_∙_}
 use denote.Ref.{now}
-use Rattle.format.specs.Slots.{byte}
-use Rattle.format.specs.Verdict.{stated}
 use Rattle.pass.proofs.Moving.{stated-at}
 use borrow.Author.Needs.{needs}
 use Rattle.naming.proofs.length_at.Statement.{statement}
@@ -19,7 +13,8 @@ returns c =
     let w = c .before in
     let b = w .before .before .before in
     let a = b .before .before .args in
-    let e = stated-at (now (a .p)) (a .i) (w .before .before .wide .ensures .0 ∙ b .byte-at .ensures) (w .wide2 .ensures .0 ∙ w .before .byte-at2 .ensures) in
+    let e = stated-at (now (a .p)) (a .i) (w .before .before .wide .ensures .0 ∙ b .byte-at .ensures)
+    (w .wide2 .ensures .0 ∙ w .before .byte-at2 .ensures) in
     record { least = omega arith; most = omega arith; told = λ h. absurd (omega (arith, h, e, c .if1 .taken)) }
 
 returns-2 : tie.Need-returns-2
@@ -27,7 +22,8 @@ returns-2 c =
     let w = c .before in
     let b = w .before .before .before in
     let a = b .before .before .args in
-    let e = stated-at (now (a .p)) (a .i) (w .before .before .wide .ensures .0 ∙ b .byte-at .ensures) (w .wide2 .ensures .0 ∙ w .before .byte-at2 .ensures) in
+    let e = stated-at (now (a .p)) (a .i) (w .before .before .wide .ensures .0 ∙ b .byte-at .ensures)
+    (w .wide2 .ensures .0 ∙ w .before .byte-at2 .ensures) in
     record { least = c .if1 .left; most = omega (arith, w .wide2 .ensures .1, w .before .before .wide .ensures .1); told = λ _. e }
 
 pub length-at-spec : {M : Type 1} → statement M

@@ -1,7 +1,7 @@
 -- `name` meets its contract, by the identifier.
 -- Assumes nothing.
 use native.Mathlib.Omega.{arith}
-use mathlib.Core.Path.{_≡_, refl, sym, _∙_, ap}
+use mathlib.Core.Path.{refl}
 use borrow.Author.Needs.{needs}
 use Rattle.naming.proofs.name.Statement.{statement}
 use Rattle.naming.proofs.name.Tie as tie

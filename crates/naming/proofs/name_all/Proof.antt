@@ -1,8 +1,8 @@
 -- `name_all` meets its contract: some elements are noted, and the others are ahead.
 -- Assumes nothing.
 use native.Mathlib.Omega.{arith}
-use mathlib.Core.Path.{_≡_, refl, sym, _∙_, ap}
-use Prim.Native.Nat.{ℕ, _+_, _-_, _≤_}
+use mathlib.Core.Path.{_≡_}
+use Prim.Native.Nat.{_+_, _-_, _≤_}
 use mathlib.Core.List.{List}
 use lib.ListN.{length, drop}
 use Rattle.format.specs.Slots.{Bytes}
@@ -13,7 +13,6 @@ use Rattle.format.specs.declared.settings.Settings.{Settings}
 use Rattle.pass.specs.Tracks.{Took}
 use Rattle.firsts.specs.Firsts.{Firsts}
 use Rattle.naming.proofs.Named.{Sofar, sofar-none, sofar-next, sofar-all}
-use borrow.Author.Needs.{needs}
 use Rattle.naming.proofs.name_all.Statement.{statement}
 use Rattle.naming.proofs.name_all.Tie as tie
 
@@ -55,7 +54,10 @@ loop-again c =
 
 returns : tie.Need-returns Inv-loop μ-loop
 returns c =
-    record { all = λ σ before gone small t e k f g. sofar-all _ _ _ _ _ _ _ _ (c .loop-test .left) (c .before .loop .inv .1 σ before gone small t e k f g) }
+    record {
+      all = λ σ before gone small t e k f g. sofar-all _ _ _ _ _ _ _ _ (c .loop-test .left)
+          (c .before .loop .inv .1 σ before gone small t e k f g);
+    }
 
 pub name-all-spec : {M : Type 1} → statement M
 name-all-spec =

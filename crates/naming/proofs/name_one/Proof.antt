@@ -1,12 +1,7 @@
 -- `name_one` meets its contract: the element is not all there, or it is named.
 -- Assumes nothing.
 use native.Mathlib.Omega.{arith}
-use mathlib.Core.Path.{_≡_, refl, sym, _∙_, ap}
 use Rattle.pass.proofs.Moving.{content-at}
-use Rattle.naming.specs.Naming.{Names}
-use mathlib.Core.List.{List}
-use Prim.Native.Nat.{ℕ}
-use denote.Ref.{now}
 use borrow.Author.Needs.{needs}
 use Rattle.naming.proofs.name_one.Statement.{statement}
 use Rattle.naming.proofs.name_one.Tie as tie

@@ -58,10 +58,12 @@ returns-3 c =
 -- what is known of the element at a place, once no test has stopped the loop
 pub record Known (e : tie.Else3 Inv-loop μ-loop) : Type 0 where
   pub low : 3 ≤ e .before .before .before .before .length-at .result
-  pub inside : e .before .before .before .before .before .before .loop .at + e .before .before .before .before .length-at .result ≤ length (now (e .before .before .before .before .before .before .before .before .before .args .t))
+  pub inside : e .before .before .before .before .before .before .loop .at + e .before .before .before .before .length-at .result ≤ length
+      (now (e .before .before .before .before .before .before .before .before .before .args .t))
   pub top : length (now (e .before .before .before .before .before .before .before .before .before .args .t)) ≤ 4096
   pub behind : e .before .before .before .before .before .before .loop .end ≤ e .before .before .before .before .before .before .loop .at
-  pub lines : 3 * e .before .before .before .before .before .before .loop .n .lines + 16 ≤ e .before .before .before .before .before .before .loop .at
+  pub lines : 3 * e .before .before .before .before .before .before .loop .n .lines + 16 ≤
+      e .before .before .before .before .before .before .loop .at
 
 known : (e : tie.Else3 Inv-loop μ-loop) → Known e
 known e =
@@ -82,7 +84,8 @@ walk-requires c κs =
     let e = c .before .before .before .before .before in
     let l = e .before .before .before .before .before .before in
     let n =
-    length-slice (l .loop .at) (l .loop .at + e .before .before .before .before .length-at .result) (now (l .before .before .before .args .t))
+    length-slice (l .loop .at) (l .loop .at + e .before .before .before .before .length-at .result)
+    (now (l .before .before .before .args .t))
     (known e .inside) in
     (omega (arith, known e, n), low _ _ _ _ _ _ _ _ _ (l .loop .inv .1))
 
@@ -110,7 +113,8 @@ loop-again c =
     let s = l .before .before .before in (
       omega (arith, known e),
       turned _ _ _ _ _ _ _ _ _ (i .1) (s .pre .2) _ (e .before .before .before .before .length-at .ensures) (known e .low)
-          (omega (arith, known e)) (i .0) (omega (arith, e .if3 .left)) (w .walk .result) _ (w .walk .ensures) _ (c .before .before .before .fate-of .ensures)
+          (omega (arith, known e)) (i .0) (omega (arith, e .if3 .left)) (w .walk .result) _ (w .walk .ensures) _
+          (c .before .before .before .fate-of .ensures)
           _ _ _ (c .before .before .settle .ensures) _ (c .before .grown .ensures),
     )
 

@@ -23,7 +23,14 @@ returns c =
           (p3 .put-digit2 .ensures .0))
           (p4 .put-digit3 .ensures .0))
           (rw (d .digit .ensures) at (p5 .put .ensures)),
-      omega (arith, p1 .put-upper .ensures .1, p2 .put-digit .ensures .1, p3 .put-digit2 .ensures .1, p4 .put-digit3 .ensures .1, p5 .put .ensures .ends),
+      omega (
+        arith,
+        p1 .put-upper .ensures .1,
+        p2 .put-digit .ensures .1,
+        p3 .put-digit2 .ensures .1,
+        p4 .put-digit3 .ensures .1,
+        p5 .put .ensures .ends,
+      ),
     )
 
 pub put-decimal-spec : {M : Type 1} → statement M

@@ -12,7 +12,8 @@ returns c =
     let p3 = c .before .before in
     let p2 = p3 .before .before .before .before in
     let p1 = p2 .before .before .before .before in (
-      rw (first-of-three _ _ _ (ne-eqb _ _ (p1 .before .before .if1 .taken))) (then (then (p1 .put-pin-or-dash .ensures .0) (p2 .put-next .ensures .0)) (p3 .put-next2 .ensures .0)),
+      rw (first-of-three _ _ _ (ne-eqb _ _ (p1 .before .before .if1 .taken)))
+          (then (then (p1 .put-pin-or-dash .ensures .0) (p2 .put-next .ensures .0)) (p3 .put-next2 .ensures .0)),
       omega (arith, p1 .put-pin-or-dash .ensures .1, p2 .put-next .ensures .1, p3 .put-next2 .ensures .1),
     )
 
@@ -21,7 +22,8 @@ returns-2 c =
     let p2 = c .before .before in
     let p1 = p2 .before .before .before .before in
     let two = p1 .before .before in (
-      rw (first-of-two _ _ _ (eq-eqb _ _ (two .before .if1 .left)) (ne-eqb _ _ (two .if2 .taken))) (then (p1 .put-pin-or-dash2 .ensures .0) (p2 .put-next3 .ensures .0)),
+      rw (first-of-two _ _ _ (eq-eqb _ _ (two .before .if1 .left)) (ne-eqb _ _ (two .if2 .taken)))
+          (then (p1 .put-pin-or-dash2 .ensures .0) (p2 .put-next3 .ensures .0)),
       omega (arith, p1 .put-pin-or-dash2 .ensures .1, p2 .put-next3 .ensures .1),
     )
 

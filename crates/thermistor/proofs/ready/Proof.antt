@@ -7,7 +7,6 @@ use mathlib.Core.Bool.{Bool, true, false, _&&_, false≢true}
 use mathlib.Core.List.{List}
 use lib.Dec.{leb, eqb}
 use lib.ListN.{length, getD}
-use borrow.Author.Needs.{needs}
 use borrow.Author.Tests.{eqb-true}
 use Rattle.converting.specs.Outcomes.{tenths}
 use Rattle.converting.specs.Formula.{step, temperatureOf, meant}

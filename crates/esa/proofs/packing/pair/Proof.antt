@@ -8,4 +8,5 @@ returns : tie.Need-returns
 returns c = rw (c .before .before .before .before .p .given .1) (c .pack .ensures)
 
 pub pair-spec : {M : Type 1} → statement M
-pair-spec = tie.close (tie.spec (search needs) (search needs) (search needs) (search needs) (search needs) (λ c κs. search needs) (search needs) returns (λ c. search needs))
+pair-spec = tie.close (tie.spec (search needs) (search needs) (search needs) (search needs) (search needs) (λ c κs. search needs)
+    (search needs) returns (λ c. search needs))

@@ -36,4 +36,5 @@ returns c =
     )
 
 pub led-spec : {M : Type 1} → statement M
-led-spec = tie.close (tie.spec (λ c κs. search needs) colour-byte-requires (λ c κs. search needs) colour-byte-requires-2 (λ c κs. search needs) colour-byte-requires-3 returns)
+led-spec = tie.close (tie.spec (λ c κs. search needs) colour-byte-requires (λ c κs. search needs) colour-byte-requires-2
+    (λ c κs. search needs) colour-byte-requires-3 returns)
