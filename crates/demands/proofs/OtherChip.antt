@@ -11,10 +11,9 @@ use Rattle.format.specs.Slots.{Bytes}
 use Rattle.format.specs.Records.{Record, elementOf}
 use Rattle.format.specs.Known.{tableA}
 use Rattle.format.specs.Decode.{pinOf, placementOf, fanOf}
-use Rattle.format.specs.Rules.{typed, powered, strapped, descriptionRules, shaped, coded, inUse, pinned, ownRules, ofItsKind}
-use Rattle.format.specs.Rules.{descriptionKind, descriptionRoomy, elementRoomy}
+use Rattle.format.specs.Rules.{typed, powered, strapped, shaped, coded, inUse, pinned, ownRules, ofItsKind, descriptionKind, descriptionRoomy, elementRoomy}
 use Rattle.format.specs.Verdict.{stated}
-use Rattle.format.specs.Writing.{lengthStands, startAnswer, partBreaks, appendAnswer}
+use Rattle.format.specs.Writing.{writing, lengthStands, startAnswer, partBreaks, appendAnswer}
 use Rattle.format.specs.declared.settings.Rules.the-variants.{Ordinary}
 use Rattle.format.specs.declared.pins.Chip.{Chip}
 use Rattle.format.specs.declared.pins.Chip.the-variants.{C8051F320, C8051F321}
@@ -25,6 +24,7 @@ use Rattle.format.specs.declared.records.Element.{Element}
 use Rattle.format.specs.declared.records.Element.the-variants.{Fan}
 use Rattle.format.specs.declared.answers.Written.the-variants.{Refused}
 use Rattle.format.proofs.Kept.{three-standing, kept-kind}
+use Rattle.format.proofs.Broken.{misstrapped, mispinned}
 use Rattle.demands.specs.Made.{MadeOf}
 use Rattle.demands.proofs.Refusals.{part-faults}
 
@@ -42,11 +42,10 @@ module _ (chip : Chip) where
       → powered d ≡ true
       → descriptionKind chip d ≡ false
       → startAnswer chip b d ≡ Refused 10 0
-  unfolding startAnswer descriptionRules
+  unfolding startAnswer
   start-other-chip b d room roomy type power other =
-      let p = not-both (strapped chip d) (descriptionKind chip d)
-      (λ k. three-standing chip HardwareRevision (d .revision0) (d .revision1) (d .revision2) k) other in
-      rw (room, roomy, type, power, p) refl
+      let p = not-both (strapped chip d) (descriptionKind chip d) (λ k. three-standing chip HardwareRevision (d .revision0) (d .revision1) (d .revision2) k) other in
+      rw (room, roomy, misstrapped chip d type power p) refl
 
   pub append-other-chip :
       (b : List ℕ) (e : Element) (p : List ℕ) (r : Record)
@@ -60,10 +59,10 @@ module _ (chip : Chip) where
       → inUse Ordinary (elementOf r) ≡ true
       → ofItsKind chip r ≡ false
       → appendAnswer chip b e p ≡ Refused 10 (stated b)
-  unfolding appendAnswer ownRules
+  unfolding appendAnswer
   append-other-chip b e p r f m room so-far roomy shape code used other =
       let q = not-both (pinned chip r) (ofItsKind chip r) (λ k. kept-kind chip r code k) other in
-      rw (room, so-far, roomy, part-faults chip e p r f m, shape, code, used, q) refl
+      rw (room, so-far, roomy, part-faults chip e p r f m, mispinned (writing chip) r shape code used q) refl
 
 -- 'F' with its PWM pin P0.5 of another chip than the named one, behind table A: 10 at 16
 abbrev room30 : List ℕ
