@@ -31,7 +31,7 @@ use Rattle.ending.proofs.Answering.{placed-of}
 use Rattle.receiving.specs.Receiving.{LeadIs, ReadyIs, ReceiveIs}
 
 -- a pass that the description stopped stays so
-opened-bytes : (σ : Settings) (o : Option ℕ) (s : Run) (q : List ℕ) → runBytes σ (opened o s) q ≡ opened o (runBytes σ s q)
+pub opened-bytes : (σ : Settings) (o : Option ℕ) (s : Run) (q : List ℕ) → runBytes σ (opened o s) q ≡ opened o (runBytes σ s q)
 opened-bytes σ none s q = refl
 opened-bytes σ (some k) s q = stays-broken σ [] 0 k 0 q
 

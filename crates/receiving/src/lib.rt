@@ -59,12 +59,17 @@ fn receive(
     sp: &mut [u16; 256],
     q: &[u8],
 )
-    requires { ⌜ number (now n) 2 + length (now q) ≤ 4097 ⌝ }
+    requires { ⌜ (number (now n) 0 ≡ 0) × (number (now n) 2 + length (now q) ≤ 4097) ⌝ }
     ensures { λ _. ⌜ ReceiveIs (lent (now (n .entry)) (now (first .entry)) (now (head .entry)) (flags (now (zs .entry)) (now (ss .entry)) (now (zu .entry)) (now (su .entry))) (now (zp .entry)) (now (sp .entry))) (now (q .entry)) (lent (now (n .exit)) (now (first .exit)) (now (head .exit)) (flags (now (zs .exit)) (now (ss .exit)) (now (zu .exit)) (now (su .exit))) (now (zp .exit)) (now (sp .exit))) ⌝ }
 {
     let count = n[2];
     let code = n[1];
     let total = count + q.len();
+    // A pass that is stopped stays so, and the bytes are only counted.
+    if (16 < count) & (n[3] != 0) {
+        n[2] = total;
+        return;
+    }
     if total < 16 {
         underway::keep(first, count, q);
         let way = states::way_of(n);
@@ -120,6 +125,13 @@ pub fn piece(
         return 0;
     }
     if p.len() == 0 {
+        return 0;
+    }
+    if (p.len() == 1) & (16 < count) {
+        if single::byte(n, head, p[0]) {
+            return 0;
+        }
+        receive(n, first, head, zs, ss, zu, su, zp, sp, &p[0..1]);
         return 0;
     }
     let end = shorter(p.len(), 4097 - count);

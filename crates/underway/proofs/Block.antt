@@ -95,12 +95,12 @@ within-last lead most at number total full v p l w t f =
         zero-one q = let z : _≡_ {A = ℕ} 0 1 = cc in omega arith
 
 -- before any ENTRIES byte
-first-cut : (lead most : ℕ) (v : List ℕ) → lead ≤ 1 → length v ≤ 12 → CutIs lead most lead 0 true v
+pub first-cut : (lead most : ℕ) (v : List ℕ) → lead ≤ 1 → length v ≤ 12 → CutIs lead most lead 0 true v
 first-cut lead most v l h =
     let z : most - 0 ≡ most = omega arith in
     record { ahead = λ q. rw z refl; few = omega arith; waits = λ _. omega arith }
 
-full-mark : (b : Bool) → eqb (markOf b false) 0 ≡ b
+pub full-mark : (b : Bool) → eqb (markOf b false) 0 ≡ b
 full-mark true = refl
 full-mark false = refl
 

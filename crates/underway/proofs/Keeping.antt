@@ -13,7 +13,7 @@ use Rattle.format.specs.Slots.{byte}
 use Rattle.underway.specs.Under.{Holds}
 
 -- one byte more of the first 30
-put-one : (head v : List ℕ) (x : ℕ) {i : ℕ} → Holds head v → i ≡ length v → i < 30 → Holds (set head i x) (v ++ x ∷ [])
+pub put-one : (head v : List ℕ) (x : ℕ) {i : ℕ} → Holds head v → i ≡ length v → i < 30 → Holds (set head i x) (v ++ x ∷ [])
 put-one head v x {i} h e l =
     record {
       size = length-set head i x ∙ h .size;

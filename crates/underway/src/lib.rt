@@ -29,7 +29,7 @@ pub fn so_many(len: usize) -> Under
     }
 }
 
-fn mark_of(good: bool, high: bool) -> usize
+pub fn mark_of(good: bool, high: bool) -> usize
     ensures { λ r. ⌜ r ≡ markOf good high ⌝ }
 {
     if good {
@@ -185,7 +185,7 @@ fn cut_on(u: Under, lead: usize, most: usize, p: &[u8]) -> Under
 }
 
 // How many blocks a kind has at most; 0 where it has none.
-fn most_of(id: u8) -> usize
+pub fn most_of(id: u8) -> usize
     ensures { λ r. ⌜ (r ≡ mostOf id) × (r ≤ 6) ⌝ }
 {
     if id == 9 {
@@ -198,7 +198,7 @@ fn most_of(id: u8) -> usize
 }
 
 // How many bytes stand before each ENTRIES byte: in 09h SPEED.
-fn lead_of(id: u8) -> usize
+pub fn lead_of(id: u8) -> usize
     ensures { λ r. ⌜ (r ≡ leadOf id) × (r ≤ 1) ⌝ }
 {
     if id == 9 { 1 } else { 0 }
