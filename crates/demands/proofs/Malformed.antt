@@ -31,7 +31,8 @@ module _ (chip : Chip) (b p : List ℕ) (room : leb 16 (length b) ≡ true) (so-
       → appendAnswer chip b Text p ≡ orRefused (hasRoom b (newLength b Text p)) 16 0 (Length (newLength b Text p))
   unfolding appendAnswer partBreaks
   well-formed w =
-      let k : OwnKept (writing chip) (string p) = record { shape-8 = shape; codes-9 = rw (number, w) refl; use-23 = refl; pins-10 = refl } in
+      let k : OwnKept (writing chip) (string p) = record { shape-8 = shape; codes-9 = rw (number, w) refl; use-23 = refl; pins-10 = refl }
+      in
       rw (room, so-far, kept-own (writing chip) (string p) k) refl
 
   not-nine : (t : Bool) (n : ℕ) → orRefused t 16 0 (Length n) ≡ Refused 9 (stated b) → ⊥

@@ -11,7 +11,8 @@ use Rattle.format.specs.Slots.{Bytes}
 use Rattle.format.specs.Records.{Record, elementOf}
 use Rattle.format.specs.Known.{tableA}
 use Rattle.format.specs.Decode.{pinOf, placementOf, fanOf}
-use Rattle.format.specs.Rules.{typed, powered, strapped, shaped, coded, inUse, pinned, ownRules, ofItsKind, descriptionKind, descriptionRoomy, elementRoomy}
+use Rattle.format.specs.Rules.{typed, powered, strapped, shaped, coded, inUse, pinned, ownRules, ofItsKind, descriptionKind}
+use Rattle.format.specs.Rules.{descriptionRoomy, elementRoomy}
 use Rattle.format.specs.Verdict.{stated}
 use Rattle.format.specs.Writing.{writing, lengthStands, startAnswer, partBreaks, appendAnswer}
 use Rattle.format.specs.declared.settings.Rules.the-variants.{Ordinary}
@@ -44,7 +45,8 @@ module _ (chip : Chip) where
       → startAnswer chip b d ≡ Refused 10 0
   unfolding startAnswer
   start-other-chip b d room roomy type power other =
-      let p = not-both (strapped chip d) (descriptionKind chip d) (λ k. three-standing chip HardwareRevision (d .revision0) (d .revision1) (d .revision2) k) other in
+      let p = not-both (strapped chip d) (descriptionKind chip d)
+      (λ k. three-standing chip HardwareRevision (d .revision0) (d .revision1) (d .revision2) k) other in
       rw (room, roomy, misstrapped chip d type power p) refl
 
   pub append-other-chip :

@@ -8,23 +8,22 @@ use mathlib.Core.Logic.{_⊎_, inl, inr}
 use mathlib.Core.List.{List, [], _∷_, _++_}
 use lib.Dec.{eqb, ltb}
 use borrow.Author.Tests.{eqb-true, eqb-false, ltb-true, ltb-false}
-use lib.ListN.{length, take, drop, length-append, length-drop, take-append-drop, drop-of-length-le}
+use lib.ListN.{length, take, drop, length-append, take-append-drop, drop-of-length-le}
 use lib.Seq.{take-all, length-take-le, drop-drop}
-use Rattle.format.specs.Slots.{byte, Bytes}
+use Rattle.format.specs.Slots.{Bytes}
 use Rattle.format.specs.Records.{Record}
 use Rattle.format.specs.Layout.{placeAfter}
-use Rattle.format.specs.Verdict.{stated}
-use Rattle.format.specs.Reader.{Outcome, took, stop, step}
+use Rattle.format.specs.Reader.{stop, step}
 use Rattle.format.specs.declared.settings.Settings.{Settings}
 use Rattle.format.specs.declared.records.Description.{Description}
-use Rattle.format.proofs.Slots.{bytes-drop, bytes-take}
-use Rattle.pass.specs.Tracks.{Flags, Low}
+use Rattle.format.proofs.Slots.{bytes-take}
+use Rattle.pass.specs.Tracks.{Flags}
 use Rattle.pass.specs.declared.State.{State}
 use Rattle.stream.specs.Running.{Run, going, broken, past, unready, runBytes}
 use Rattle.stream.proofs.Runs.{run-on, run-whole, run-low, stays-broken}
 use Rattle.stream.proofs.Arriving.{run-append}
 use Rattle.naming.proofs.Taken.{took-run}
-use Rattle.underway.specs.Under.{Holds, UnderIs, MoreIs}
+use Rattle.underway.specs.Under.{UnderIs, MoreIs}
 use Rattle.underway.specs.declared.Under.{Under}
 use Rattle.closing.specs.Ways.{Gone, On, WayIs, WholeIs, Whole, CloseIs}
 use Rattle.closing.specs.declared.Way.{Way}
@@ -46,8 +45,10 @@ none-left : (σ : Settings) (s : Run) (p : List ℕ) (n : ℕ) → length p ≤ 
 none-left σ s p n h = ap (runBytes σ s) (drop-of-length-le p {i = n} h)
 
 module _
-    (σ : Settings) (d : Description) (before : List Record) (at : ℕ) (v p : List ℕ) (u : Under) (s : State) (head : List ℕ) (f : Flags) (zp sp : List ℕ)
-    (more : 0 < length p) (small : Bytes p) (k : UnderIs u head v) (wait : unready v ≡ true) (place : at ≡ placeAfter before) (g : Gone d s f zp sp before)
+    (σ : Settings) (d : Description) (before : List Record) (at : ℕ) (v p : List ℕ) (u : Under) (s : State) (head : List ℕ) (f : Flags)
+    (zp sp : List ℕ)
+    (more : 0 < length p) (small : Bytes p) (k : UnderIs u head v) (wait : unready v ≡ true) (place : at ≡ placeAfter before)
+    (g : Gone d s f zp sp before)
   where
     -- its length is under 3
     pub resume-low :
@@ -128,7 +129,8 @@ module _
     resume-whole r w head′ g′ zp′ sp′ told take′ n (low a b c) t z l x y e = absurd (omega arith)
     resume-whole r w head′ g′ zp′ sp′ told take′ n (whole a b c h m) t z l x y e =
         let i = z ∙ sym e in
-        let j = t .grows v k (bytes-both v (take n p) (k .bytes) (bytes-take n p small)) (omega (arith, length-append v (take n p), length-take-le n p (omega arith))) in
+        let j = t .grows v k (bytes-both v (take n p) (k .bytes) (bytes-take n p small))
+        (omega (arith, length-append v (take n p), length-take-le n p (omega arith))) in
         record {
           run = past before at (length (v ++ take n p)) (step σ before (v ++ take n p));
           now = y .then d before (v ++ take n p) j (rw z m) place g;
@@ -153,7 +155,8 @@ stops-broken :
 stops-broken d w head f zp sp (going before at u) n k = absurd (n (k .goes))
 stops-broken d w head f zp sp (broken j p) n k = (j, p, refl)
 
-module _ (σ : Settings) (d : Description) (s : Run) (p : List ℕ) (r : Ran) (head : List ℕ) (f : Flags) (zp sp : List ℕ) (t : Turned σ d s p r head f zp sp) where
+module _ (σ : Settings) (d : Description) (s : Run) (p : List ℕ) (r : Ran) (head : List ℕ) (f : Flags) (zp sp : List ℕ)
+    (t : Turned σ d s p r head f zp sp) where
   -- then it does not matter how many bytes are taken
   still : (r .way .stop ≡ 0 → ⊥) → (xs : List ℕ) → runBytes σ (t .run) xs ≡ t .run
   still n xs =
@@ -176,7 +179,8 @@ module _ (σ : Settings) (d : Description) (s : Run) (p : List ℕ) (r : Ran) (h
       → (q r′ : Ran) (head′ : List ℕ) (f′ : Flags) (zp′ sp′ : List ℕ)
       → r′ .way ≡ q .way
       → r′ .taken ≡ r .taken + q .taken
-      → ((before : List Record) (at : ℕ) (u : List ℕ) → On d (r .way) head f zp sp before at u → Turned σ d (going before at u) rest q head′ f′ zp′ sp′)
+      → ((before : List Record) (at : ℕ) (u : List ℕ) → On d (r .way) head f zp sp before at u
+      → Turned σ d (going before at u) rest q head′ f′ zp′ sp′)
       → Turned σ d s p r′ head′ f′ zp′ sp′
   then-on z rest e q r′ head′ f′ zp′ sp′ a b next =
       let o = goes-under d (r .way) head f zp sp (t .run) z (t .now) in
@@ -247,7 +251,8 @@ module _
             let n = x .goes y d before small (o .here ∙ o .place) (o .gone) in
             record {
               run = going (n .more) (r .way .at) [];
-              now = on-after d (r .way) head f′ zp′ sp′ (n .more) y (x .plain .none-held) (x .plain .none-cut) (o .under .held .size) (n .place) (n .left);
+              now = on-after d (r .way) head f′ zp′ sp′ (n .more) y (x .plain .none-held) (x .plain .none-cut) (o .under .held .size)
+                  (n .place) (n .left);
               same = took-run σ (n .way);
             }
         go false e =

@@ -4,7 +4,7 @@ use Prim.Native.Nat.{ℕ, _+_, _-_, _*_, _<_, _≤_}
 use native.Mathlib.Omega.{arith}
 use mathlib.Core.Path.{_≡_, refl, sym, _∙_, ap}
 use mathlib.Core.Bool.{Bool, true, false}
-use mathlib.Core.List.{List, [], _++_, append-assoc}
+use mathlib.Core.List.{List, _++_, append-assoc}
 use lib.ListN.{length, take, drop, length-append, take-append-drop, List·getD-append}
 use lib.Seq.{getD-append-add, length-take-le}
 use lib.Dec.{leb}
@@ -14,8 +14,7 @@ use Rattle.format.specs.Verdict.{stated}
 use Rattle.stream.specs.Running.{unready}
 use Rattle.stream.proofs.Running.{Lacks, header, bytes, lacks, stated-more, waits-header, waits-bytes}
 use Rattle.underway.specs.Under.{Holds}
-use Rattle.closing.specs.Ways.{Whole}
-use Rattle.passing.specs.Going.{ByteOf, Shares, waits, low, whole}
+use Rattle.passing.specs.Going.{Shares, waits, low, whole}
 
 pub kept-byte : (head v p : List ℕ) (k : ℕ) → Holds head v → k < 30 → k < length v → byte head k ≡ byte (v ++ p) k
 kept-byte head v p k h a b = h .same k a b ∙ sym (List·getD-append v p 0 k b)
@@ -49,7 +48,8 @@ module _ (v p : List ℕ) {told : ℕ} (e : told ≡ stated (v ++ p)) where
         let a = late (lacks v w) t in
         let m = length-take-le k p (omega arith) in
         let i = length-append v (take k p) in
-        let j : (v ++ take k p) ++ drop k p ≡ v ++ p = append-assoc v (take k p) (drop k p) ∙ ap (λ (x : List ℕ). v ++ x) (take-append-drop k p) in
+        let j : (v ++ take k p) ++ drop k p ≡ v ++ p = append-assoc v (take k p) (drop k p)
+        ∙ ap (λ (x : List ℕ). v ++ x) (take-append-drop k p) in
         let s : stated (v ++ take k p) ≡ told = sym (stated-more (v ++ take k p) (drop k p) (omega arith)) ∙ ap stated j ∙ sym e in
         whole t (omega arith) (omega arith) (omega arith) (omega arith, omega arith)
 
@@ -60,7 +60,8 @@ module _ (v p : List ℕ) {told : ℕ} (e : told ≡ stated (v ++ p)) where
 pub told-is : (v p : List ℕ) {a b : ℕ} → a ≡ byte (v ++ p) 1 → b ≡ byte (v ++ p) 2 → a + 256 * b ≡ stated (v ++ p)
 told-is v p a b = rw (a, b) refl
 
-module _ (v p : List ℕ) {told : ℕ} (e : told ≡ stated (v ++ p)) (k : ℕ) (l : told ≤ length v + length p) (h : 3 ≤ length v + length p) (w : unready v ≡ true) where
+module _ (v p : List ℕ) {told : ℕ} (e : told ≡ stated (v ++ p)) (k : ℕ) (l : told ≤ length v + length p) (h : 3 ≤ length v + length p)
+    (w : unready v ≡ true) where
   -- so many bytes complete it, or its length is under 3
   pub due-whole : k ≡ told - length v → Shares v p told k
   due-whole q = go (leb 3 told) refl

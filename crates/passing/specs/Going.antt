@@ -2,8 +2,8 @@
 -- Assumes nothing.
 use Prim.Native.Nat.{ℕ, _+_, _-_, _<_, _≤_}
 use mathlib.Core.Path.{_≡_}
-use mathlib.Core.Bool.{Bool, true}
-use mathlib.Core.List.{List, [], _++_}
+use mathlib.Core.Bool.{true}
+use mathlib.Core.List.{List, _++_}
 use lib.ListN.{length, take, drop}
 use Rattle.format.specs.Slots.{byte, Bytes}
 use Rattle.format.specs.Records.{Record}
@@ -43,12 +43,14 @@ pub record Onto (p : List ℕ) (r : Ran) : Type 0 where
   pub ends : r .way .stop ≡ 0 → r .way .at + r .way .under .len + (length p - r .taken) ≤ 4097
 
 -- where the pass is with the bytes that are taken; from there the rest leads where the whole piece leads
-pub record Turned (σ : Settings) (d : Description) (s : Run) (p : List ℕ) (r : Ran) (head : List ℕ) (f : Flags) (zp sp : List ℕ) : Type 0 where
+pub record Turned (σ : Settings) (d : Description) (s : Run) (p : List ℕ) (r : Ran) (head : List ℕ) (f : Flags)
+    (zp sp : List ℕ) : Type 0 where
   pub run : Run
   pub now : WayIs d (r .way) head f zp sp run
   pub same : runBytes σ s p ≡ runBytes σ run (drop (r .taken) p)
 
-pub record ResumeIs (σ : Settings) (u : Under) (at : ℕ) (s : State) (p head : List ℕ) (f : Flags) (zp sp : List ℕ) (r : Ran) (head′ : List ℕ) (f′ : Flags) (zp′ sp′ : List ℕ) : Type 0 where
+pub record ResumeIs (σ : Settings) (u : Under) (at : ℕ) (s : State) (p head : List ℕ) (f : Flags) (zp sp : List ℕ) (r : Ran)
+    (head′ : List ℕ) (f′ : Flags) (zp′ sp′ : List ℕ) : Type 0 where
   pub onto : Onto p r
   pub some : 0 < length p → 0 < r .taken
   pub goes :
@@ -62,7 +64,8 @@ pub record ResumeIs (σ : Settings) (u : Under) (at : ℕ) (s : State) (p head :
       → Turned σ d (going before at v) p r head′ f′ zp′ sp′
 
 -- whole elements, where none is under way
-pub record AheadIs (σ : Settings) (w : Way) (p : List ℕ) (f : Flags) (zp sp : List ℕ) (r : Ran) (f′ : Flags) (zp′ sp′ : List ℕ) : Type 0 where
+pub record AheadIs (σ : Settings) (w : Way) (p : List ℕ) (f : Flags) (zp sp : List ℕ) (r : Ran) (f′ : Flags)
+    (zp′ sp′ : List ℕ) : Type 0 where
   pub onto : Onto p r
   pub goes :
       (d : Description) (before : List Record) (at : ℕ) (u head : List ℕ)
@@ -70,7 +73,8 @@ pub record AheadIs (σ : Settings) (w : Way) (p : List ℕ) (f : Flags) (zp sp :
       → On d w head f zp sp before at u
       → Turned σ d (going before at u) p r head f′ zp′ sp′
 
-pub record TurnIs (σ : Settings) (w : Way) (p head : List ℕ) (f : Flags) (zp sp : List ℕ) (r : Ran) (head′ : List ℕ) (f′ : Flags) (zp′ sp′ : List ℕ) : Type 0 where
+pub record TurnIs (σ : Settings) (w : Way) (p head : List ℕ) (f : Flags) (zp sp : List ℕ) (r : Ran) (head′ : List ℕ) (f′ : Flags)
+    (zp′ sp′ : List ℕ) : Type 0 where
   pub onto : Onto p r
   pub some : 0 < length p → 0 < r .taken
   pub goes :
@@ -79,7 +83,8 @@ pub record TurnIs (σ : Settings) (w : Way) (p head : List ℕ) (f : Flags) (zp 
       → On d w head f zp sp before at u
       → Turned σ d (going before at u) p r head′ f′ zp′ sp′
 
-pub record PassIs (σ : Settings) (w : Way) (p head : List ℕ) (f : Flags) (zp sp : List ℕ) (r : Way) (head′ : List ℕ) (f′ : Flags) (zp′ sp′ : List ℕ) : Type 0 where
+pub record PassIs (σ : Settings) (w : Way) (p head : List ℕ) (f : Flags) (zp sp : List ℕ) (r : Way) (head′ : List ℕ) (f′ : Flags)
+    (zp′ sp′ : List ℕ) : Type 0 where
   pub goes :
       (d : Description) (before : List Record) (at : ℕ) (u : List ℕ)
       → 0 < length p

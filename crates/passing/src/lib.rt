@@ -1,6 +1,5 @@
 // The pass over the elements, piece by piece: the bytes of a piece complete the element under way, then come whole elements, and the
 // rest begins one.
-ghost use mathlib.Core.Path.{_≡_};
 ghost use Prim.Native.Nat.{_+_, _-_, _<_, _≤_};
 ghost use lib.ListN.{length};
 ghost use Rattle.pass.specs.Tracks.{flags, Low};
@@ -75,7 +74,9 @@ fn resume(
     settings: Settings,
 ) -> Ran
     requires { ⌜ (at + under .len + length (now p) ≤ 4097) × (under .at ≤ 10000) × Low s ⌝ }
-    ensures { λ r. ⌜ ResumeIs settings under at s (now (p .entry)) (now (head .entry)) (flags (now (zs .entry)) (now (ss .entry)) (now (zu .entry)) (now (su .entry))) (now (zp .entry)) (now (sp .entry)) r (now (head .exit)) (flags (now (zs .exit)) (now (ss .exit)) (now (zu .exit)) (now (su .exit))) (now (zp .exit)) (now (sp .exit)) ⌝ }
+    ensures { λ r. ⌜ ResumeIs settings under at s (now (p .entry)) (now (head .entry))
+        (flags (now (zs .entry)) (now (ss .entry)) (now (zu .entry)) (now (su .entry))) (now (zp .entry)) (now (sp .entry)) r
+        (now (head .exit)) (flags (now (zs .exit)) (now (ss .exit)) (now (zu .exit)) (now (su .exit))) (now (zp .exit)) (now (sp .exit)) ⌝ }
 {
     let had = under.len;
     let mine = due(head, had, p);
@@ -112,7 +113,9 @@ fn ahead(
     settings: Settings,
 ) -> Ran
     requires { ⌜ (w .at + w .under .len + length (now p) ≤ 4097) × (w .under .at ≤ 10000) × Low (w .state) ⌝ }
-    ensures { λ r. ⌜ AheadIs settings w (now (p .entry)) (flags (now (zs .entry)) (now (ss .entry)) (now (zu .entry)) (now (su .entry))) (now (zp .entry)) (now (sp .entry)) r (flags (now (zs .exit)) (now (ss .exit)) (now (zu .exit)) (now (su .exit))) (now (zp .exit)) (now (sp .exit)) ⌝ }
+    ensures { λ r. ⌜ AheadIs settings w (now (p .entry)) (flags (now (zs .entry)) (now (ss .entry)) (now (zu .entry)) (now (su .entry)))
+        (now (zp .entry)) (now (sp .entry)) r (flags (now (zs .exit)) (now (ss .exit)) (now (zu .exit)) (now (su .exit))) (now (zp .exit))
+        (now (sp .exit)) ⌝ }
 {
     let under = w.under;
     if under.len != 0 {
@@ -136,7 +139,9 @@ fn turn(
     settings: Settings,
 ) -> Ran
     requires { ⌜ (w .at + w .under .len + length (now p) ≤ 4097) × (w .under .at ≤ 10000) × Low (w .state) ⌝ }
-    ensures { λ r. ⌜ TurnIs settings w (now (p .entry)) (now (head .entry)) (flags (now (zs .entry)) (now (ss .entry)) (now (zu .entry)) (now (su .entry))) (now (zp .entry)) (now (sp .entry)) r (now (head .exit)) (flags (now (zs .exit)) (now (ss .exit)) (now (zu .exit)) (now (su .exit))) (now (zp .exit)) (now (sp .exit)) ⌝ }
+    ensures { λ r. ⌜ TurnIs settings w (now (p .entry)) (now (head .entry))
+        (flags (now (zs .entry)) (now (ss .entry)) (now (zu .entry)) (now (su .entry))) (now (zp .entry)) (now (sp .entry)) r
+        (now (head .exit)) (flags (now (zs .exit)) (now (ss .exit)) (now (zu .exit)) (now (su .exit))) (now (zp .exit)) (now (sp .exit)) ⌝ }
 {
     let r = ahead(w, p, zs, ss, zu, su, zp, sp, settings);
     let way = r.way;
@@ -187,7 +192,9 @@ pub fn pass_on(
     settings: Settings,
 ) -> Way
     requires { ⌜ (w .at + w .under .len + length (now p) ≤ 4097) × (w .under .at ≤ 10000) × Low (w .state) ⌝ }
-    ensures { λ r. ⌜ PassIs settings w (now (p .entry)) (now (head .entry)) (flags (now (zs .entry)) (now (ss .entry)) (now (zu .entry)) (now (su .entry))) (now (zp .entry)) (now (sp .entry)) r (now (head .exit)) (flags (now (zs .exit)) (now (ss .exit)) (now (zu .exit)) (now (su .exit))) (now (zp .exit)) (now (sp .exit)) ⌝ }
+    ensures { λ r. ⌜ PassIs settings w (now (p .entry)) (now (head .entry))
+        (flags (now (zs .entry)) (now (ss .entry)) (now (zu .entry)) (now (su .entry))) (now (zp .entry)) (now (sp .entry)) r
+        (now (head .exit)) (flags (now (zs .exit)) (now (ss .exit)) (now (zu .exit)) (now (su .exit))) (now (zp .exit)) (now (sp .exit)) ⌝ }
 {
     let mut way = w;
     let mut from: usize = 0;

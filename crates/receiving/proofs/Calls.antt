@@ -6,11 +6,11 @@ use native.Mathlib.Nat.{mod-lt, mod-eq-of-lt}
 use mathlib.Core.Path.{_≡_, refl, sym, _∙_, ap, subst}
 use mathlib.Core.Bool.{Bool, true, false}
 use mathlib.Core.List.{List, [], _∷_, _++_, append-nil}
-use lib.ListN.{length, take, drop, set, length-append, length-replicate}
+use lib.ListN.{length, take, set}
 use lib.Seq.{take-all, length-take-le, take-append-le, take-append-add}
 use lib.Dec.{ltb, leb}
 use borrow.Author.Tests.{ltb-true, ltb-false, leb-true, leb-false}
-use Rattle.format.specs.Slots.{byte, Bytes}
+use Rattle.format.specs.Slots.{Bytes}
 use Rattle.format.proofs.Slots.{bytes-take}
 use Rattle.format.specs.Answers.{valueOf}
 use Rattle.format.specs.Reader.{verdictOf}
@@ -22,14 +22,18 @@ use Rattle.reader.proofs.Bounds.{value-bound}
 use Rattle.pass.specs.Tracks.{Flags}
 use Rattle.stream.specs.Arriving.{stateOf, after}
 use Rattle.stream.proofs.Arriving.{answer-after}
-use Rattle.states.specs.Numbers.{codeOf, number}
+use Rattle.states.specs.Numbers.{number}
 use Rattle.states.proofs.Settled.{back}
 use Rattle.ending.specs.Stands.{Lent, lent, Stands, StandsFor}
 use Rattle.ending.specs.Ending.{VerdictIs}
 use Rattle.receiving.specs.Receiving.{ReceiveIs, StartIs, PieceIs, EndIs}
 
 -- what start leaves stands for no bytes, whatever the flags and places
-pub begun : (σ : Settings) (n first head : List ℕ) → StartIs σ n first head → (f : Flags) (zp sp : List ℕ) → StandsFor σ [] (lent n first head f zp sp)
+pub begun :
+    (σ : Settings) (n first head : List ℕ)
+    → StartIs σ n first head
+    → (f : Flags) (zp sp : List ℕ)
+    → StandsFor σ [] (lent n first head f zp sp)
 begun σ n first head s f zp sp =
     record {
       size = rw (s .numbers) refl;
@@ -137,7 +141,8 @@ module _ (l : Lent) (p : List ℕ) where
           goes =
               λ σ b s.
               let k : take 4097 b ++ q ≡ take 4097 (b ++ p) = rw e (room-for b p (number (l .numbers) 2) (s .count) h) in
-              subst (λ (c : List ℕ). Stands σ (stateOf σ c) l′) k (r .goes σ (take 4097 b) (rw e (bytes-take (4097 - number (l .numbers) 2) p small)) some-bytes s);
+              subst (λ (c : List ℕ). Stands σ (stateOf σ c) l′) k
+              (r .goes σ (take 4097 b) (rw e (bytes-take (4097 - number (l .numbers) 2) p small)) some-bytes s);
         }
       where
         some-bytes : 0 < length q
@@ -145,7 +150,13 @@ module _ (l : Lent) (p : List ℕ) where
           where
             go : (t : Bool) → leb (4097 - number (l .numbers) 2) (length p) ≡ t → 0 < length q
             go true y =
-                omega (arith, h, ap length e, length-take-le (4097 - number (l .numbers) 2) p (leb-true (4097 - number (l .numbers) 2) (length p) y))
+                omega (
+                  arith,
+                  h,
+                  ap length e,
+                  length-take-le (4097 - number (l .numbers) 2) p
+                      (leb-true (4097 - number (l .numbers) 2) (length p) y),
+                )
             go false y =
                 let k = leb-false (4097 - number (l .numbers) 2) (length p) y in
                 omega (arith, n, ap length e, ap length (take-all (4097 - number (l .numbers) 2) p (omega (arith, k))))

@@ -1,10 +1,9 @@
 -- THE THEOREM: start, pieces, end. However a table is cut, the end answers what the whole reading answers, and ever after it is 20 at 0.
 -- Assumes nothing.
-use Prim.Native.Nat.{ℕ, _<_}
+use Prim.Native.Nat.{ℕ}
 use native.Mathlib.Omega.{arith}
 use mathlib.Core.Path.{_≡_, refl, sym, _∙_, ap, subst}
 use mathlib.Core.List.{List, [], _∷_, _++_, append-nil, append-assoc}
-use lib.ListN.{length, set}
 use lib.Seq.{getD-set-same}
 use Rattle.format.specs.Slots.{Bytes}
 use Rattle.format.specs.Verdict.{Verdict}

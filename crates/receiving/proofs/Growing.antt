@@ -4,9 +4,9 @@ use Prim.Native.Nat.{ℕ, _+_, _-_, _<_, _≤_}
 use native.Mathlib.Omega.{arith}
 use mathlib.Core.Path.{_≡_, refl, sym, _∙_, ap, subst}
 use mathlib.Core.Bool.{Bool, true, false}
-use mathlib.Core.List.{List, [], _++_, append-nil}
+use mathlib.Core.List.{List, [], _++_}
 use mathlib.Core.Option.{Option, none, some}
-use lib.ListN.{length, take, drop, length-append, length-drop, drop-of-length-le}
+use lib.ListN.{length, take, drop, length-append, length-drop}
 use lib.Seq.{take-all, length-take-le, take-append-le, drop-append-le, take-append-add, drop-append-add}
 use lib.Dec.{ltb, leb}
 use borrow.Author.Tests.{leb-true, leb-false, ltb-true, ltb-false}
@@ -26,7 +26,7 @@ use Rattle.closing.specs.Ways.{WayIs}
 use Rattle.closing.specs.declared.Way.{Way}
 use Rattle.states.specs.Numbers.{settingsOf, number, wayOf, numbersOf}
 use Rattle.advancing.specs.Advancing.{opened, Fresh, AdvanceIs}
-use Rattle.ending.specs.Stands.{Lent, lent, Stands}
+use Rattle.ending.specs.Stands.{lent, Stands}
 use Rattle.ending.proofs.Answering.{placed-of}
 use Rattle.receiving.specs.Receiving.{LeadIs, ReadyIs, ReceiveIs}
 
@@ -79,9 +79,11 @@ module _ (n first : List ℕ) (f : Flags) (head zp sp q : List ℕ) (n′ first�
 
 -- the description is whole with the piece, or was before
 module _
-    (n first head : List ℕ) (f : Flags) (zp sp q n′ first′ head′ : List ℕ) (f′ : Flags) (zp′ sp′ : List ℕ) (from : ℕ) (before w : Way) (string : ℕ) (σ₀ : Settings)
+    (n first head : List ℕ) (f : Flags) (zp sp q n′ first′ head′ : List ℕ) (f′ : Flags) (zp′ sp′ : List ℕ) (from : ℕ) (before w : Way)
+    (string : ℕ) (σ₀ : Settings)
     (h : 16 ≤ number n 2 + length q) (top : number n 2 + length q ≤ 4097)
-    (settled : σ₀ ≡ settingsOf (number n 1)) (lead : LeadIs first (number n 2) q from first′) (ready : ReadyIs σ₀ n first′ (number n 2) before)
+    (settled : σ₀ ≡ settingsOf (number n 1)) (lead : LeadIs first (number n 2) q from first′)
+    (ready : ReadyIs σ₀ n first′ (number n 2) before)
     (named : string ≡ byte first′ 4)
     (on : AdvanceIs σ₀ before (leb (number n 2) 16) (take (length q - from) (drop from q)) string head f zp sp w head′ f′ zp′ sp′)
     (e : (n′ ≡ numbersOf 0 (number n 1) (number n 2 + length q) w) × (wayOf n′ ≡ w))
@@ -93,7 +95,8 @@ module _
     left = take-all (length q - from) (drop from q) (omega (arith, length-drop from q))
 
     module _
-        (σ : Settings) (c : List ℕ) (small : Bytes q) (some-bytes : 0 < length q) (s : Stands σ (stateOf σ c) (lent n first head f zp sp)) where
+        (σ : Settings) (c : List ℕ) (small : Bytes q) (some-bytes : 0 < length q)
+        (s : Stands σ (stateOf σ c) (lent n first head f zp sp)) where
       long : length (c ++ q) ≡ number n 2 + length q
       long = omega (arith, length-append c q, s .count)
 
@@ -107,7 +110,8 @@ module _
       whole = length-take-le 16 (c ++ q) (omega (arith, long))
 
       on-σ : AdvanceIs σ before (leb (number n 2) 16) rest string head f zp sp w head′ f′ zp′ sp′
-      on-σ = subst (λ (x : Settings). AdvanceIs x before (leb (number n 2) 16) rest string head f zp sp w head′ f′ zp′ sp′) (settled ∙ s .settings) on
+      on-σ = subst (λ (x : Settings). AdvanceIs x before (leb (number n 2) 16) rest string head f zp sp w head′ f′ zp′ sp′)
+          (settled ∙ s .settings) on
 
       ready-σ : ReadyIs σ n first′ (number n 2) before
       ready-σ = subst (λ (x : Settings). ReadyIs x n first′ (number n 2) before) (settled ∙ s .settings) ready
@@ -132,7 +136,8 @@ module _
         where
           go : (t : Bool) → ltb (number n 2) 16 ≡ t → Fresh σ d before
           go true p =
-              rw (← (same-description (σ .chip) (byte first′) (byte (take 16 (c ++ q))) (λ i k. kept .same i (omega arith) (omega (arith, whole)))))
+              rw (← (same-description (σ .chip) (byte first′) (byte (take 16 (c ++ q)))
+              (λ i k. kept .same i (omega arith) (omega (arith, whole)))))
               (ready-σ .early (ltb-true (number n 2) 16 p))
           go false p =
               let much = ltb-false (number n 2) 16 p in
@@ -167,7 +172,8 @@ module _
               let l = ap length (left-early few) in
               let m = length-drop 16 (c ++ q) in
               rw (← (left-early few))
-              (on-σ .first p d (fresh few) described (s .head (omega (arith, s .count))) bytes-rest (omega (arith, l, m, g)) (omega (arith, l, m, long)))
+              (on-σ .first p d (fresh few) described (s .head (omega (arith, s .count))) bytes-rest (omega (arith, l, m, g))
+              (omega (arith, l, m, long)))
           go false p =
               let much = leb-false (number n 2) 16 p in
               let same : take 16 (c ++ q) ≡ take 16 c = take-append-le 16 c q (omega (arith, s .count)) in
@@ -175,8 +181,11 @@ module _
               let k : WayIs d before head f zp sp (opened broken-by (runBytes σ begin (drop 16 c))) =
               rw (ready-σ .late (omega arith), same) (s .pass (omega (arith, s .count))) in
               rw (drop-append-le 16 c q (omega (arith, s .count)), run-append σ begin (drop 16 c) q)
-              (subst (λ (r : Run). WayIs d w head′ f′ zp′ sp′ r) (ap (runBytes σ (opened broken-by (runBytes σ begin (drop 16 c)))) all ∙ opened-bytes σ broken-by (runBytes σ begin (drop 16 c)) q)
-              (on-σ .more p d (length c) (opened broken-by (runBytes σ begin (drop 16 c))) k (placed-of σ d c (omega (arith, s .count))) bytes-rest
+              (subst (λ (r : Run). WayIs d w head′ f′ zp′ sp′ r)
+              (ap (runBytes σ (opened broken-by (runBytes σ begin (drop 16 c)))) all
+              ∙ opened-bytes σ broken-by (runBytes σ begin (drop 16 c)) q)
+              (on-σ .more p d (length c) (opened broken-by (runBytes σ begin (drop 16 c))) k
+              (placed-of σ d c (omega (arith, s .count))) bytes-rest
               (omega (arith, ap length all)) (omega (arith, ap length all, s .count))))
 
       -- no element yet

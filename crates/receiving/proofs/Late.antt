@@ -1,9 +1,8 @@
--- The state after bytes behind the description, where neither its bytes nor flags and places change: a single byte of the element under way,
--- or bytes after a pass that is stopped.
--- Assumes nothing.
+-- The state after bytes behind the description, where neither its bytes nor flags and places change: a single byte of the element
+-- under way, or bytes after a pass that is stopped. Assumes nothing.
 use Prim.Native.Nat.{ℕ, _+_, _-_, _<_, _≤_}
 use native.Mathlib.Omega.{arith}
-use mathlib.Core.Path.{_≡_, refl, sym, _∙_, ap, subst}
+use mathlib.Core.Path.{_≡_, sym, _∙_, subst}
 use mathlib.Core.Bool.{true, _&&_, not, and-eq-true-iff}
 use mathlib.Core.List.{List, [], _∷_, _++_}
 use lib.ListN.{length, set, take, drop, length-append, length-set}
@@ -80,7 +79,8 @@ module _ (n first head : List ℕ) (f : Flags) (zp sp q n′ head′ : List ℕ)
                 λ _.
                 rw (same, drop-append-le 16 c q (omega (arith, s .count)), run-append σ begin (drop 16 c) q)
                 (subst (λ (r : Run). WayIs d (wayOf n′) head′ f zp sp r) (opened-bytes σ broken-by run q)
-                (on (s .size) .1 σ d (length c) (opened broken-by run) (s .pass (omega (arith, s .count))) (placed-of σ d c (omega (arith, s .count))) small
+                (on (s .size) .1 σ d (length c) (opened broken-by run) (s .pass (omega (arith, s .count)))
+                (placed-of σ d c (omega (arith, s .count))) small
                 (omega (arith, s .count))));
           }
 
@@ -94,7 +94,10 @@ pub grows-single :
     → ReceiveIs (lent n first head f zp sp) (x ∷ []) (lent n′ first head′ f zp sp)
 grows-single n first head f zp sp x n′ head′ z much top g =
     grows-late n first head f zp sp (x ∷ []) n′ head′ much (omega arith) (g .ended ∙ z)
-    (λ e. (record { size = g .size ∙ e; code = g .code; count = g .count e }, λ σ d m s w p small l. g .on e σ d f zp sp m s w p small (omega arith)))
+    (λ e. (
+      record { size = g .size ∙ e; code = g .code; count = g .count e },
+      λ σ d m s w p small l. g .on e σ d f zp sp m s w p small (omega arith),
+    ))
 
 -- a pass that is stopped stays so
 pub grows-stopped :

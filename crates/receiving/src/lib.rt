@@ -60,7 +60,10 @@ fn receive(
     q: &[u8],
 )
     requires { ⌜ (number (now n) 0 ≡ 0) × (number (now n) 2 + length (now q) ≤ 4097) ⌝ }
-    ensures { λ _. ⌜ ReceiveIs (lent (now (n .entry)) (now (first .entry)) (now (head .entry)) (flags (now (zs .entry)) (now (ss .entry)) (now (zu .entry)) (now (su .entry))) (now (zp .entry)) (now (sp .entry))) (now (q .entry)) (lent (now (n .exit)) (now (first .exit)) (now (head .exit)) (flags (now (zs .exit)) (now (ss .exit)) (now (zu .exit)) (now (su .exit))) (now (zp .exit)) (now (sp .exit))) ⌝ }
+    ensures { λ _. ⌜ ReceiveIs (lent (now (n .entry)) (now (first .entry)) (now (head .entry))
+        (flags (now (zs .entry)) (now (ss .entry)) (now (zu .entry)) (now (su .entry))) (now (zp .entry)) (now (sp .entry)))
+        (now (q .entry)) (lent (now (n .exit)) (now (first .exit)) (now (head .exit))
+        (flags (now (zs .exit)) (now (ss .exit)) (now (zu .exit)) (now (su .exit))) (now (zp .exit)) (now (sp .exit))) ⌝ }
 {
     let count = n[2];
     let code = n[1];
@@ -115,7 +118,10 @@ pub fn piece(
     sp: &mut [u16; 256],
     p: &[u8],
 ) -> u8
-    ensures { λ r. ⌜ PieceIs (lent (now (n .entry)) (now (first .entry)) (now (head .entry)) (flags (now (zs .entry)) (now (ss .entry)) (now (zu .entry)) (now (su .entry))) (now (zp .entry)) (now (sp .entry))) (now (p .entry)) r (lent (now (n .exit)) (now (first .exit)) (now (head .exit)) (flags (now (zs .exit)) (now (ss .exit)) (now (zu .exit)) (now (su .exit))) (now (zp .exit)) (now (sp .exit))) ⌝ }
+    ensures { λ r. ⌜ PieceIs (lent (now (n .entry)) (now (first .entry)) (now (head .entry))
+        (flags (now (zs .entry)) (now (ss .entry)) (now (zu .entry)) (now (su .entry))) (now (zp .entry)) (now (sp .entry)))
+        (now (p .entry)) r (lent (now (n .exit)) (now (first .exit)) (now (head .exit))
+        (flags (now (zs .exit)) (now (ss .exit)) (now (zu .exit)) (now (su .exit))) (now (zp .exit)) (now (sp .exit))) ⌝ }
 {
     if n[0] != 0 {
         return 20;
@@ -160,7 +166,9 @@ pub fn end(
     zp: &[u16; 256],
     sp: &[u16; 256],
 ) -> Answer
-    ensures { λ r. ⌜ EndIs (now (n .entry)) (now (first .entry)) (flags (now (zs .entry)) (now (ss .entry)) (now (zu .entry)) (now (su .entry))) (now (zp .entry)) (now (sp .entry)) r (now (n .exit)) ⌝ }
+    ensures { λ r. ⌜ EndIs (now (n .entry)) (now (first .entry))
+        (flags (now (zs .entry)) (now (ss .entry)) (now (zu .entry)) (now (su .entry))) (now (zp .entry)) (now (sp .entry)) r
+        (now (n .exit)) ⌝ }
 {
     if n[0] != 0 {
         return Answer::Refused(20, 0);

@@ -4,7 +4,7 @@ use Prim.Native.Nat.{ℕ, _+_, _-_, _*_, _/_, _%_, _≤_, _<_}
 use native.Mathlib.Omega.{arith}
 use mathlib.Core.Path.{_≡_, refl, sym, _∙_, ap, subst}
 use mathlib.Core.Bool.{Bool, true, false, _&&_, not, false≢true, and-eq-true-iff}
-use mathlib.Core.List.{List, [], _∷_, _++_, append-assoc, append-nil}
+use mathlib.Core.List.{List, [], _∷_, _++_, append-assoc}
 use lib.ListN.{length, set, length-append, length-set, List·getD-append}
 use lib.Seq.{getD-set-same, getD-set-other}
 use lib.Dec.{eqb, ltb}
@@ -23,17 +23,16 @@ use Rattle.blocks.specs.declared.Cut.{Cut}
 use Rattle.underway.specs.Under.{Holds, markOf, isGood, isHigh, UnitsFrom, UnitsOn, TextOn, CutIs, CutOn, UnderIs}
 use Rattle.underway.specs.declared.Under.{Under}
 use Rattle.underway.specs.declared.Units.{Units}
-use Rattle.underway.proofs.Keeping.{put-one}
 use Rattle.underway.proofs.Unit.{good-mark, high-mark, unit-next, text-grows}
-use Rattle.underway.proofs.Block.{Within, within-first, within-next, first-cut, full-mark}
-use Rattle.closing.specs.Ways.{On, WayIs}
+use Rattle.underway.proofs.Block.{within-first, within-next, first-cut}
+use Rattle.closing.specs.Ways.{WayIs}
 use Rattle.closing.specs.declared.Way.{Way}
 use Rattle.passing.proofs.Sharing.{kept-byte, piece-byte, told-is}
 use Rattle.passing.proofs.Resuming.{bytes-both}
 use Rattle.states.specs.Numbers.{number, wayOf}
 use Rattle.advancing.specs.Advancing.{PlacedAt}
 use Rattle.advancing.proofs.Placing.{stays}
-use Rattle.single.specs.Single.{StaysIs, Marked, Fits, OneIs, puts, Longer}
+use Rattle.single.specs.Single.{StaysIs, Marked, OneIs, puts, Longer}
 
 abbrev counted : ℕ → Bool → Bool → Units
 counted whole good high = record { whole = whole; good = good; high = high }
@@ -49,7 +48,11 @@ marked-plain mark x h =
     rw z record { good = rw low refl; high = rw high refl }
 
 -- any
-pub marked-any : (mark x : ℕ) {g : Bool} {r : ℕ} → g ≡ agrees (isHigh mark) (eqb (x / 4) 55) → r ≡ markOf (isGood mark && g) (eqb (x / 4) 54) → Marked mark x r
+pub marked-any :
+    (mark x : ℕ) {g : Bool} {r : ℕ}
+    → g ≡ agrees (isHigh mark) (eqb (x / 4) 55)
+    → r ≡ markOf (isGood mark && g) (eqb (x / 4) 54)
+    → Marked mark x r
 marked-any mark x {g} e f =
     let a = isGood mark && g in
     let b = eqb (x / 4) 54 in
@@ -87,7 +90,8 @@ module _ (u : Under) (x : ℕ) (r : Under) (l : r .len ≡ u .len + 1) (o : r .a
         on =
             λ v q e a small.
             rw (z, m .good, m .high)
-            (unit-next v (x ∷ []) q k (isGood (u .mark)) (isHigh (u .mark)) {i = 0} {x = x} small (omega arith) (omega arith) (omega arith) refl);
+            (unit-next v (x ∷ []) q k (isGood (u .mark)) (isHigh (u .mark)) {i = 0} {x = x} small (omega arith) (omega arith)
+            (omega arith) refl);
       }
 
 -- blocks
@@ -158,7 +162,8 @@ module _ (u : Under) (lead most x : ℕ) (r : Under) (one : lead ≤ 1) (l : r .
       → CutIs lead most (c .at) number (c .full) v
       → CutIs lead most (r .at) (r .blocks) (eqb (r .mark) 0) (v ++ x ∷ [])
   entered c d number g a b m n here v e k =
-      let w = within-next lead most c d number v (x ∷ []) {i = 0} {x = x} (within-first _ _ _ _ _ v (x ∷ []) k) n one (omega (arith, here, e)) (omega (arith, here, e)) refl g in
+      let w = within-next lead most c d number v (x ∷ []) {i = 0} {x = x} (within-first _ _ _ _ _ v (x ∷ []) k) n one
+      (omega (arith, here, e)) (omega (arith, here, e)) refl g in
       rw (a, b, m)
       record {
         ahead = λ q. rw (append-assoc v (x ∷ []) q) (w .ahead q);
@@ -168,7 +173,15 @@ module _ (u : Under) (lead most x : ℕ) (r : Under) (one : lead ≤ 1) (l : r .
 
   module _ (d : Cut) (a : r .at ≡ d .at) (o : d .at ≤ 10000) (m : eqb (r .mark) 0 ≡ d .full) where
     -- the first
-    pub cut-first : (c : Cut) → c .at ≡ lead → c .full ≡ true → d ≡ enter true lead x c → r .blocks ≡ 1 → 1 ≤ most → u .len ≡ 12 → CutOn u lead most (x ∷ []) r
+    pub cut-first :
+        (c : Cut)
+        → c .at ≡ lead
+        → c .full ≡ true
+        → d ≡ enter true lead x c
+        → r .blocks ≡ 1
+        → 1 ≤ most
+        → u .len ≡ 12
+        → CutOn u lead most (x ∷ []) r
     cut-first c p q g b n h =
         record {
           long = l;
@@ -233,7 +246,8 @@ module _ (head : List ℕ) (had x : ℕ) where
         waits =
             λ t v h e.
             reaches v
-            (told-is v (x ∷ []) (p ∙ kept-byte head v (x ∷ []) 1 h (omega arith) (omega arith)) (q ∙ ap (byte (x ∷ [])) z ∙ piece-byte v (x ∷ []) 2 had e (omega arith)))
+            (told-is v (x ∷ []) (p ∙ kept-byte head v (x ∷ []) 1 h (omega arith) (omega arith))
+            (q ∙ ap (byte (x ∷ [])) z ∙ piece-byte v (x ∷ []) 2 had e (omega arith)))
             e (omega arith) (omega (arith, ltb-true 3 (a + 256 * b) t));
       }
 
@@ -253,7 +267,8 @@ module _ (head : List ℕ) (had x : ℕ) where
         waits =
             λ k v h e.
             reaches v
-            (told-is v (x ∷ []) (p ∙ kept-byte head v (x ∷ []) 1 h (omega arith) (omega arith)) (q ∙ kept-byte head v (x ∷ []) 2 h (omega arith) (omega arith)))
+            (told-is v (x ∷ []) (p ∙ kept-byte head v (x ∷ []) 1 h (omega arith) (omega arith))
+            (q ∙ kept-byte head v (x ∷ []) 2 h (omega arith) (omega arith)))
             e (omega arith) (omega (arith, ltb-true 1 (a + 256 * b - had) k));
       }
 

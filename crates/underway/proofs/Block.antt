@@ -5,15 +5,15 @@ use native.Mathlib.Omega.{arith}
 use mathlib.Core.Path.{_≡_, refl, sym, _∙_, ap}
 use mathlib.Core.Bool.{Bool, true, false, _&&_, not, and-eq-true-iff}
 use mathlib.Core.List.{List, _++_, append-assoc}
-use lib.ListN.{length, drop, length-drop, length-append}
+use lib.ListN.{length, length-drop, length-append}
 use lib.Seq.{getD-drop}
 use lib.Dec.{eqb, ltb, leb}
 use borrow.Author.Tests.{lt-ltb, ltb-true, ltb-false, leb-true, le-leb}
 use Rattle.format.specs.Slots.{byte}
-use Rattle.blocks.specs.Cutting.{cut, enter}
+use Rattle.blocks.specs.Cutting.{enter}
 use Rattle.blocks.specs.declared.Cut.{Cut}
 use Rattle.blocks.proofs.Counting.{counted, entered, pastCounted, countFrom, countOf}
-use Rattle.underway.specs.Under.{markOf, partAt, CutIs, BlocksFrom, BlocksOn, CutOn}
+use Rattle.underway.specs.Under.{markOf, partAt, CutIs, BlocksFrom, BlocksOn}
 use Rattle.underway.specs.declared.Under.{Under}
 use Rattle.underway.specs.declared.Blocks.{Blocks}
 use Rattle.underway.proofs.Keeping.{in-piece}
@@ -21,11 +21,15 @@ use Rattle.underway.proofs.Keeping.{in-piece}
 -- the cut within a piece, before what follows
 pub record Within (lead most at number : ℕ) (full : Bool) (v p : List ℕ) : Type 0 where
   pub ahead :
-      (q : List ℕ) → countFrom (most - number) lead (partAt lead (v ++ (p ++ q))) (counted at number full) ≡ countOf most lead (partAt lead (v ++ (p ++ q)))
+      (q : List ℕ) → countFrom (most - number) lead (partAt lead (v ++ (p ++ q))) (counted at number full)
+      ≡ countOf most lead (partAt lead (v ++ (p ++ q)))
   pub few : number ≤ most
   pub near : number < most → length v ≤ 12 - lead + at
 
-pub within-first : (lead most at number : ℕ) (full : Bool) (v p : List ℕ) → CutIs lead most at number full v → Within lead most at number full v p
+pub within-first :
+    (lead most at number : ℕ) (full : Bool) (v p : List ℕ)
+    → CutIs lead most at number full v
+    → Within lead most at number full v p
 within-first lead most at number full v p k = record { ahead = λ q. k .ahead (p ++ q); few = k .few; near = k .waits }
 
 -- one block more
@@ -49,7 +53,8 @@ within-next lead most c d number v p {i} {x} w n l h e z g =
     step :
         (q : List ℕ)
         → countFrom (most - number) lead (partAt lead (v ++ (p ++ q))) (counted (c .at) number (c .full))
-        ≡ countFrom (most - (number + 1)) lead (partAt lead (v ++ (p ++ q))) (counted (c .at + 1 + lead + 4 * x) (number + 1) (c .full && not (eqb x 0)))
+        ≡ countFrom (most - (number + 1)) lead (partAt lead (v ++ (p ++ q)))
+        (counted (c .at + 1 + lead + 4 * x) (number + 1) (c .full && not (eqb x 0)))
     step q =
         let m : most - number ≡ suc (most - (number + 1)) = omega arith in
         let a = length-append v (p ++ q) in
@@ -61,7 +66,8 @@ within-next lead most c d number v p {i} {x} w n l h e z g =
         ∙ ap (byte p) (sym e)
         ∙ sym z in
         let t = lt-ltb (c .at) (length (partAt lead (v ++ (p ++ q)))) (omega arith) in
-        let f : pastCounted lead (partAt lead (v ++ (p ++ q))) (counted (c .at) number (c .full)) ≡ counted (c .at + 1 + lead + 4 * x) (number + 1) (c .full && not (eqb x 0)) =
+        let f : pastCounted lead (partAt lead (v ++ (p ++ q))) (counted (c .at) number (c .full))
+        ≡ counted (c .at + 1 + lead + 4 * x) (number + 1) (c .full && not (eqb x 0)) =
         ap (λ (b : Bool). entered b lead (byte (partAt lead (v ++ (p ++ q))) (c .at)) (counted (c .at) number (c .full))) t
         ∙ ap (λ (y : ℕ). counted (c .at + 1 + lead + 4 * y) (number + 1) (c .full && not (eqb y 0))) y in
         ap (λ (n : ℕ). countFrom n lead (partAt lead (v ++ (p ++ q))) (counted (c .at) number (c .full))) m
@@ -79,7 +85,13 @@ within-last lead most at number total full v p l w t f =
     record {
       ahead = λ q. rw (append-assoc v p q) (w .ahead q);
       few = w .few;
-      waits = λ n. omega (arith, length-append v p, t, ltb-false at total (go (ltb number most) (lt-ltb number most n) (ltb at total) (leb (length v) (12 - lead + at)) (le-leb (length v) (12 - lead + at) (w .near n)) f));
+      waits = λ n. omega (
+        arith,
+        length-append v p,
+        t,
+        ltb-false at total (go (ltb number most) (lt-ltb number most n) (ltb at total) (leb (length v) (12 - lead + at))
+            (le-leb (length v) (12 - lead + at) (w .near n)) f),
+      );
     }
   where
     go : (a : Bool) → a ≡ true → (b c : Bool) → c ≡ true → a && (b && c) ≡ false → b ≡ false

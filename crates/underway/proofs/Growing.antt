@@ -2,7 +2,7 @@
 -- Assumes nothing.
 use Prim.Native.Nat.{ℕ, _+_, _≤_, _<_}
 use native.Mathlib.Omega.{arith}
-use mathlib.Core.Path.{_≡_, refl, sym, _∙_, ap, subst}
+use mathlib.Core.Path.{_≡_, refl, sym, _∙_, subst}
 use mathlib.Core.List.{List, _++_}
 use lib.ListN.{length, length-append, List·getD-append}
 use lib.Dec.{eqb}
@@ -14,7 +14,8 @@ use Rattle.underway.specs.declared.Under.{Under}
 abbrev Cuts : Under → ℕ → List ℕ → Type 0
 Cuts u id v = CutIs (leadOf id) (mostOf id) (u .at) (u .blocks) (eqb (u .mark) 0) v
 
-module _ (u : Under) (p head : List ℕ) (r : Under) (head′ : List ℕ) {id : ℕ} (k : KeepIs (u .len) p head head′) (f : id ≡ byte head′ 0) where
+module _ (u : Under) (p head : List ℕ) (r : Under) (head′ : List ℕ) {id : ℕ} (k : KeepIs (u .len) p head head′)
+    (f : id ≡ byte head′ 0) where
   -- what holds of any kind, from what holds of this one
   grow :
       r .len ≡ u .len + length p
@@ -37,7 +38,8 @@ module _ (u : Under) (p head : List ℕ) (r : Under) (head′ : List ℕ) {id : 
             λ e m.
             subst (λ (x : ℕ). Cuts r x (v ++ p)) i
             (cut v (w .long) (subst (λ (x : ℕ). mostOf x ≡ 0 → ⊥) (sym i) e)
-            (λ g. subst (λ (x : ℕ). Cuts u x v) (sym (i ∙ first (omega (arith, g)))) (w .cut (subst (λ (x : ℕ). mostOf x ≡ 0 → ⊥) (first (omega (arith, g))) e) g))
+            (λ g. subst (λ (x : ℕ). Cuts u x v) (sym (i ∙ first (omega (arith, g))))
+            (w .cut (subst (λ (x : ℕ). mostOf x ≡ 0 → ⊥) (first (omega (arith, g))) e) g))
             m);
       }
     where

@@ -5,7 +5,7 @@ use native.Mathlib.Omega.{arith}
 use mathlib.Core.Path.{_≡_, refl, sym, _∙_, ap}
 use mathlib.Core.Bool.{Bool, true, false, _&&_}
 use mathlib.Core.List.{List, _++_, append-assoc}
-use lib.ListN.{length, getD, drop, length-drop, length-append}
+use lib.ListN.{length, drop, length-drop, length-append}
 use lib.Seq.{getD-drop}
 use lib.Dec.{eqb, leb}
 use borrow.Author.Tests.{leb-true, leb-false}
@@ -13,7 +13,7 @@ use Rattle.format.specs.Slots.{byte, Bytes}
 use Rattle.format.specs.Utf16.{agrees, units, paired}
 use Rattle.format.proofs.Slots.{bytes-drop}
 use Rattle.rules.proofs.Units.{one-unit}
-use Rattle.underway.specs.Under.{markOf, isGood, isHigh, leftFrom, wholeUnits, TextIs, UnitsFrom, UnitsOn, TextOn}
+use Rattle.underway.specs.Under.{markOf, isGood, isHigh, leftFrom, wholeUnits, TextIs, UnitsFrom, UnitsOn}
 use Rattle.underway.specs.declared.Under.{Under}
 use Rattle.underway.specs.declared.Units.{Units}
 use Rattle.underway.proofs.Keeping.{in-piece}
@@ -38,7 +38,8 @@ pub unit-next :
     → length v ≤ 7 + 2 * k
     → i < length p
     → x ≡ byte p i
-    → leftFrom (k + 1) (good && agrees high (eqb (x / 4) 55)) (eqb (x / 4) 54) (drop 6 (v ++ (p ++ q))) ≡ leftFrom k good high (drop 6 (v ++ (p ++ q)))
+    → leftFrom (k + 1) (good && agrees high (eqb (x / 4) 55)) (eqb (x / 4) 54) (drop 6 (v ++ (p ++ q)))
+    ≡ leftFrom k good high (drop 6 (v ++ (p ++ q)))
 unit-next v p q k good high {i} {x} small e a l z =
     let w = v ++ (p ++ q) in
     let n = length-append v (p ++ q) in
@@ -68,7 +69,10 @@ text-grows u p t m f o v e h l q small =
     first true b = let d = leb-true 6 (u .len) b in omega (arith, f .late d .0)
     first false b = let d = leb-false 6 (u .len) b in omega (arith, f .early d .0)
 
-    before : (b : Bool) → leb 6 (u .len) ≡ b → leftFrom (t .whole) (t .good) (t .high) (drop 6 (v ++ (p ++ q))) ≡ paired (units (drop 6 (v ++ (p ++ q))))
+    before :
+        (b : Bool)
+        → leb 6 (u .len) ≡ b
+        → leftFrom (t .whole) (t .good) (t .high) (drop 6 (v ++ (p ++ q))) ≡ paired (units (drop 6 (v ++ (p ++ q))))
     before true b =
         let d = leb-true 6 (u .len) b in
         let w : t .whole ≡ wholeUnits v = f .late d .0 ∙ ap (λ (i : ℕ). (i - 6) / 2) e in

@@ -8,7 +8,7 @@ use lib.ListN.{length, drop}
 use lib.Dec.{eqb, leb}
 use Rattle.format.specs.Slots.{byte, Bytes}
 use Rattle.format.specs.Utf16.{units, pairedAfter, paired}
-use Rattle.blocks.proofs.Counting.{Counted, counted, countFrom, countOf}
+use Rattle.blocks.proofs.Counting.{counted, countFrom, countOf}
 use Rattle.underway.specs.declared.Under.{Under}
 use Rattle.underway.specs.declared.Units.{Units}
 use Rattle.underway.specs.declared.Blocks.{Blocks}
@@ -68,7 +68,9 @@ partAt lead v = drop (12 - lead) v
 
 -- whatever follows, the cut goes on from where it is as from the start; and it waits for an ENTRIES byte, or has all blocks
 pub record CutIs (lead most at number : ℕ) (full : Bool) (v : List ℕ) : Type 0 where
-  pub ahead : (q : List ℕ) → countFrom (most - number) lead (partAt lead (v ++ q)) (counted at number full) ≡ countOf most lead (partAt lead (v ++ q))
+  pub ahead :
+      (q : List ℕ)
+      → countFrom (most - number) lead (partAt lead (v ++ q)) (counted at number full) ≡ countOf most lead (partAt lead (v ++ q))
   pub few : number ≤ most
   pub waits : number < most → length v ≤ 12 - lead + at
 

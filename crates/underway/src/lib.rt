@@ -4,9 +4,9 @@ ghost use mathlib.Core.Path.{_≡_};
 ghost use Prim.Native.Nat.{_+_, _*_, _<_, _≤_};
 ghost use lib.ListN.{length};
 ghost use lib.Dec.{eqb};
-ghost use Rattle.underway.specs.Under.{markOf, mostOf, leadOf, KeepIs, UnitsFrom, UnitsOn, TextOn, BlocksFrom, BlocksOn, CutOn, MoreIs};
+ghost use Rattle.underway.specs.Under.{markOf, mostOf, leadOf, KeepIs, UnitsFrom, UnitsOn, TextOn, BlocksFrom, BlocksOn, CutOn};
+ghost use Rattle.underway.specs.Under.{MoreIs};
 use blocks::Cut;
-use words::wide;
 
 // The number of bytes; of blocks where the next ENTRIES byte would stand in the part, and how many there are; and a mark. Of blocks it
 // is 0 where each has a pair. Of a text it is even where the whole units are good, and 2 or more where the last is a high surrogate.

@@ -1,10 +1,9 @@
 -- `ahead` meets its contract: an element is under way, or whole ones come first.
 -- Assumes nothing.
 use native.Mathlib.Omega.{arith}
-use mathlib.Core.Path.{_≡_, refl, sym, _∙_, ap}
+use mathlib.Core.Path.{refl}
 use Rattle.stream.specs.Running.{going}
 use Rattle.passing.proofs.Resuming.{whole-turn}
-use borrow.Author.Needs.{needs}
 use Rattle.passing.proofs.ahead.Statement.{statement}
 use Rattle.passing.proofs.ahead.Tie as tie
 
@@ -17,7 +16,11 @@ returns c =
     }
 
 front-requires : tie.Need-front-requires
-front-requires c κs = let q = c .before .before .before .before .before .before .before .before .before .before .before .pre in (omega (arith, q .0), q .2)
+front-requires c κs = let q = c .before .before .before .before .before .before .before .before .before .before .before .pre in (
+  omega
+      (arith, q .0),
+  q .2,
+)
 
 returns-2 : tie.Need-returns-2
 returns-2 c =

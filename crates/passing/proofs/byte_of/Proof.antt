@@ -1,7 +1,6 @@
 -- `byte_of` meets its contract, by where the byte stands.
 -- Assumes nothing.
 use native.Mathlib.Omega.{arith}
-use mathlib.Core.Path.{_≡_, refl, sym, _∙_, ap}
 use Rattle.passing.proofs.Sharing.{kept-byte, piece-byte}
 use borrow.Author.Needs.{needs}
 use Rattle.passing.proofs.byte_of.Statement.{statement}

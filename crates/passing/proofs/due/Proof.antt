@@ -1,9 +1,7 @@
 -- `due` meets its contract: the element waits, its length is under 3, or so many bytes complete it.
 -- Assumes nothing.
 use native.Mathlib.Omega.{arith}
-use mathlib.Core.Path.{_≡_, refl, sym, _∙_, ap}
-use Prim.Native.Nat.{ℕ, _+_, _*_}
-use lib.ListN.{length}
+use mathlib.Core.Path.{refl, _∙_}
 use Rattle.passing.proofs.Sharing.{told-is, all-short, all-wait, due-whole, due-late}
 use borrow.Author.Needs.{needs}
 use Rattle.passing.proofs.due.Statement.{statement}
@@ -25,7 +23,8 @@ returns-2 c =
       some = λ m. m;
       shares =
           λ v h e w m.
-          all-wait v _ (told-is v _ (a .before .before .wide .ensures .0 ∙ b .byte-of .ensures .is v h e) (a .wide2 .ensures .0 ∙ a .before .byte-of2 .ensures .is v h e))
+          all-wait v _ (told-is v _ (a .before .before .wide .ensures .0 ∙ b .byte-of .ensures .is v h e)
+          (a .wide2 .ensures .0 ∙ a .before .byte-of2 .ensures .is v h e))
           (omega (arith, l, e)) (omega (arith, t, e));
     }
 
@@ -41,7 +40,8 @@ returns-3 c =
       some = λ m. m;
       shares =
           λ v h e w m.
-          due-late v _ (told-is v _ (a .before .before .wide .ensures .0 ∙ b .byte-of .ensures .is v h e) (a .wide2 .ensures .0 ∙ a .before .byte-of2 .ensures .is v h e)) _
+          due-late v _ (told-is v _ (a .before .before .wide .ensures .0 ∙ b .byte-of .ensures .is v h e)
+          (a .wide2 .ensures .0 ∙ a .before .byte-of2 .ensures .is v h e)) _
           (omega (arith, n, e)) (omega (arith, l, e)) w (omega (arith, t, e));
     }
 
@@ -56,7 +56,8 @@ returns-4 c =
       some = λ _. omega (arith, c .if3 .left);
       shares =
           λ v h e w m.
-          due-whole v _ (told-is v _ (a .before .before .wide .ensures .0 ∙ b .byte-of .ensures .is v h e) (a .wide2 .ensures .0 ∙ a .before .byte-of2 .ensures .is v h e)) _
+          due-whole v _ (told-is v _ (a .before .before .wide .ensures .0 ∙ b .byte-of .ensures .is v h e)
+          (a .wide2 .ensures .0 ∙ a .before .byte-of2 .ensures .is v h e)) _
           (omega (arith, n, e)) (omega (arith, l, e)) w (omega (arith, e));
     }
 

@@ -1,7 +1,7 @@
 -- `pass_on` meets its contract: turn by turn the rest of the piece leads where the whole piece leads.
 -- Assumes nothing.
 use native.Mathlib.Omega.{arith}
-use mathlib.Core.Path.{_≡_, refl, sym, _∙_, ap}
+use mathlib.Core.Path.{refl}
 use Prim.Native.Nat.{ℕ, _-_}
 use mathlib.Core.List.{List}
 use lib.ListN.{length, drop, length-drop}
@@ -103,7 +103,8 @@ loop-again c =
 returns : tie.Need-returns Inv-loop μ-loop
 returns c =
     record {
-      goes = λ d before at u m small o. ended _ _ _ _ _ _ _ _ _ (c .before .before .loop .inv .1 d before at u small o) (turn-test _ _ _ (c .if1 .left));
+      goes = λ d before at u m small o. ended _ _ _ _ _ _ _ _ _ (c .before .before .loop .inv .1 d before at u small o)
+          (turn-test _ _ _ (c .if1 .left));
     }
 
 pub pass-on-spec : {M : Type 1} → statement M

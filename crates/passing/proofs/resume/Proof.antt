@@ -1,9 +1,9 @@
 -- `resume` meets its contract: its length is under 3, it waits, or it is whole.
 -- Assumes nothing.
 use native.Mathlib.Omega.{arith}
-use mathlib.Core.Path.{_≡_, refl, sym, _∙_, ap}
-use Prim.Native.Nat.{ℕ, _-_}
-use lib.ListN.{length, take, drop}
+use mathlib.Core.Path.{_≡_, refl, ap}
+use Prim.Native.Nat.{_-_}
+use lib.ListN.{take}
 use lib.Seq.{length-take-le}
 use Rattle.underway.specs.declared.Under.{Under}
 use denote.Ref.{now}
@@ -18,11 +18,18 @@ returns c =
     let p = c .before .before .before .before .before .before .pre in
     let b = c .broken .ensures in
     record {
-      onto = record { low = rw (b .4) (p .2); cut = omega (arith, b .3); within = omega arith; ends = λ _. omega (arith, b .1, b .2, p .0) };
+      onto = record {
+        low = rw (b .4) (p .2);
+        cut = omega (arith, b .3);
+        within = omega arith;
+        ends = λ _. omega
+            (arith, b .1, b .2, p .0);
+      };
       some = λ m. m;
       goes =
           λ d before v m small k w e g.
-          resume-low _ d before _ v _ _ _ _ _ _ _ m small k w e g _ _ _ (c .before .if1 .taken) (y .shares v (k .held) (k .long) w m) (b .0) (b .1);
+          resume-low _ d before _ v _ _ _ _ _ _ _ m small k w e g _ _ _ (c .before .if1 .taken) (y .shares v (k .held) (k .long) w m)
+          (b .0) (b .1);
     }
 
 returns-2 : tie.Need-returns-2
@@ -46,7 +53,8 @@ returns-2 c =
       some = y .ensures .some;
       goes =
           λ d before v m small k w e g.
-          resume-waits _ d before _ v _ _ _ _ _ _ _ m small k w e g _ _ _ _ _ (n - 0) (y .ensures .shares v (k .held) (k .long) w m) (x .more .ensures) z (x .before .before .before .if1 .left) (c .before .if2 .taken) refl (b .0) (b .1) (b .2) (b .3);
+          resume-waits _ d before _ v _ _ _ _ _ _ _ m small k w e g _ _ _ _ _ (n - 0) (y .ensures .shares v (k .held) (k .long) w m)
+          (x .more .ensures) z (x .before .before .before .if1 .left) (c .before .if2 .taken) refl (b .0) (b .1) (b .2) (b .3);
     }
 
 returns-3 : tie.Need-returns-3
@@ -70,7 +78,9 @@ returns-3 c =
       some = y .ensures .some;
       goes =
           λ d before v m small k w e g.
-          resume-whole _ d before _ v _ _ _ _ _ _ _ m small k w e g _ _ _ _ _ _ _ _ (n - 0) (y .ensures .shares v (k .held) (k .long) w m) (x .more .ensures) z (c .before .before .before .before .before .before .before .before .if2 .left) (x .before .before .before .if1 .left) (c .close .ensures) refl;
+          resume-whole _ d before _ v _ _ _ _ _ _ _ m small k w e g _ _ _ _ _ _ _ _ (n - 0) (y .ensures .shares v (k .held) (k .long) w m)
+          (x .more .ensures) z (c .before .before .before .before .before .before .before .before .if2 .left)
+          (x .before .before .before .if1 .left) (c .close .ensures) refl;
     }
 
 pub resume-spec : {M : Type 1} → statement M

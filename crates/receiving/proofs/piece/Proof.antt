@@ -32,7 +32,8 @@ returns-4 c =
     let p = now (s .before .args .p) in
     let count = number (now (s .before .args .n)) 2 in
     let w = single-test (length p) count (t .if4 .taken) in
-    piece-goes _ p (o .if1 .left) _ _ (y .if2 .left) (x .if3 .left) (one-byte p (4097 - count) (w .0) (omega (arith, y .if2 .left))) (λ i. omega (arith, s .shared-slice-known .given i))
+    piece-goes _ p (o .if1 .left) _ _ (y .if2 .left) (x .if3 .left) (one-byte p (4097 - count) (w .0) (omega (arith, y .if2 .left)))
+    (λ i. omega (arith, s .shared-slice-known .given i))
     (grows-single _ _ _ _ _ _ _ _ _ (o .if1 .left) (w .1) (y .if2 .left) (b .byte .ensures .yes (c .if5 .taken)))
 
 receive-requires : tie.Need-receive-requires
@@ -57,7 +58,8 @@ returns-5 c =
     let p = now (s .before .args .p) in
     let count = number (now (s .before .args .n)) 2 in
     let w = single-test (length p) count (t .if4 .taken) in
-    piece-goes _ p (o .if1 .left) _ _ (y .if2 .left) (x .if3 .left) (cut-to p (4097 - count) 1 (omega (arith, y .if2 .left)) (λ _. sym (w .0)))
+    piece-goes _ p (o .if1 .left) _ _ (y .if2 .left) (x .if3 .left)
+    (cut-to p (4097 - count) 1 (omega (arith, y .if2 .left)) (λ _. sym (w .0)))
     (λ i. omega (arith, s .shared-slice-known .given i)) (rw (n .0, n .1) at (c .receive .ensures))
 
 returns-6 : tie.Need-returns-6
@@ -66,7 +68,8 @@ returns-6 c =
     let t = k .before .before in
     let s = t .before .before .before .before .before in
     piece-goes _ (now (s .before .args .p)) (t .before .before .before .if1 .left) _ _ (t .before .if2 .left) (t .if3 .left)
-    (cut-to (now (s .before .args .p)) _ _ (k .shorter .ensures .1) (k .shorter .ensures .2)) (λ i. omega (arith, s .shared-slice-known .given i)) (c .receive2 .ensures)
+    (cut-to (now (s .before .args .p)) _ _ (k .shorter .ensures .1) (k .shorter .ensures .2))
+    (λ i. omega (arith, s .shared-slice-known .given i)) (c .receive2 .ensures)
 
 pub piece-spec : {M : Type 1} → statement M
 piece-spec =

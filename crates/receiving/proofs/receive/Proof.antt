@@ -25,7 +25,8 @@ returns-3 c =
     let l = r .before .before .before in
     let s = l .before .before in
     let t = s .before in
-    grows-on _ _ _ _ _ _ _ _ _ _ _ _ _ _ _ _ _ _ (t .if2 .left) (t .before .before .before .before .before .before .pre .1) (s .settings-of .ensures)
+    grows-on _ _ _ _ _ _ _ _ _ _ _ _ _ _ _ _ _ _ (t .if2 .left) (t .before .before .before .before .before .before .pre .1)
+    (s .settings-of .ensures)
     (l .lead .ensures) (r .ready .ensures) refl (a .advance .ensures) (c .put2 .ensures)
 
 pub receive-spec : {M : Type 1} → statement M

@@ -1,7 +1,6 @@
 -- `shorter` meets its contract, by the test.
 -- Assumes nothing.
 use Rattle.receiving.proofs.Calls.{shorter-one, shorter-other}
-use borrow.Author.Needs.{needs}
 use Rattle.receiving.proofs.shorter.Statement.{statement}
 use Rattle.receiving.proofs.shorter.Tie as tie
 

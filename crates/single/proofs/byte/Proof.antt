@@ -27,7 +27,8 @@ returns-3 c =
       yes =
           λ _.
           rw (c .put .ensures)
-          (longer-on _ _ _ _ _ _ (u .before .before .if1 .left) (u .under-of .ensures) (not-false _ (b .if2 .left)) (s .stays .ensures) (m .one-more .ensures));
+          (longer-on _ _ _ _ _ _ (u .before .before .if1 .left) (u .under-of .ensures) (not-false _ (b .if2 .left)) (s .stays .ensures)
+          (m .one-more .ensures));
       no = λ e. absurd (false≢true (sym e));
     }
 

@@ -10,7 +10,10 @@ use Rattle.single.proofs.entry_on.Tie as tie
 returns : tie.Need-returns
 returns c =
     let e = c .longer .ensures in
-    record { on = λ f. cut-before _ _ _ _ _ (c .before .before .before .pre .0) (e .0) (omega (arith, e .1, f .cut)) (c .before .if1 .taken) }
+    record {
+      on = λ f. cut-before _ _ _ _ _ (c .before .before .before .pre .0) (e .0) (omega (arith, e .1, f .cut))
+          (c .before .if1 .taken);
+    }
 
 returns-2 : tie.Need-returns-2
 returns-2 c =
@@ -21,7 +24,8 @@ returns-2 c =
     record {
       on =
           λ f.
-          cut-first _ _ _ _ _ (p .0) (e .0) (b .enter .result) (e .1) (omega (arith, b .enter .ensures .1, p .0)) (e .3) _ refl refl (b .enter .ensures .0) (e .2) (p .1) (t .if2 .taken);
+          cut-first _ _ _ _ _ (p .0) (e .0) (b .enter .result) (e .1) (omega (arith, b .enter .ensures .1, p .0)) (e .3) _ refl refl
+          (b .enter .ensures .0) (e .2) (p .1) (t .if2 .taken);
     }
 
 returns-3 : tie.Need-returns-3
@@ -59,7 +63,8 @@ returns-5 c =
     record {
       on =
           λ f.
-          cut-next _ _ _ _ _ (p .0) (e .0) (b .enter2 .result) (e .1) (omega (arith, b .enter2 .ensures .1, f .cut, f .room, q, p .0)) (e .3) _ refl refl (b .enter2 .ensures .0) (e .2) (t .if4 .left) (omega arith) q;
+          cut-next _ _ _ _ _ (p .0) (e .0) (b .enter2 .result) (e .1) (omega (arith, b .enter2 .ensures .1, f .cut, f .room, q, p .0))
+          (e .3) _ refl refl (b .enter2 .ensures .0) (e .2) (t .if4 .left) (omega arith) q;
     }
 
 pub entry-on-spec : {M : Type 1} → statement M

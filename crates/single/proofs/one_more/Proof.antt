@@ -9,7 +9,10 @@ use Rattle.single.proofs.one_more.Tie as tie
 
 returns : tie.Need-returns
 returns c =
-    record { on = λ f. grow-text _ _ _ _ _ (c .before .before .before .keep-one .ensures) refl (c .before .if1 .taken) (c .unit-on .ensures .on f) }
+    record {
+      on = λ f. grow-text _ _ _ _ _ (c .before .before .before .keep-one .ensures) refl (c .before .if1 .taken)
+          (c .unit-on .ensures .on f);
+    }
 
 returns-2 : tie.Need-returns-2
 returns-2 c =
@@ -19,7 +22,8 @@ returns-2 c =
     record {
       on =
           λ f.
-          grow-plain _ _ _ _ _ (m .before .before .before .keep-one .ensures) refl (m .before .if1 .left) (sym (m .most-of .ensures .0) ∙ t .if2 .taken) (e .0) (e .1);
+          grow-plain _ _ _ _ _ (m .before .before .before .keep-one .ensures) refl (m .before .if1 .left)
+          (sym (m .most-of .ensures .0) ∙ t .if2 .taken) (e .0) (e .1);
     }
 
 entry-on-requires : tie.Need-entry-on-requires
@@ -34,7 +38,8 @@ returns-3 c =
     record {
       on =
           λ f.
-          grow-cut _ _ _ _ _ (m .before .before .before .keep-one .ensures) refl (m .before .if1 .left) (c .before .lead-of .ensures .0) (m .most-of .ensures .0) (c .entry-on .ensures .on f);
+          grow-cut _ _ _ _ _ (m .before .before .before .keep-one .ensures) refl (m .before .if1 .left) (c .before .lead-of .ensures .0)
+          (m .most-of .ensures .0) (c .entry-on .ensures .on f);
     }
 
 pub one-more-spec : {M : Type 1} → statement M

@@ -22,7 +22,8 @@ returns-4 c =
     let h = a .before .before in
     let l = h .before .if1 .left in
     let n = h .if2 .left in
-    stays-later _ _ _ (omega arith) (a .wide3 .ensures .0) (b .wide4 .ensures .0) (a .wide3 .ensures .1) (b .wide4 .ensures .1) (c .if3 .left)
+    stays-later _ _ _ (omega arith) (a .wide3 .ensures .0) (b .wide4 .ensures .0) (a .wide3 .ensures .1) (b .wide4 .ensures .1)
+    (c .if3 .left)
 
 pub stays-spec : {M : Type 1} → statement M
 stays-spec =

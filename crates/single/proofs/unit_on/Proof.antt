@@ -13,7 +13,10 @@ returns c = record { on = λ f. text-first _ _ _ refl (omega arith) (c .before .
 returns-2 : tie.Need-returns-2
 returns-2 c =
     let e = c .longer .ensures in
-    record { on = λ f. text-half _ _ _ (e .0) (omega (arith, e .1, f .cut)) (c .before .before .before .if1 .left) (c .before .if2 .taken) (e .3) }
+    record {
+      on = λ f. text-half _ _ _ (e .0) (omega (arith, e .1, f .cut)) (c .before .before .before .if1 .left) (c .before .if2 .taken)
+          (e .3);
+    }
 
 returns-3 : tie.Need-returns-3
 returns-3 c =

@@ -1,9 +1,8 @@
 -- `chip_of` meets its contract, by the bit.
 -- Assumes nothing.
-use mathlib.Core.Path.{_≡_, refl, sym, _∙_, ap}
+use mathlib.Core.Path.{sym, ap}
 use borrow.Author.Tests.{eq-eqb, ne-eqb}
-use Rattle.states.specs.Numbers.{pickChip, pickRules}
-use borrow.Author.Needs.{needs}
+use Rattle.states.specs.Numbers.{pickChip}
 use Rattle.states.proofs.chip_of.Statement.{statement}
 use Rattle.states.proofs.chip_of.Tie as tie
 

@@ -1,7 +1,7 @@
 -- `put` meets its contract: a number a field, and sets of pins are words of 32 bits.
 -- Assumes nothing.
 use native.Mathlib.Omega.{arith}
-use mathlib.Core.Path.{_≡_, refl}
+use mathlib.Core.Path.{refl}
 use borrow.Author.Needs.{needs}
 use Rattle.states.proofs.Settled.{way-back}
 use Rattle.states.proofs.put.Statement.{statement}

@@ -1,9 +1,8 @@
 -- `rules_of` meets its contract, by the bit.
 -- Assumes nothing.
-use mathlib.Core.Path.{_≡_, refl, sym, _∙_, ap}
+use mathlib.Core.Path.{sym, ap}
 use borrow.Author.Tests.{eq-eqb, ne-eqb}
-use Rattle.states.specs.Numbers.{pickChip, pickRules}
-use borrow.Author.Needs.{needs}
+use Rattle.states.specs.Numbers.{pickRules}
 use Rattle.states.proofs.rules_of.Statement.{statement}
 use Rattle.states.proofs.rules_of.Tie as tie
 

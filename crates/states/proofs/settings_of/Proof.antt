@@ -1,8 +1,6 @@
 -- `settings_of` meets its contract: the chip and the rules that the number says.
 -- Assumes nothing.
-use mathlib.Core.Path.{_≡_, refl, sym, _∙_, ap}
-use borrow.Author.Tests.{eq-eqb, ne-eqb}
-use Rattle.states.specs.Numbers.{pickChip, pickRules}
+use mathlib.Core.Path.{refl}
 use borrow.Author.Needs.{needs}
 use Rattle.states.proofs.settings_of.Statement.{statement}
 use Rattle.states.proofs.settings_of.Tie as tie

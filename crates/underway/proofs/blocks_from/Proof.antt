@@ -1,8 +1,7 @@
 -- `blocks_from` meets its contract, by whether a block has begun.
 -- Assumes nothing.
 use native.Mathlib.Omega.{arith}
-use mathlib.Core.Path.{_≡_, refl}
-use borrow.Author.Needs.{needs}
+use mathlib.Core.Path.{refl}
 use Rattle.underway.proofs.blocks_from.Statement.{statement}
 use Rattle.underway.proofs.blocks_from.Tie as tie
 

@@ -1,16 +1,13 @@
 -- `blocks_on` meets its contract: whatever follows, the cut goes on from where it is as from the start.
 -- Assumes nothing.
-use Prim.Native.Nat.{ℕ, _+_, _-_, _≤_, _<_}
+use Prim.Native.Nat.{ℕ, _+_, _-_, _≤_}
 use native.Mathlib.Omega.{arith}
-use mathlib.Core.Path.{_≡_, refl, ap, sym, _∙_}
-use mathlib.Core.Bool.{and-eq-true-iff}
+use mathlib.Core.Path.{_≡_, refl}
 use mathlib.Core.List.{List}
 use lib.ListN.{length}
 use denote.Ref.{now}
-use borrow.Author.Tests.{ltb-true, leb-true}
 use Rattle.underway.specs.Under.{CutIs}
 use Rattle.underway.proofs.Block.{Within, within-first, within-next, within-last, three-tests}
-use borrow.Author.Needs.{needs}
 use Rattle.underway.proofs.blocks_on.Statement.{statement}
 use Rattle.underway.proofs.blocks_on.Tie as tie
 
@@ -47,7 +44,8 @@ sub-enter c =
     let l = c .before .before .before .before in
     let a = l .before .before .args in
     let k = l .loop in
-    let t = three-tests (k .n) (a .most) (k .c .at) (a .had + length (now (a .p)) - (12 - a .lead)) (a .had) (12 - a .lead + k .c .at) (c .before .if1 .taken) in
+    let t = three-tests (k .n) (a .most) (k .c .at) (a .had + length (now (a .p)) - (12 - a .lead)) (a .had) (12 - a .lead + k .c .at)
+    (c .before .if1 .taken) in
     t .2
 
 shared-slice-read-enter : tie.Need-shared-slice-read-enter Inv-loop μ-loop
@@ -55,7 +53,8 @@ shared-slice-read-enter c =
     let l = c .before .before .before .before .before in
     let a = l .before .before .args in
     let k = l .loop in
-    let t = three-tests (k .n) (a .most) (k .c .at) (a .had + length (now (a .p)) - (12 - a .lead)) (a .had) (12 - a .lead + k .c .at) (c .before .before .if1 .taken) in
+    let t = three-tests (k .n) (a .most) (k .c .at) (a .had + length (now (a .p)) - (12 - a .lead)) (a .had) (12 - a .lead + k .c .at)
+    (c .before .before .if1 .taken) in
     omega (arith, t .1, t .2)
 
 enter-requires : tie.Need-enter-requires Inv-loop μ-loop
@@ -68,7 +67,8 @@ add-n c =
     let l = c .before .before .before .before .before .before in
     let a = l .before .before .args in
     let k = l .loop in
-    let t = three-tests (k .n) (a .most) (k .c .at) (a .had + length (now (a .p)) - (12 - a .lead)) (a .had) (12 - a .lead + k .c .at) (c .before .before .before .if1 .taken) in
+    let t = three-tests (k .n) (a .most) (k .c .at) (a .had + length (now (a .p)) - (12 - a .lead)) (a .had) (12 - a .lead + k .c .at)
+    (c .before .before .before .if1 .taken) in
     omega (arith, t .0, l .before .before .pre .1)
 
 loop-less : tie.Need-loop-less Inv-loop μ-loop
@@ -76,7 +76,8 @@ loop-less c =
     let l = c .before .before .before .before .before .before in
     let a = l .before .before .args in
     let k = l .loop in
-    let t = three-tests (k .n) (a .most) (k .c .at) (a .had + length (now (a .p)) - (12 - a .lead)) (a .had) (12 - a .lead + k .c .at) (c .before .before .before .if1 .taken) in
+    let t = three-tests (k .n) (a .most) (k .c .at) (a .had + length (now (a .p)) - (12 - a .lead)) (a .had) (12 - a .lead + k .c .at)
+    (c .before .before .before .if1 .taken) in
     omega (arith, t .0)
 
 loop-again : tie.Need-loop-again Inv-loop μ-loop
@@ -84,13 +85,15 @@ loop-again c =
     let l = c .before .before .before .before .before .before in
     let a = l .before .before .args in
     let k = l .loop in
-    let t = three-tests (k .n) (a .most) (k .c .at) (a .had + length (now (a .p)) - (12 - a .lead)) (a .had) (12 - a .lead + k .c .at) (c .before .before .before .if1 .taken) in
+    let t = three-tests (k .n) (a .most) (k .c .at) (a .had + length (now (a .p)) - (12 - a .lead)) (a .had) (12 - a .lead + k .c .at)
+    (c .before .before .before .if1 .taken) in
     let p = l .before .before .pre in (
       refl,
       refl,
       omega (arith, c .enter .ensures .1, t .1, p .4),
       λ v e k.
-          within-next _ _ _ _ _ v _ (l .loop .inv .3 v e k) (t .0) (p .0) (omega (arith, t .1, e)) (omega (arith, e)) refl (c .enter .ensures .0),
+          within-next _ _ _ _ _ v _ (l .loop .inv .3 v e k) (t .0) (p .0) (omega (arith, t .1, e)) (omega (arith, e)) refl
+          (c .enter .ensures .0),
     )
 
 returns : tie.Need-returns Inv-loop μ-loop

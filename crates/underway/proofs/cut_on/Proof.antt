@@ -1,8 +1,8 @@
 -- `cut_on` meets its contract, by whether a block has begun.
 -- Assumes nothing.
 use native.Mathlib.Omega.{arith}
-use mathlib.Core.Path.{_≡_, refl}
-use lib.ListN.{length, length-append}
+use mathlib.Core.Path.{refl}
+use lib.ListN.{length-append}
 use denote.Ref.{now}
 use Rattle.underway.proofs.Block.{blocks-grow}
 use borrow.Author.Needs.{needs}
@@ -31,7 +31,8 @@ returns-2 c =
       low = c .before .blocks-on .ensures .low;
       on =
           λ v e h l.
-          blocks-grow _ _ _ _ _ _ (c .before .before .before .before .before .before .pre .0) (c .before .before .blocks-from .ensures) (c .before .blocks-on .ensures) (c .mark-of .ensures) v e h;
+          blocks-grow _ _ _ _ _ _ (c .before .before .before .before .before .before .pre .0) (c .before .before .blocks-from .ensures)
+          (c .before .blocks-on .ensures) (c .mark-of .ensures) v e h;
     }
 
 pub cut-on-spec : {M : Type 1} → statement M

@@ -2,7 +2,7 @@
 -- Assumes nothing.
 use Prim.Native.Nat.{ℕ, _+_, _-_, _≤_, _<_}
 use native.Mathlib.Omega.{arith}
-use mathlib.Core.Path.{_≡_, refl, ap}
+use mathlib.Core.Path.{_≡_, ap}
 use mathlib.Core.Bool.{true, _&&_, and-eq-true-iff}
 use mathlib.Core.List.{List, _++_, append-nil}
 use lib.ListN.{length, take}
@@ -11,7 +11,6 @@ use lib.Dec.{ltb}
 use borrow.Author.Tests.{ltb-true}
 use Rattle.underway.specs.Under.{Holds}
 use Rattle.underway.proofs.Keeping.{keep-next, keep-all}
-use borrow.Author.Needs.{needs}
 use Rattle.underway.proofs.keep.Statement.{statement}
 use Rattle.underway.proofs.keep.Tie as tie
 
@@ -68,7 +67,10 @@ loop-again c =
 returns : tie.Need-returns Inv-loop μ-loop
 returns c =
     let l = c .before in
-    record { keeps = λ v e h. keep-all _ v _ (l .loop .j) (l .loop .inv .1 v e h) (ap (λ (n : ℕ). n + l .loop .j) e) (l .loop .inv .0) (c .loop-test .left) }
+    record {
+      keeps = λ v e h. keep-all _ v _ (l .loop .j) (l .loop .inv .1 v e h) (ap (λ (n : ℕ). n + l .loop .j) e) (l .loop .inv .0)
+          (c .loop-test .left);
+    }
 
 pub keep-spec : {M : Type 1} → statement M
 keep-spec =

@@ -1,10 +1,9 @@
 -- `lead_of` meets its contract, by the identifier.
 -- Assumes nothing.
 use native.Mathlib.Omega.{arith}
-use mathlib.Core.Path.{_≡_, refl}
+use mathlib.Core.Path.{refl}
 use borrow.Author.Tests.{eq-eqb, ne-eqb}
 use mathlib.Core.Path.{sym}
-use borrow.Author.Needs.{needs}
 use Rattle.underway.proofs.lead_of.Statement.{statement}
 use Rattle.underway.proofs.lead_of.Tie as tie
 

@@ -1,7 +1,6 @@
 -- `more` meets its contract, by the kind.
 -- Assumes nothing.
-use native.Mathlib.Omega.{arith}
-use mathlib.Core.Path.{_≡_, refl, sym, _∙_}
+use mathlib.Core.Path.{refl, sym, _∙_}
 use Rattle.underway.proofs.Growing.{grow-text, grow-cut, grow-plain}
 use borrow.Author.Needs.{needs}
 use Rattle.underway.proofs.more.Statement.{statement}
@@ -13,12 +12,14 @@ returns c = grow-text _ _ _ _ _ (c .before .before .before .keep .ensures) refl 
 returns-2 : tie.Need-returns-2
 returns-2 c =
     let m = c .before .before .before in
-    grow-cut _ _ _ _ _ (m .before .before .before .keep .ensures) refl (m .before .if1 .left) (c .before .lead-of .ensures .0) (m .most-of .ensures .0) (c .cut-on .ensures)
+    grow-cut _ _ _ _ _ (m .before .before .before .keep .ensures) refl (m .before .if1 .left) (c .before .lead-of .ensures .0)
+    (m .most-of .ensures .0) (c .cut-on .ensures)
 
 returns-3 : tie.Need-returns-3
 returns-3 c =
     let m = c .before .before .before in
-    grow-plain _ _ _ _ _ (m .before .before .before .keep .ensures) refl (m .before .if1 .left) (sym (m .most-of .ensures .0) ∙ c .before .before .if2 .left) (c .so-many .ensures .0) (c .so-many .ensures .1)
+    grow-plain _ _ _ _ _ (m .before .before .before .keep .ensures) refl (m .before .if1 .left)
+    (sym (m .most-of .ensures .0) ∙ c .before .before .if2 .left) (c .so-many .ensures .0) (c .so-many .ensures .1)
 
 pub more-spec : {M : Type 1} → statement M
 more-spec =

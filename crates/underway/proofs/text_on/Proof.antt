@@ -1,8 +1,8 @@
 -- `text_on` meets its contract, by whether the text has begun.
 -- Assumes nothing.
 use native.Mathlib.Omega.{arith}
-use mathlib.Core.Path.{_≡_, refl}
-use lib.ListN.{length, length-append}
+use mathlib.Core.Path.{refl}
+use lib.ListN.{length-append}
 use denote.Ref.{now}
 use Rattle.underway.proofs.Unit.{text-grows}
 use borrow.Author.Needs.{needs}

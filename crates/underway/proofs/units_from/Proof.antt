@@ -1,8 +1,7 @@
 -- `units_from` meets its contract, by whether the text has begun.
 -- Assumes nothing.
 use native.Mathlib.Omega.{arith}
-use mathlib.Core.Path.{_≡_, refl}
-use borrow.Author.Needs.{needs}
+use mathlib.Core.Path.{refl}
 use Rattle.underway.proofs.units_from.Statement.{statement}
 use Rattle.underway.proofs.units_from.Tie as tie
 

@@ -2,7 +2,7 @@
 -- Assumes nothing.
 use Prim.Native.Nat.{ℕ, _+_, _-_, _*_, _≤_}
 use native.Mathlib.Omega.{arith}
-use mathlib.Core.Path.{_≡_, refl, sym, _∙_, ap}
+use mathlib.Core.Path.{_≡_, refl, _∙_, ap}
 use mathlib.Core.List.{List, _++_}
 use lib.ListN.{length, drop}
 use lib.Dec.{eqb}
@@ -18,7 +18,8 @@ abbrev Inv-loop : tie.InvT-loop
 Inv-loop had p end good₀ last₀ k₀ good last k =
     (k₀ ≤ k)
     × (k₀ ≤ end → k ≤ end)
-    × ((v q : List ℕ) → had ≡ length v → Bytes (v ++ (p ++ q)) → leftFrom k good (eqb last 54) (drop 6 (v ++ (p ++ q))) ≡ leftFrom k₀ good₀ (eqb last₀ 54) (drop 6 (v ++ (p ++ q))))
+    × ((v q : List ℕ) → had ≡ length v → Bytes (v ++ (p ++ q)) → leftFrom k good (eqb last 54) (drop 6 (v ++ (p ++ q)))
+    ≡ leftFrom k₀ good₀ (eqb last₀ 54) (drop 6 (v ++ (p ++ q))))
 
 abbrev μ-loop : tie.MeasureT-loop
 μ-loop had p end good₀ last₀ k₀ good last k = end - k
@@ -61,7 +62,8 @@ loop-again c =
       λ h. omega (arith, t),
       λ v q e small.
           rw (c .agrees .ensures)
-          (unit-next v (now (a .p)) q k (l .loop .good) (eqb (l .loop .last) 54) small (ap (λ (n : ℕ). 7 + 2 * k - n) e) (omega (arith, i .0, p .0, e)) (omega (arith, i .0, t, p .0, p .1)) refl
+          (unit-next v (now (a .p)) q k (l .loop .good) (eqb (l .loop .last) 54) small (ap (λ (n : ℕ). 7 + 2 * k - n) e)
+          (omega (arith, i .0, p .0, e)) (omega (arith, i .0, t, p .0, p .1)) refl
           ∙ i .2 v q e small),
     )
 
