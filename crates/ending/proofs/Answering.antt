@@ -13,12 +13,15 @@ use lib.Dec.{eqb, leb}
 use borrow.Author.Tests.{le-leb, lt-leb, eq-eqb, ne-eqb, eqb-true, eqb-false}
 use Rattle.format.specs.Slots.{byte}
 use Rattle.format.specs.Verdict.{stated}
+use Rattle.format.specs.Rules.{descriptionRules}
 use Rattle.format.specs.Table.{descriptionBreaks}
 use Rattle.format.specs.Reader.{overAll, conclude, unlessMisdescribed}
+use Rattle.format.specs.declared.pins.Chip.{Chip}
 use Rattle.format.specs.declared.settings.Settings.{Settings}
 use Rattle.format.specs.declared.records.Description.{Description}
 use Rattle.format.specs.declared.answers.Answer.{Answer}
 use Rattle.format.specs.declared.answers.Answer.the-variants.{Refused}
+use Rattle.format.proofs.Kept.{broken-small, description-numbered}
 use Rattle.pass.specs.Tracks.{Flags}
 use Rattle.stream.specs.Running.{Run, going, broken, runBytes, begin, finish}
 use Rattle.stream.specs.Arriving.{after}
@@ -26,9 +29,13 @@ use Rattle.closing.specs.Ways.{WayIs}
 use Rattle.closing.specs.declared.Way.{Way}
 use Rattle.states.specs.Numbers.{number, wayOf}
 use Rattle.advancing.specs.Advancing.{opened, Fresh, PlacedAt}
-use Rattle.advancing.proofs.Placing.{description-small, placed-bytes}
+use Rattle.advancing.proofs.Placing.{placed-bytes}
 use Rattle.ending.specs.Stands.{lent, described, StandsFor}
 use Rattle.ending.specs.Ending.{AloneIs, OverIs, PassedIs, VerdictIs}
+
+-- the number of a rule of the description is a byte
+description-small : (c : Chip) (d : Description) (k : ℕ) → descriptionBreaks c d ≡ some k → k < 256
+description-small c d k e = omega (arith, broken-small (descriptionRules c d) (description-numbered c d) k e)
 
 -- where the pass is
 module _ (w : Way) (bare : Bool) (string : ℕ) (f : Flags) (zp sp : List ℕ) (a : Answer) where
