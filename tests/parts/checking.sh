@@ -25,12 +25,17 @@ odd_files() {
     try "an empty file" gives 1 "empty: $empty" check empty
     try "10 MB of zeros" gives 1 "zeros: $other_start" check zeros
     try "10 MB that start like a table" gives 1 "large: $too_long" check large
-    try "a byte too many" gives 1 "longer: 3 at 0: bytes 1-2 say that the table has 326 bytes, and the file has 327; copy it again, or mend bytes 1-2 if elements were added or taken out by hand" check longer
+    try "a byte too many" gives 1 "longer: 3 at 0: bytes 1-2 say that the table has 326 bytes, and the file has 327; cut it to 326 bytes, or let ./esa salvage do so" check longer
+    { cat good && head -c 5000 zeros; } >padded
+    try "5,000 bytes too many" gives 1 "padded: 3 at 0: the file has more than 4,096 bytes, and bytes 1-2 say that the table has 326; cut it to 326 bytes, or let ./esa salvage do so" check padded
     try "a file that is not there" gives 2 "missing: $no_file" check missing
     try "an empty name" gives 2 ": cannot be read: its name is empty; name a table" check ''
     try "a dash for standard input" gives 2 "-: $no_input" check -
     try "a folder" gives 2 "box: $folder" check box
     try "a link to nowhere" gives 2 "dangling: cannot be read: it is a link to a file that is not there" check dangling
+    try "nothing that can be read, and a line each" gives 2 "missing: $no_file
+box: $folder
+-: $no_input" check missing box -
     try "2 goes before 1, and every file has its line" gives 2 "good: ok, 15 elements
 missing: $no_file
 bad: $zone_missing
