@@ -85,7 +85,7 @@ misused_fans() {
         try "fan in zone '$zone'" complains 2 "esa: fan needs the number of a zone, 0 to 255, and '$zone' is none" fan good "$zone"
     done
     try "fan in zone -1" complains 2 "esa: fan needs the number of a zone, 0 to 255, and '-1' is none" fan good -1
-    try "fan --archive" complains 2 "esa: fan takes no --archive: it reads by the ordinary rules" fan --archive good 1
+    try "fan --archive" complains 2 "esa: fan takes no --archive (check and list do): it reads by the ordinary rules" fan --archive good 1
     try "fan --help" helps fan --help
 }
 

@@ -99,7 +99,7 @@ no_options() {
     for command in check list; do
         try "$command --archive twice" complains 2 "esa: the option --archive is given twice" $command --archive --chip 321 --archive good
     done
-    ordinary="esa: rewrite takes no --archive: what it writes keeps the ordinary rules, and those have no SMBus block mode"
+    ordinary="esa: rewrite takes no --archive (check and list do): what it writes keeps the ordinary rules, and those have no SMBus block mode"
     try "rewrite --archive" complains 2 "$ordinary" rewrite --archive good never
     try "rewrite --chip 321 --archive" complains 2 "$ordinary" rewrite --chip 321 --archive good never
     try "nothing is written by a misuse" [ ! -e never ]

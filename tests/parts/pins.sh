@@ -62,7 +62,7 @@ misused_pins() {
     try "pins of a file that is not there" complains 2 "esa: missing $no_file" pins missing
     try "pins of a folder" complains 2 "esa: box is a folder; pins takes one table, so name a file in it" pins box
     try "pins of a dash for standard input" complains 2 "esa: - $no_input" pins -
-    try "pins --archive" complains 2 "esa: pins takes no --archive: it reads by the ordinary rules" pins --archive good
+    try "pins --archive" complains 2 "esa: pins takes no --archive (check and list do): it reads by the ordinary rules" pins --archive good
     try "pins --help" helps pins --help
     try "--picture of nothing" complains 2 "esa: --picture needs the name of the picture behind it" pins --picture
     try "--picture of an empty name" complains 2 "esa: --picture needs the name of the picture behind it" pins --picture '' good

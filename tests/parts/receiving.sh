@@ -87,7 +87,7 @@ misused_receiving() {
     for command in check list; do
         try "$command --report 64" complains 2 "esa: $command takes no --report; receive does" $command --report 64 good
     done
-    try "receive --archive" complains 2 "esa: receive takes no --archive: it reads by the ordinary rules" receive --archive good
+    try "receive --archive" complains 2 "esa: receive takes no --archive (check and list do): it reads by the ordinary rules" receive --archive good
     try "receive --help" helps receive --report 7 --help
 }
 

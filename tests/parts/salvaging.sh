@@ -161,7 +161,7 @@ misused_salvages() {
     try "salvage of three names" complains 2 "esa: salvage takes a file and a name to write to, and 3 names were given" salvage good never x
     try "salvage of a file that is not there" complains 2 "esa: missing $no_file" salvage missing never
     try "salvage of a folder" complains 2 "esa: box is a folder; salvage takes one table, so name a file in it" salvage box never
-    try "salvage with --archive" complains 2 "esa: salvage takes no --archive: what it writes keeps the ordinary rules, and those have no SMBus block mode" salvage --archive good never
+    try "salvage with --archive" complains 2 "esa: salvage takes no --archive (check and list do): what it writes keeps the ordinary rules, and those have no SMBus block mode" salvage --archive good never
     try "salvage with --words twice" complains 2 "esa: the option --words is given twice" salvage --words --words good never
 }
 
