@@ -1,5 +1,5 @@
 # Part of tests/esa: ./esa check on files of every sort.
-# shellcheck shell=sh disable=SC2015,SC2154
+# shellcheck shell=sh disable=SC2015,SC2016,SC2154
 
 zone_missing="13 at 16: the PWM fan at byte 16 names zone 1, and no zone descriptor declares it; add the zone descriptor or move the fan to a zone that exists"
 too_long="3 at 0: the file has more than 4,096 bytes, and no table is longer; this is another kind of file, or something was added behind the table"

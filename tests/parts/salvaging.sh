@@ -1,5 +1,5 @@
 # Part of tests/esa: ./esa salvage, its lines and sentences, and the words of its program.
-# shellcheck shell=sh disable=SC2015,SC2154
+# shellcheck shell=sh disable=SC2002,SC2015,SC2154
 
 # The bytes of a hex text, as a file.
 bytes_to() { # HEX FILE
@@ -108,10 +108,10 @@ behind_the_stop() {
     try "two bytes of a header" stops "16	7	left out" "from byte 19 $cut 0 elements$again" left
     strings_to 96 >most
     try "96 elements and no more" saves_whole most "96 elements"
-    strings_to 97 >more
+    strings_to 97 >overfull
     full="and no table has more (11), so nothing from there on was saved; the new table has 96 elements; if something there is wanted, leave others out and try again"
-    try "a 97th element" stops '' "96 elements were kept before byte 592, $full" more
-    { head -c 16 more && "$root/tools/bytes" 0F0300 && tail -c +17 more; } >other
+    try "a 97th element" stops '' "96 elements were kept before byte 592, $full" overfull
+    { head -c 16 overfull && "$root/tools/bytes" 0F0300 && tail -c +17 overfull; } >other
     try "a 97th of those that are kept" stops "16	7	left out" "96 elements were kept before byte 595, $full" other
     { "$root/tools/bytes" 010010020007000080FFFFFF000000000CF00F010904 && head -c 4074 /dev/zero; } >longest
     try "4,096 bytes and no more" saves_whole longest "1 element"
