@@ -10,8 +10,9 @@
      trace; 32,768 of the 'lines' of esa_salvage. A bool is 0 or 1. With a length of 0 the pointer is not followed: NULL will do.
    - The places lent to one call do not overlap.
    - Nobody else writes to them before the call returns.
-   No other condition is asked: any bytes, any lengths and any numbers have an answer. As the code stands (this is no theorem)
-   no call keeps a pointer, allocates, or has a state of its own, so calls from several threads on places of their own are fine. */
+   No other condition is asked: any bytes, any lengths and any numbers have an answer; size_t must have 64 bits, as the library's
+   lengths do. As the code stands (this is no theorem) no call keeps a pointer, allocates, or has a state of its own, so calls from
+   several threads on places of their own are fine. */
 #ifndef ESA_H
 #define ESA_H
 

@@ -1,4 +1,4 @@
-//! Links libesa.a: from the folder that ESA_ARCHIVE_DIR names, or else where `rt staticlib esa` leaves it.
+//! Links libesa.a: from the folder that ESA_ARCHIVE_DIR names, or else where `rt staticlib esa` leaves it (for x86-64).
 
 use std::path::PathBuf;
 
@@ -14,7 +14,8 @@ fn main() {
     println!("cargo:rerun-if-changed={}", archive.display());
     assert!(
         archive.is_file(),
-        "there is no {}: run 'rt staticlib esa' in the repository, or name the archive's folder in ESA_ARCHIVE_DIR",
+        "there is no {}: run 'rt staticlib esa' in the repository, or on another processor than x86-64 'tools/archive . DIR', and name the \
+         folder that it prints in ESA_ARCHIVE_DIR",
         archive.display()
     );
     println!("cargo:rustc-link-search=native={}", folder.display());

@@ -1,5 +1,5 @@
 # Part of tests/esa: ./esa check on files of every sort.
-# shellcheck shell=sh disable=SC2015,SC2154
+# shellcheck shell=sh disable=SC2015,SC2016,SC2154
 
 zone_missing="13 at 16: the PWM fan at byte 16 names zone 1, and no zone descriptor declares it; add the zone descriptor or move the fan to a zone that exists"
 too_long="3 at 0: the file has more than 4,096 bytes, and no table is longer; this is another kind of file, or something was added behind the table"
@@ -25,12 +25,17 @@ odd_files() {
     try "an empty file" gives 1 "empty: $empty" check empty
     try "10 MB of zeros" gives 1 "zeros: $other_start" check zeros
     try "10 MB that start like a table" gives 1 "large: $too_long" check large
-    try "a byte too many" gives 1 "longer: 3 at 0: bytes 1-2 say that the table has 326 bytes, and the file has 327; copy it again, or mend bytes 1-2 if elements were added or taken out by hand" check longer
+    try "a byte too many" gives 1 "longer: 3 at 0: bytes 1-2 say that the table has 326 bytes, and the file has 327; cut it to 326 bytes, or let ./esa salvage do so" check longer
+    { cat good && head -c 5000 zeros; } >padded
+    try "5,000 bytes too many" gives 1 "padded: 3 at 0: the file has more than 4,096 bytes, and bytes 1-2 say that the table has 326; cut it to 326 bytes, or let ./esa salvage do so" check padded
     try "a file that is not there" gives 2 "missing: $no_file" check missing
     try "an empty name" gives 2 ": cannot be read: its name is empty; name a table" check ''
     try "a dash for standard input" gives 2 "-: $no_input" check -
     try "a folder" gives 2 "box: $folder" check box
     try "a link to nowhere" gives 2 "dangling: cannot be read: it is a link to a file that is not there" check dangling
+    try "nothing that can be read, and a line each" gives 2 "missing: $no_file
+box: $folder
+-: $no_input" check missing box -
     try "2 goes before 1, and every file has its line" gives 2 "good: ok, 15 elements
 missing: $no_file
 bad: $zone_missing
@@ -113,6 +118,26 @@ elsewhere() {
     try "through a link, from another folder" [ "$status $(cat seen.out)" = "0 ../good: ok, 15 elements" ]
 }
 
+# A copy without programs, as a fresh clone is, with a kit that takes a program with a stamp for built, as rt does.
+fresh_clone() {
+    mkdir -p fresh/kit && cp "$esa" "$root/crates.txt" fresh && cp -R "$root/tools" fresh || return
+    status=0
+    fresh/esa check missing box >seen.out 2>&1 || status=$?
+    try "nothing is built to say that no file can be read" [ "$status $(cat seen.out)" = "2 missing: $no_file${newline}box: $folder" ]
+    if ! rt=$(command -v rt); then
+        not_tried "a program that is missing where its stamp stands: rt is not on the path"
+        return
+    fi
+    kit=${RATTLE_HOME:-$(cd "$(dirname "$(readlink -f "$rt")")/.." && pwd)}
+    mkdir -p fresh/target/bin fresh/target/stamp fresh/crates/verdicts/src
+    : >fresh/crates/verdicts/src/main.rt
+    : >fresh/target/stamp/verdicts
+    printf '#!/bin/sh\n[ -e "target/stamp/$2" ] || cp "%s/target/bin/$2" target/bin\n' "$root" >fresh/kit/rt
+    chmod +x fresh/kit/rt
+    RATTLE_HOME=$kit PATH=$PWD/fresh/kit:$PATH fresh/esa check good >seen.out 2>seen.err
+    try "a program that is missing where its stamp stands is built" [ "$? $(cat seen.out)" = "0 good: ok, 15 elements" ]
+}
+
 # A program that stands needs no kit, where it is not run under the kit's emulator.
 without_rt() {
     if [ "$(uname -m)" != x86_64 ] || PATH=/usr/bin:/bin command -v rt >/dev/null; then
@@ -130,5 +155,6 @@ checking() {
     unreadable
     forty_one
     elsewhere
+    fresh_clone
     without_rt
 }

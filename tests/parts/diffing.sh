@@ -91,7 +91,7 @@ misused_diffs() {
     try "diff --words twice" complains 2 "esa: the option --words is given twice" diff --words --chip 320 --words good good
     later="esa: options stand right behind the command's name, and --words comes later"
     try "diff good good --words" complains 2 "$later" diff good good --words
-    try "list --words" complains 2 "esa: there is no option '--words'; if it is a file, put ./ before it" list --words good
+    try "list --words" complains 2 "esa: list takes no --words; diff and salvage do" list --words good
     try "diff --help" helps diff --help
     no_option_of diff good
 }

@@ -84,8 +84,8 @@ misused_fans() {
     for zone in '' x 1x +1 1.5 0x1 ' 1' 256 260 300 999 1000 18446744073709551617 "1${newline}2"; do
         try "fan in zone '$zone'" complains 2 "esa: fan needs the number of a zone, 0 to 255, and '$zone' is none" fan good "$zone"
     done
-    try "fan in zone -1" complains 2 "esa: there is no option '-1'; if it is a file, put ./ before it" fan good -1
-    try "fan --archive" complains 2 "esa: fan takes no --archive: it reads by the ordinary rules" fan --archive good 1
+    try "fan in zone -1" complains 2 "esa: fan needs the number of a zone, 0 to 255, and '-1' is none" fan good -1
+    try "fan --archive" complains 2 "esa: fan takes no --archive (check and list do): it reads by the ordinary rules" fan --archive good 1
     try "fan --help" helps fan --help
 }
 

@@ -56,7 +56,7 @@ misused_labels() {
     for k in '' x 1x +1 1.5 0x1 ' 1'; do
         try "label of element '$k'" complains 2 "esa: label needs the number of an element, counted from 0, and '$k' is none" label good "$k"
     done
-    try "label --archive" complains 2 "esa: label takes no --archive: it reads by the ordinary rules" label --archive good 0
+    try "label --archive" complains 2 "esa: label takes no --archive (check and list do): it reads by the ordinary rules" label --archive good 0
     try "label --help" helps label --help
 }
 

@@ -69,7 +69,7 @@ both_rules() {
 no_option_of() { # COMMAND OUT...
     command=$1
     shift
-    for word in --all --archives --chip=321 -x --chips --reports; do
+    for word in --all --archives --archive=yes -x --chips --reports; do
         none="esa: there is no option '$word'; if it is a file, put ./ before it"
         try "$command $word" complains 2 "$none" "$command" "$word" good "$@"
         try "$command --chip 321 $word" complains 2 "$none" "$command" --chip 321 "$word" good "$@"
@@ -79,6 +79,7 @@ no_option_of() { # COMMAND OUT...
         try "$command --chip '$number'" complains 2 "esa: there is no chip '$number'; --chip takes 320 or 321" "$command" --chip "$number" good "$@"
     done
     later="esa: options stand right behind the command's name, and"
+    try "$command --chip=321" complains 2 "esa: there is no option '--chip=321'; write --chip 321" "$command" --chip=321 good "$@"
     try "$command --chip" complains 2 "esa: --chip needs the chip behind it: 320 or 321" "$command" --chip
     try "$command --chip twice" complains 2 "esa: the option --chip is given twice" "$command" --chip 320 --chip 321 good "$@"
     try "$command good --chip 321" complains 2 "$later --chip comes later" "$command" good "$@" --chip 321
@@ -98,7 +99,7 @@ no_options() {
     for command in check list; do
         try "$command --archive twice" complains 2 "esa: the option --archive is given twice" $command --archive --chip 321 --archive good
     done
-    ordinary="esa: rewrite takes no --archive: what it writes keeps the ordinary rules, and those have no SMBus block mode"
+    ordinary="esa: rewrite takes no --archive (check and list do): what it writes keeps the ordinary rules, and those have no SMBus block mode"
     try "rewrite --archive" complains 2 "$ordinary" rewrite --archive good never
     try "rewrite --chip 321 --archive" complains 2 "$ordinary" rewrite --chip 321 --archive good never
     try "nothing is written by a misuse" [ ! -e never ]
@@ -106,7 +107,15 @@ no_options() {
     try "list --chip 321 of nothing" complains 2 "esa: list needs the name of a table" list --chip 321
     try "rewrite --chip 321 of one name" complains 2 "esa: rewrite needs the name of a table and a name to write to" rewrite --chip 321 good
     try "why takes no option" complains 2 "esa: why takes one number, and 3 words were given" why --chip 321 10
-    try "an option before the command" complains 2 "esa: there is no command '--chip'" --chip 321 check good
+    for word in --chip --chip=321 --archive --picture --report --words; do
+        try "$word before the command" complains 2 "esa: options stand behind the command's name, and $word stands before it" $word check good
+    done
+    try "check --words" complains 2 "esa: check takes no --words; diff and salvage do" check --words good
+    try "check good --words" complains 2 "esa: check takes no --words; diff and salvage do" check good --words
+    try "diff --picture" complains 2 "esa: diff takes no --picture; pins does" diff --picture x.svg good good
+    try "check --report=64" complains 2 "esa: check takes no --report; receive does" check --report=64 good
+    try "receive --report=64" complains 2 "esa: there is no option '--report=64'; write --report 64" receive --report=64 good
+    try "pins --picture=x.svg" complains 2 "esa: there is no option '--picture=x.svg'; write --picture x.svg" pins --picture=x.svg good
     try "check --chip 321 --help" helps check --chip 321 --help
 }
 

@@ -62,7 +62,7 @@ misused_pins() {
     try "pins of a file that is not there" complains 2 "esa: missing $no_file" pins missing
     try "pins of a folder" complains 2 "esa: box is a folder; pins takes one table, so name a file in it" pins box
     try "pins of a dash for standard input" complains 2 "esa: - $no_input" pins -
-    try "pins --archive" complains 2 "esa: pins takes no --archive: it reads by the ordinary rules" pins --archive good
+    try "pins --archive" complains 2 "esa: pins takes no --archive (check and list do): it reads by the ordinary rules" pins --archive good
     try "pins --help" helps pins --help
     try "--picture of nothing" complains 2 "esa: --picture needs the name of the picture behind it" pins --picture
     try "--picture of an empty name" complains 2 "esa: --picture needs the name of the picture behind it" pins --picture '' good
@@ -71,7 +71,7 @@ misused_pins() {
     try "--picture of an option" complains 2 "esa: --picture needs the name of the picture behind it; if it is '--chip', put ./ before it" pins --picture --chip 321 good
     try "--picture twice" complains 2 "esa: the option --picture is given twice" pins --picture never --picture never good
     try "--picture behind the table" complains 2 "esa: options stand right behind the command's name, and --picture comes later" pins good --picture never
-    try "--picture of another command" complains 2 "esa: there is no option '--picture'; if it is a file, put ./ before it" list --picture never good
+    try "--picture of another command" complains 2 "esa: list takes no --picture; pins does" list --picture never good
     try "nothing is drawn by a misuse" [ ! -e never ]
 }
 

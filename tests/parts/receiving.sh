@@ -85,9 +85,9 @@ misused_receiving() {
     later="esa: options stand right behind the command's name, and --report comes later"
     try "receive good --report 64" complains 2 "$later" receive good --report 64
     for command in check list; do
-        try "$command --report 64" complains 2 "esa: there is no option '--report'; if it is a file, put ./ before it" $command --report 64 good
+        try "$command --report 64" complains 2 "esa: $command takes no --report; receive does" $command --report 64 good
     done
-    try "receive --archive" complains 2 "esa: receive takes no --archive: it reads by the ordinary rules" receive --archive good
+    try "receive --archive" complains 2 "esa: receive takes no --archive (check and list do): it reads by the ordinary rules" receive --archive good
     try "receive --help" helps receive --report 7 --help
 }
 

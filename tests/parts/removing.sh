@@ -117,8 +117,8 @@ misused_removals() {
     for k in '' x 1x +1 1.5 0x1 ' 1' "1${newline}2"; do
         try "remove element '$k'" complains 2 "esa: remove needs the number of an element, counted from 0, and '$k' is none" remove good "$k" never
     done
-    try "remove element -1" complains 2 "esa: there is no option '-1'; if it is a file, put ./ before it" remove good -1 never
-    try "remove --archive" complains 2 "esa: remove takes no --archive: what it writes keeps the ordinary rules, and those have no SMBus block mode" remove --archive good 0 never
+    try "remove element -1" complains 2 "esa: remove needs the number of an element, counted from 0, and '-1' is none" remove good -1 never
+    try "remove --archive" complains 2 "esa: remove takes no --archive (check and list do): what it writes keeps the ordinary rules, and those have no SMBus block mode" remove --archive good 0 never
     try "nothing is written by a misuse of remove" [ ! -e never ]
     try "remove --help" helps remove --help
 }

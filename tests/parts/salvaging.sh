@@ -1,5 +1,5 @@
 # Part of tests/esa: ./esa salvage, its lines and sentences, and the words of its program.
-# shellcheck shell=sh disable=SC2015,SC2154
+# shellcheck shell=sh disable=SC2002,SC2015,SC2154
 
 # The bytes of a hex text, as a file.
 bytes_to() { # HEX FILE
@@ -73,8 +73,50 @@ few_bytes() {
         try "its bytes" same out.esa wanted
     done
     try "a table of the archive" gives 0 "32	23	left out" salvage "$tables/old-box.esa" out.esa
+}
+
+# Where salvage stopped before the end of the file: standard error has that sentence and no other, and standard output the lines.
+stops() { # LINES SENTENCE FILE
+    ran salvage "$3" out.esa
+    [ "$status" = 0 ] && [ "$(cat seen.out)" = "$1" ] && [ "$(cat seen.err)" = "$3: $2" ] || show
+}
+
+# Strings of six bytes behind a description of no string: numbers 1 to LAST.
+strings_to() { # LAST
+    "$root/tools/bytes" 011000020007000080FFFFFF00000000
+    number=0
+    while [ $number -lt "$1" ]; do
+        number=$((number + 1))
+        "$root/tools/bytes" "0C0600$(printf '%02X' $number)0904"
+    done
+}
+
+behind_the_stop() {
+    again="; if more stands there, mend the length of the element there or of the one before it, and try again"
     { cat "$tables/quiet-box.esa" && head -c 10000000 /dev/zero; } >behind
-    try "10 MB behind a table: zeros are no element" saves_whole behind "15 elements"
+    ends="from byte 326 on, where bytes 1-2 say that the table ends, nothing was saved; the new table has 15 elements"
+    try "10 MB behind a table: zeros are no element" stops '' "$ends" behind
+    try "the new table" gives 0 "out.esa: ok, 15 elements" check out.esa
+    cat behind 2>/dev/null | "$esa" salvage /dev/stdin out.esa 2>seen.err
+    try "through a pipe" [ "$(cat seen.err)" = "/dev/stdin: $ends" ]
+    cut="on no element can be told apart (6), and nothing from there on was saved; the new table has"
+    bytes_to 013000020007000080FFFFFF000000000C06000109040C0200020904 short
+    try "a length under 3" stops '' "from byte 22 $cut 1 element$again" short
+    bytes_to 013000020007000080FFFFFF000000000C06000109040C0700020904 past
+    try "a length past the end" stops '' "from byte 22 $cut 1 element$again" past
+    bytes_to "011000020007000080FFFFFF000000000F0300FFFF" left
+    try "two bytes of a header" stops "16	7	left out" "from byte 19 $cut 0 elements$again" left
+    strings_to 96 >most
+    try "96 elements and no more" saves_whole most "96 elements"
+    strings_to 97 >overfull
+    full="and no table has more (11), so nothing from there on was saved; the new table has 96 elements; if something there is wanted, leave others out and try again"
+    try "a 97th element" stops '' "96 elements were kept before byte 592, $full" overfull
+    { head -c 16 overfull && "$root/tools/bytes" 0F0300 && tail -c +17 overfull; } >other
+    try "a 97th of those that are kept" stops "16	7	left out" "96 elements were kept before byte 595, $full" other
+    { "$root/tools/bytes" 010010020007000080FFFFFF000000000CF00F010904 && head -c 4074 /dev/zero; } >longest
+    try "4,096 bytes and no more" saves_whole longest "1 element"
+    printf 'x' >>longest
+    try "a byte more" stops '' "only the first 4,096 bytes count, as no table has more, and nothing behind them was saved; the new table has 1 element" longest
 }
 
 nothing_to_save() {
@@ -119,13 +161,14 @@ misused_salvages() {
     try "salvage of three names" complains 2 "esa: salvage takes a file and a name to write to, and 3 names were given" salvage good never x
     try "salvage of a file that is not there" complains 2 "esa: missing $no_file" salvage missing never
     try "salvage of a folder" complains 2 "esa: box is a folder; salvage takes one table, so name a file in it" salvage box never
-    try "salvage with --archive" complains 2 "esa: salvage takes no --archive: what it writes keeps the ordinary rules, and those have no SMBus block mode" salvage --archive good never
+    try "salvage with --archive" complains 2 "esa: salvage takes no --archive (check and list do): what it writes keeps the ordinary rules, and those have no SMBus block mode" salvage --archive good never
     try "salvage with --words twice" complains 2 "esa: the option --words is given twice" salvage --words --words good never
 }
 
 salvaging() {
     damaged_table
     few_bytes
+    behind_the_stop
     nothing_to_save
     salvages_out
     misused_salvages

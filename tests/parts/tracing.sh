@@ -73,7 +73,7 @@ of_words() {
     try "no table" complains 2 "esa: trace needs the name of a table, and may have that of a trace behind it" trace
     try "three names" complains 2 "esa: trace takes a table and a trace, and 3 names were given" trace good good good
     try "a trace that is not there" fails 2 trace good nowhere
-    try "no archive" complains 2 "esa: trace takes no --archive: it reads by the ordinary rules" trace --archive good
+    try "no archive" complains 2 "esa: trace takes no --archive (check and list do): it reads by the ordinary rules" trace --archive good
 }
 
 # Only the status.

@@ -16,9 +16,22 @@ tells_why() { # NUMBER
         [ "$(awk 'length($0) > 78' seen.out)" = '' ] || show
 }
 
+how="'./esa help' tells how"
+
+# A misuse, and all of standard error.
+says_all() { # TEXT WORD...
+    text=$1
+    shift
+    ran "$@"
+    [ "$status" = 2 ] && [ ! -s seen.out ] && [ "$(cat seen.err)" = "$text" ] || show
+}
+
 misused() {
     try "no word at all" complains 2 "esa: say what to do"
     try "no word at all: how to use it" complains 2 "     ./esa help                this text"
+    try "a command that there is not: two lines" says_all "esa: there is no command 'chek'${newline}$how" chek good
+    try "a misuse of a command: its own line and no other" says_all "esa: label needs the name of a table and the number of an element${newline}use: ./esa label FILE K [NAME]${newline}$how" label
+    try "that of another" says_all "esa: trace takes a table and a trace, and 3 names were given${newline}use: ./esa trace FILE [TRACE]${newline}$how" trace a b c
     try "an unknown word" complains 2 "esa: there is no command 'verify'" verify good
     try "an option for a command" complains 2 "esa: there is no command '--all'" --all good
     try "an empty word" complains 2 "esa: there is no command ''" ''

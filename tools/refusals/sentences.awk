@@ -82,9 +82,15 @@ function of_start() {
     V["device"] = byte(3)
     V["units"] = byte(8) % 128
     V["milliamps"] = 4 * V["units"]
-    if (number == 2) return say(hex(0) == "10" ? "revision" : "other")
-    if (number == 3) return say(size > 4096 ? "long" : "differs")
+    if (number == 2) return say(hex(0) == "10" ? "revision" : hex(0) == "3A" ? "text" : "other")
+    if (number == 3) return of_table_length()
     return say(number == 4 ? "device" : "power")
+}
+
+# 3. What stands behind the length that the table says can be cut off, where a table can have that length.
+function of_table_length() {
+    if (V["stated"] < 16 || V["stated"] > 4096 || V["stated"] >= size) return say(size > 4096 ? "long" : "differs")
+    return say(size > 4096 ? "padded" : "longer")
 }
 
 # 6
