@@ -75,6 +75,10 @@ refused_hex() {
     try "hex of a lamp that is not on the chip" refuses hex "R	10	88" "lamp: $lamp_lacks" --chip 321 lamp out
     try "hex of an empty file" refuses hex "R	1	0" "empty: $empty" empty out
     try "hex of 10 MB that start like a table" refuses hex "R	3	0" "large: $too_long" large out
+    is_hex="2 at 0: byte 0 is 3Ah, a colon, and a table of revision 0.90 starts with 01h; is it Intel HEX? './esa unhex' makes a table of it"
+    try "hex of what is Intel HEX already" refuses hex "R	2	0" "$tables/quiet-box.hex: $is_hex" "$tables/quiet-box.hex" out
+    printf '%s\n' :10000000011000020007000080FFFFFF0000000059 :0100100000EF :00000001FF >behind.hex
+    try "unhex of a byte too many: salvage takes no text" refuses unhex "R	3	0" "behind.hex, the table in it: 3 at 0: bytes 1-2 say that the table has 16 bytes, and the file has 17; cut it to 16 bytes" behind.hex out
     text_of bad >bad.hex
     try "unhex of the text of a refused table" refuses unhex "R	13	16" "bad.hex, the table in it: $zone_missing" bad.hex out
     text_of lamp >lamp.hex
