@@ -1,8 +1,7 @@
 //! Asking for the description, an element or its part.
 
-mod common;
 
-use common::{zoned, ON_320, ON_321};
+use crate::common::{zoned, ON_320, ON_321};
 use second::generator::{self, raw};
 use second::pins::Pin;
 use second::random::Random;

@@ -1,9 +1,8 @@
 //! The two chips: P2.4 to P2.7 are on the 320 alone (document 02, 8/14; 000, Annex A, note 3), and a pin of a
 //! record is written on its own chip only.
 
-mod common;
 
-use common::{changed, gives, gives_on, with, zoned, ON_320, ON_321};
+use crate::common::{changed, gives, gives_on, with, zoned, ON_320, ON_321};
 use second::element::{read_description, read_element};
 use second::generator::raw::{self, Parts};
 use second::generator::{valid, writer_call, What};

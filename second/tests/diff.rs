@@ -1,8 +1,7 @@
 //! Two tables side by side: a line for each field in which their records differ.
 
-mod common;
 
-use common::with;
+use crate::common::with;
 use second::answer::MOST_ELEMENTS;
 use second::diff::{diff, diff_text, Refused, DIFF};
 use second::element::id;

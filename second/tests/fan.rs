@@ -1,8 +1,7 @@
 //! Is there a fan in this zone? 'Yes' or 'no', and the number of elements that were walked to find out.
 
-mod common;
 
-use common::{with, zoned, ARCHIVE, ON_320, ON_321};
+use crate::common::{with, zoned, ARCHIVE, ON_320, ON_321};
 use second::generator::raw::{self, TABLE_A};
 use second::generator::{any, mixed_of, targeted, valid};
 use second::random::Random;

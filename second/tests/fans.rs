@@ -1,9 +1,8 @@
 //! The fan list runs through the whole table. Zone 1 stands at 16, so that the first other element stands at
 //! 46; a fan and a pump have 16 bytes each, an RGB LED 11.
 
-mod common;
 
-use common::{gives, gives_by, with, zoned};
+use crate::common::{gives, gives_by, with, zoned};
 use second::element::read_element;
 use second::generator::raw::{self, Parts};
 use second::generator::{mixed, valid};

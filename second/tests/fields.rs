@@ -1,9 +1,8 @@
 //! The numbers of a table in 32 bytes, and the places of parts and texts: hand-made tables, every field
 //! another number.
 
-mod common;
 
-use common::{changed, with, zoned, ON_320, ON_321};
+use crate::common::{changed, with, zoned, ON_320, ON_321};
 use second::generator::raw::{self, Parts};
 use second::generator::{any, targeted};
 use second::numbers::Numbers;

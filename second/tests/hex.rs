@@ -1,8 +1,7 @@
 //! Tables as Intel HEX and back: what is written, what is taken, and the first bad line of what is not.
 
-mod common;
 
-use common::{with, zoned};
+use crate::common::{with, zoned};
 use second::generator::raw::{self, TABLE_A};
 use second::generator::{any, hex_text, targeted, valid};
 use second::hex::{record, text, DATA, END, LONGEST_TEXT};

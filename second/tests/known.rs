@@ -1,8 +1,7 @@
 //! The rows of 'Known tables' in document 01, starred or not, against both readers.
 
-mod common;
 
-use common::{changed, gives, with, ON_320};
+use crate::common::{changed, gives, with, ON_320};
 use second::generator::raw::{self, CONTROLLER_C, FAN_F, TABLE_A};
 
 /// Fan F with some bytes changed, in table A.

@@ -1,8 +1,7 @@
 //! Labels: the text of an element's string, or the lent name, no byte copied.
 
-mod common;
 
-use common::{with, zoned, ARCHIVE, ON_320, ON_321};
+use crate::common::{with, zoned, ARCHIVE, ON_320, ON_321};
 use second::generator::raw;
 use second::generator::{any, targeted, valid};
 use second::random::Random;

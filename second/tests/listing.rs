@@ -1,8 +1,7 @@
 //! The listing, line by line.
 
-mod common;
 
-use common::{changed, with, zoned, ON_320, ON_321};
+use crate::common::{changed, with, zoned, ON_320, ON_321};
 use second::generator::raw::{self, Parts};
 use second::generator::{any, mixed, targeted, valid};
 use second::listing::LISTING;

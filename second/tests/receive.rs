@@ -1,8 +1,7 @@
 //! The receiver: cut anywhere, a table has the verdict that it has in one piece.
 
-mod common;
 
-use common::{changed, with, zoned, ON_320};
+use crate::common::{changed, with, zoned, ON_320};
 use second::generator;
 use second::generator::raw::{self, CONTROLLER_C, FAN_F, TABLE_A};
 use second::random::Random;

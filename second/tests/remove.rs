@@ -1,8 +1,7 @@
 //! Taking a part out: element k leaves the table, unless something still names it.
 
-mod common;
 
-use common::{with, zoned};
+use crate::common::{with, zoned};
 use second::generator::raw::{self, Parts, TABLE_A};
 use second::generator::{any, mixed_of, only_in_the_archive, targeted, valid};
 use second::random::Random;

@@ -1,9 +1,8 @@
 //! Block mode is retired: 23 by the ordinary reader and by append, the old rules and a last field in the
 //! archive. Zone 1 stands at 16, so that the first other element stands at 46.
 
-mod common;
 
-use common::{gives, gives_by, with, zoned, ARCHIVE, ON_320, ON_321};
+use crate::common::{gives, gives_by, with, zoned, ARCHIVE, ON_320, ON_321};
 use second::element::read_element;
 use second::generator::raw::{self, Parts};
 use second::generator::{has_block_mode, only_in_the_archive, valid};

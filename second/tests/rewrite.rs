@@ -1,8 +1,7 @@
 //! Accepted tables written again.
 
-mod common;
 
-use common::zoned;
+use crate::common::zoned;
 use second::generator::{self, raw};
 use second::random::Random;
 use second::{cleared, rewrite, rewrite_by_records, Chip, Refusal, Verdict};

@@ -1,8 +1,7 @@
 //! Saving what can be saved: what is kept of a damaged table, and the lines that tell of the rest.
 
-mod common;
 
-use common::{changed, with};
+use crate::common::{changed, with};
 use second::answer::LARGEST_TABLE;
 use second::generator::raw::{self, Parts, FAN_F, TABLE_A};
 use second::generator::{any, mixed, only_in_the_archive, targeted, valid, wrecked};

@@ -1,8 +1,7 @@
 //! The pin sheet: made afresh, brought forward after an append, and as text.
 
-mod common;
 
-use common::{changed, with, zoned, ON_320};
+use crate::common::{changed, with, zoned, ON_320};
 use second::access::walk;
 use second::element::id;
 use second::generator::raw::{self, TABLE_A};

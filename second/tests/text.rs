@@ -1,8 +1,7 @@
 //! Rule 9 over text: well-formed UTF-16, low byte first, by the reader and by append.
 
-mod common;
 
-use common::{gives, with};
+use crate::common::{gives, with};
 use second::generator::raw;
 use second::generator::{spoil, text, texts};
 use second::random::Random;

@@ -1,8 +1,7 @@
 //! Traces: what each line prints, what refuses it, and the tallies at the end, in one piece and in many.
 
-mod common;
 
-use common::{with, zoned};
+use crate::common::{with, zoned};
 use second::generator::{self, raw};
 use second::random::Random;
 use second::trace::{output, Trace, PIECE, TEXT};

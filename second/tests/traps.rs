@@ -1,9 +1,8 @@
 //! The open points and traps of the rulings, each by name. Zone 1 stands at 16 where it is
 //! declared, so that the first other element stands at 46.
 
-mod common;
 
-use common::{changed, gives, gives_on, with, zoned, ON_320};
+use crate::common::{changed, gives, gives_on, with, zoned, ON_320};
 use second::generator::raw::{self, Parts, TABLE_A};
 use second::pins::ONLY_320;
 use second::Chip;

@@ -1,9 +1,8 @@
 //! The kinds of the water kits: 05h, 06h, 07h and 0Dh. Zone 1 stands at 16, so that the first other element
 //! stands at 46.
 
-mod common;
 
-use common::{gives, gives_on, with, zoned, ON_320};
+use crate::common::{gives, gives_on, with, zoned, ON_320};
 use second::element::read_element;
 use second::generator::raw::{self, Parts};
 use second::pins::Pin;

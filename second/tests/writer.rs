@@ -1,6 +1,5 @@
 //! The writer: what it refuses, where, and which bytes it leaves.
 
-mod common;
 
 use second::element::{read_description, read_element};
 use second::generator::{self, raw, What, WriterCall};
