@@ -1,10 +1,14 @@
 // From the record to its numbers, one function a kind; byte 31 names the chip of its pins, and the bytes that a kind does not use are 0.
 ghost use mathlib.Core.Path.{_≡_};
-ghost use mathlib.Core.List.{[], _∷_};
+ghost use mathlib.Core.List.{[], _∷_, _++_};
+ghost use Prim.Native.Nat.{_<_};
+ghost use lib.Seq.{sets};
 ghost use Rattle.format.specs.Layout.{optionalByte};
 ghost use Rattle.format.specs.declared.records.Element.the-variants.{Digital, Analogue, Fan, Led, Water, Voltage, Current, Controller};
 ghost use Rattle.format.specs.declared.records.Element.the-variants.{External, Rgb};
-ghost use Rattle.numbered.specs.Into.{padded, chipNumber, placementNumbers, kindOf, addressOf, elementInto, descriptionInto};
+ghost use Rattle.words.specs.Widths.{twoBytes};
+ghost use Rattle.numbered.specs.Into.{padded, chipNumber, placementNumbers, kindOf, addressOf, lampNumbers};
+ghost use Rattle.numbered.specs.Into.{elementInto, descriptionInto};
 use format::pins::Chip;
 use format::pins::OptionalPin;
 use format::records::Address;
@@ -15,6 +19,7 @@ use format::records::Description;
 use format::records::DigitalSensor;
 use format::records::Element;
 use format::records::ExternalRgb;
+use format::records::Lamp;
 use format::records::Placement;
 use format::records::PwmFan;
 use format::records::RgbLed;
@@ -25,21 +30,16 @@ use format::records::WaterLevel;
 pub fn description(d: Description, chip: Chip) -> [u8; 32]
     ensures { λ r. ⌜ r ≡ descriptionInto chip d ⌝ }
 {
-    let mut n = [0u8; 32];
-    n[0] = d.device;
-    n[1] = d.string;
-    n[2] = (d.serial % 256) as u8;
-    n[3] = (d.serial / 256 % 256) as u8;
-    n[4] = (d.serial / 65536 % 256) as u8;
-    n[5] = (d.serial / 16777216) as u8;
-    n[6] = d.spwr as u8;
-    n[7] = d.power.0;
     let p = d.revision0;
     let q = d.revision1;
     let r = d.revision2;
-    n[8] = byte_of(p);
-    n[9] = byte_of(q);
-    n[10] = byte_of(r);
+    let mut n = three_at([0u8; 32], 8, byte_of(p), byte_of(q), byte_of(r));
+    n = pair_at(n, 2, (d.serial % 65536) as u16);
+    n = pair_at(n, 4, (d.serial / 65536) as u16);
+    n[0] = d.device;
+    n[1] = d.string;
+    n[6] = d.spwr as u8;
+    n[7] = d.power.0;
     n[31] = number_of(chip);
     n
 }
@@ -72,19 +72,12 @@ fn digital(d: DigitalSensor, chip: Chip) -> [u8; 32]
 {
     let p = d.placement;
     let a = d.address;
-    let mut n = placement(p, chip);
-    n[5] = d.bus;
-    n[6] = kind(a);
-    n[7] = address(a);
-    n[8] = (d.lsb % 256) as u8;
-    n[9] = (d.lsb / 256) as u8;
-    n[10] = (d.msb % 256) as u8;
-    n[11] = (d.msb / 256) as u8;
-    n[12] = (d.minvalue % 256) as u8;
-    n[13] = (d.minvalue / 256) as u8;
+    let mut n = bus_places(p, d.bus, a, chip);
+    n = pair_at(n, 8, d.lsb);
+    n = pair_at(n, 10, d.msb);
+    n = pair_at(n, 12, d.minvalue);
+    n = pair_at(n, 15, d.maxvalue);
     n[14] = d.mintemp.0;
-    n[15] = (d.maxvalue % 256) as u8;
-    n[16] = (d.maxvalue / 256) as u8;
     n[17] = d.maxtemp.0;
     n
 }
@@ -97,17 +90,11 @@ fn analogue(a: AnalogueSensor, chip: Chip) -> [u8; 32]
     let mut n = placement(p, chip);
     n[5] = a.thermal;
     n[6] = a.pin.0;
-    n[7] = (a.at0.0 % 256) as u8;
-    n[8] = (a.at0.0 / 256) as u8;
-    n[9] = (a.at25.0 % 256) as u8;
-    n[10] = (a.at25.0 / 256) as u8;
-    n[11] = (a.at50.0 % 256) as u8;
-    n[12] = (a.at50.0 / 256) as u8;
-    n[13] = (a.at75.0 % 256) as u8;
-    n[14] = (a.at75.0 / 256) as u8;
-    n[15] = (a.at100.0 % 256) as u8;
-    n[16] = (a.at100.0 / 256) as u8;
-    n
+    n = pair_at(n, 7, a.at0.0);
+    n = pair_at(n, 9, a.at25.0);
+    n = pair_at(n, 11, a.at50.0);
+    n = pair_at(n, 13, a.at75.0);
+    pair_at(n, 15, a.at100.0)
 }
 
 // 03h and 06h
@@ -115,15 +102,11 @@ fn fan(f: PwmFan, chip: Chip) -> [u8; 32]
     ensures { λ r. ⌜ r ≡ elementInto chip (Fan f) [] ⌝ }
 {
     let p = f.placement;
-    let mut n = placement(p, chip);
-    n[5] = f.pwm.0;
     let t = f.tachometer;
-    n[6] = byte_of(t);
-    n[7] = f.ppr;
-    n[8] = (f.minrpm.0 % 256) as u8;
-    n[9] = (f.minrpm.0 / 256) as u8;
-    n[10] = (f.maxrpm.0 % 256) as u8;
-    n[11] = (f.maxrpm.0 / 256) as u8;
+    let mut n = placement(p, chip);
+    n = three_at(n, 5, f.pwm.0, byte_of(t), f.ppr);
+    n = pair_at(n, 8, f.minrpm.0);
+    n = pair_at(n, 10, f.maxrpm.0);
     n[12] = f.duty;
     n
 }
@@ -133,23 +116,12 @@ fn led(l: StatusLed, chip: Chip) -> [u8; 32]
     ensures { λ r. ⌜ r ≡ elementInto chip (Led l) [] ⌝ }
 {
     let p = l.placement;
-    let mut n = placement(p, chip);
     let a = l.one;
     let b = l.two;
     let c = l.three;
-    let x = a.pin;
-    let y = b.pin;
-    let z = c.pin;
-    n[5] = byte_of(x);
-    n[6] = a.colour;
-    n[7] = a.purpose;
-    n[8] = byte_of(y);
-    n[9] = b.colour;
-    n[10] = b.purpose;
-    n[11] = byte_of(z);
-    n[12] = c.colour;
-    n[13] = c.purpose;
-    n
+    let with_one = lamp_at(placement(p, chip), 5, a);
+    let with_two = lamp_at(with_one, 8, b);
+    lamp_at(with_two, 11, c)
 }
 
 // 05h
@@ -159,13 +131,9 @@ fn water(w: WaterLevel, chip: Chip) -> [u8; 32]
     let p = w.placement;
     let mut n = placement(p, chip);
     n[5] = w.pin.0;
-    n[6] = (w.full.0 % 256) as u8;
-    n[7] = (w.full.0 / 256) as u8;
-    n[8] = (w.empty.0 % 256) as u8;
-    n[9] = (w.empty.0 / 256) as u8;
-    n[10] = (w.warning.0 % 256) as u8;
-    n[11] = (w.warning.0 / 256) as u8;
-    n
+    n = pair_at(n, 6, w.full.0);
+    n = pair_at(n, 8, w.empty.0);
+    pair_at(n, 10, w.warning.0)
 }
 
 // 07h
@@ -173,11 +141,7 @@ fn voltage(v: VoltageSensor, chip: Chip) -> [u8; 32]
     ensures { λ r. ⌜ r ≡ elementInto chip (Voltage v) [] ⌝ }
 {
     let p = v.placement;
-    let mut n = placement(p, chip);
-    n[5] = v.pin.0;
-    n[6] = v.vmax.0;
-    n[7] = v.vmin.0;
-    n
+    three_at(placement(p, chip), 5, v.pin.0, v.vmax.0, v.vmin.0)
 }
 
 // 08h
@@ -187,11 +151,8 @@ fn current(c: CurrentSensor, chip: Chip) -> [u8; 32]
     let p = c.placement;
     let mut n = placement(p, chip);
     n[5] = c.pin.0;
-    n[6] = (c.imin.0 % 256) as u8;
-    n[7] = (c.imin.0 / 256) as u8;
-    n[8] = (c.imax.0 % 256) as u8;
-    n[9] = (c.imax.0 / 256) as u8;
-    n
+    n = pair_at(n, 6, c.imin.0);
+    pair_at(n, 8, c.imax.0)
 }
 
 // 09h and 0Ah, before their blocks
@@ -200,11 +161,7 @@ fn device(d: BusDevice, chip: Chip) -> [u8; 32]
 {
     let p = d.placement;
     let a = d.address;
-    let mut n = placement(p, chip);
-    n[5] = d.bus;
-    n[6] = kind(a);
-    n[7] = address(a);
-    n
+    bus_places(p, d.bus, a, chip)
 }
 
 // 0Dh, before its blocks: a device's numbers, and the identifier of its chip
@@ -222,11 +179,7 @@ fn rgb(c: RgbLed, chip: Chip) -> [u8; 32]
     ensures { λ r. ⌜ r ≡ elementInto chip (Rgb c) [] ⌝ }
 {
     let p = c.placement;
-    let mut n = placement(p, chip);
-    n[5] = c.red.0;
-    n[6] = c.green.0;
-    n[7] = c.blue.0;
-    n
+    three_at(placement(p, chip), 5, c.red.0, c.green.0, c.blue.0)
 }
 
 fn placement(p: Placement, chip: Chip) -> [u8; 32]
@@ -240,6 +193,43 @@ fn placement(p: Placement, chip: Chip) -> [u8; 32]
     n[4] = p.zone;
     n[31] = number_of(chip);
     n
+}
+
+// What stands in front of a device on a bus.
+fn bus_places(p: Placement, bus: u8, a: Address, chip: Chip) -> [u8; 32]
+    ensures { λ r. ⌜ r ≡ padded (placementNumbers p ++ bus ∷ kindOf a ∷ addressOf a ∷ []) (chipNumber chip) ⌝ }
+{
+    three_at(placement(p, chip), 5, bus, kind(a), address(a))
+}
+
+// A number of two bytes, the lower first.
+fn pair_at(n: [u8; 32], at: usize, x: u16) -> [u8; 32]
+    requires { ⌜ at < 31 ⌝ }
+    ensures { λ r. ⌜ r ≡ sets n at (twoBytes x) ⌝ }
+{
+    let mut r = n;
+    r[at] = (x % 256) as u8;
+    r[at + 1] = (x / 256) as u8;
+    r
+}
+
+fn three_at(n: [u8; 32], at: usize, a: u8, b: u8, c: u8) -> [u8; 32]
+    requires { ⌜ at < 30 ⌝ }
+    ensures { λ r. ⌜ r ≡ sets n at (a ∷ b ∷ c ∷ []) ⌝ }
+{
+    let mut r = n;
+    r[at] = a;
+    r[at + 1] = b;
+    r[at + 2] = c;
+    r
+}
+
+fn lamp_at(n: [u8; 32], at: usize, l: Lamp) -> [u8; 32]
+    requires { ⌜ at < 30 ⌝ }
+    ensures { λ r. ⌜ r ≡ sets n at (lampNumbers l) ⌝ }
+{
+    let p = l.pin;
+    three_at(n, at, byte_of(p), l.colour, l.purpose)
 }
 
 fn two(a: u8, b: u8) -> [u8; 32]

@@ -81,14 +81,17 @@ fn of_kind(id: u8, n: &[u8; 32], chip: Chip) -> Element
     }
 }
 
-// 01h
+// 01h: a device on a bus, and what its registers mean
 fn digital(n: &[u8; 32], chip: Chip) -> DigitalSensor
     ensures { λ r. ⌜ r ≡ digitalFrom chip (byte (now (n .entry))) ⌝ }
 {
+    let d = device(n, chip);
+    let p = d.placement;
+    let a = d.address;
     DigitalSensor {
-        placement: placement(n),
-        bus: n[5],
-        address: address(n[6], n[7], chip),
+        placement: p,
+        bus: d.bus,
+        address: a,
         lsb: word(n, 8),
         msb: word(n, 10),
         minvalue: word(n, 12),

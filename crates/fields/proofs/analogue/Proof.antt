@@ -1,6 +1,6 @@
 -- `fields::analogue` meets its contract, by what each call ensures of its result.
 -- Assumes nothing.
-use borrow.Author.Needs.{needs}
+use native.Mathlib.Omega.{arith}
 use Rattle.fields.proofs.analogue.Statement.{statement}
 use Rattle.fields.proofs.analogue.Tie as tie
 
@@ -20,12 +20,12 @@ pub analogue-spec : {M : Type 1} → statement M
 analogue-spec =
     tie.close
     (tie.spec
-    (search needs)
-    (search needs)
-    (search needs)
-    (search needs)
-    (search needs)
-    (search needs)
-    (search needs)
-    (search needs)
+    (λ c κs. omega arith)
+    (λ c. omega arith)
+    (λ c. omega arith)
+    (λ c κs. omega arith)
+    (λ c κs. omega arith)
+    (λ c κs. omega arith)
+    (λ c κs. omega arith)
+    (λ c κs. omega arith)
     returns)

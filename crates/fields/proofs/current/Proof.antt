@@ -1,6 +1,6 @@
 -- `fields::current` meets its contract, by what each call ensures of its result.
 -- Assumes nothing.
-use borrow.Author.Needs.{needs}
+use native.Mathlib.Omega.{arith}
 use Rattle.fields.proofs.current.Statement.{statement}
 use Rattle.fields.proofs.current.Tie as tie
 
@@ -10,4 +10,4 @@ returns c =
 
 pub current-spec : {M : Type 1} → statement M
 current-spec =
-    tie.close (tie.spec (search needs) (search needs) (search needs) (search needs) returns)
+    tie.close (tie.spec (λ c κs. omega arith) (λ c. omega arith) (λ c κs. omega arith) (λ c κs. omega arith) returns)

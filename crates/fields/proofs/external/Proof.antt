@@ -1,6 +1,6 @@
 -- `fields::external` meets its contract, by what each call ensures of its result.
 -- Assumes nothing.
-use borrow.Author.Needs.{needs}
+use native.Mathlib.Omega.{arith}
 use Rattle.fields.proofs.external.Statement.{statement}
 use Rattle.fields.proofs.external.Tie as tie
 
@@ -9,4 +9,4 @@ returns c = rw (c .before .device .ensures)
 
 pub external-spec : {M : Type 1} → statement M
 external-spec =
-    tie.close (tie.spec (search needs) (search needs) returns)
+    tie.close (tie.spec (λ c κs. omega arith) (λ c. omega arith) returns)

@@ -1,5 +1,6 @@
 -- `fields::fan` meets its contract, by what each call ensures of its result.
 -- Assumes nothing.
+use native.Mathlib.Omega.{arith}
 use borrow.Author.Needs.{needs}
 use Rattle.fields.proofs.fan.Statement.{statement}
 use Rattle.fields.proofs.fan.Tie as tie
@@ -17,12 +18,12 @@ pub fan-spec : {M : Type 1} → statement M
 fan-spec =
     tie.close
     (tie.spec
+    (λ c κs. omega arith)
+    (λ c. omega arith)
+    (λ c. omega arith)
     (search needs)
-    (search needs)
-    (search needs)
-    (search needs)
-    (search needs)
-    (search needs)
-    (search needs)
-    (search needs)
+    (λ c. omega arith)
+    (λ c κs. omega arith)
+    (λ c κs. omega arith)
+    (λ c. omega arith)
     returns)

@@ -1,6 +1,6 @@
 -- `fields::led` meets its contract, by what each call ensures of its result.
 -- Assumes nothing.
-use borrow.Author.Needs.{needs}
+use native.Mathlib.Omega.{arith}
 use Rattle.fields.proofs.led.Statement.{statement}
 use Rattle.fields.proofs.led.Tie as tie
 
@@ -15,4 +15,4 @@ returns c =
 
 pub led-spec : {M : Type 1} → statement M
 led-spec =
-    tie.close (tie.spec (search needs) (search needs) (search needs) (search needs) returns)
+    tie.close (tie.spec (λ c κs. omega arith) (λ c κs. omega arith) (λ c κs. omega arith) (λ c κs. omega arith) returns)

@@ -1,6 +1,6 @@
 -- `fields::water` meets its contract, by what each call ensures of its result.
 -- Assumes nothing.
-use borrow.Author.Needs.{needs}
+use native.Mathlib.Omega.{arith}
 use Rattle.fields.proofs.water.Statement.{statement}
 use Rattle.fields.proofs.water.Tie as tie
 
@@ -15,4 +15,4 @@ returns c =
 
 pub water-spec : {M : Type 1} → statement M
 water-spec =
-    tie.close (tie.spec (search needs) (search needs) (search needs) (search needs) (search needs) returns)
+    tie.close (tie.spec (λ c κs. omega arith) (λ c. omega arith) (λ c κs. omega arith) (λ c κs. omega arith) (λ c κs. omega arith) returns)

@@ -1,23 +1,22 @@
--- `into::digital` meets its contract: the high byte of a number is below 256, and each call ensures its result.
+-- `into::digital` meets its contract, by what each call ensures of its result.
 -- Assumes nothing.
-use native.Mathlib.Omega.{arith}
 use borrow.Author.Needs.{needs}
 use Rattle.numbered.proofs.digital.Statement.{statement}
 use Rattle.numbered.proofs.digital.Tie as tie
 
-cast-n-8 : tie.Need-cast-n-8
-cast-n-8 c = record { fits = omega (arith, c .struct-known8 .given) }
-
 returns : tie.Need-returns
 returns c =
-    let a = c .before .before .before .before .before .before .before .before in
-    rw (a .before .before .placement .ensures, a .before .kind .ensures, a .address .ensures)
+    rw (
+      c .pair-at4 .ensures,
+      c .before .pair-at3 .ensures,
+      c .before .before .pair-at2 .ensures,
+      c .before .before .before .pair-at .ensures,
+      c .before .before .before .before .bus-places .ensures,
+    )
 
 pub digital-spec : {M : Type 1} → statement M
 digital-spec =
     tie.close
     (tie.spec
-    (λ c κs. search needs) (search needs) (λ c κs. search needs) (search needs) (λ c κs. search needs)
-    (search needs) (search needs) (search needs) (search needs) (search needs) (search needs) (search needs)
-    (search needs) (search needs) (search needs) (search needs) (search needs) (search needs) (search needs)
-    (search needs) (search needs) cast-n-8 (search needs) (search needs) returns)
+    (λ c κs. search needs) (λ c κs. search needs) (λ c κs. search needs) (λ c κs. search needs) (λ c κs. search needs)
+    (λ c. search needs) (λ c. search needs) returns)

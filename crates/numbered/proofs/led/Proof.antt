@@ -7,13 +7,11 @@ use Rattle.numbered.proofs.led.Tie as tie
 returns : tie.Need-returns
 returns c =
     rw (
-      c .before .before .before .before .before .before .placement .ensures,
-      c .before .before .byte-of .ensures,
-      c .before .byte-of2 .ensures,
-      c .byte-of3 .ensures,
+      c .lamp-at3 .ensures,
+      c .before .lamp-at2 .ensures,
+      c .before .before .lamp-at .ensures,
+      c .before .before .before .placement .ensures,
     )
 
 pub led-spec : {M : Type 1} → statement M
-led-spec = tie.close (tie.spec (λ c κs. search needs) (λ c κs. search needs) (λ c. search needs) (λ c. search needs) (λ c. search needs)
-    (λ c κs. search needs) (λ c. search needs) (λ c. search needs) (λ c. search needs) (λ c κs. search needs) (λ c. search needs)
-    (λ c. search needs) (λ c. search needs) returns)
+led-spec = tie.close (tie.spec (λ c κs. search needs) (λ c κs. search needs) (λ c κs. search needs) (λ c κs. search needs) returns)

@@ -1,5 +1,6 @@
 -- `from::device` meets its contract, by what each call ensures of its result.
 -- Assumes nothing.
+use native.Mathlib.Omega.{arith}
 use borrow.Author.Needs.{needs}
 use Rattle.numbers.proofs.device.Statement.{statement}
 use Rattle.numbers.proofs.device.Tie as tie
@@ -16,8 +17,8 @@ device-spec =
     tie.close
     (tie.spec
     (λ c κs. search needs)
-    (search needs)
-    (search needs)
-    (search needs)
+    (λ c. omega arith)
+    (λ c. omega arith)
+    (λ c. omega arith)
     (λ c κs. search needs)
     returns)
