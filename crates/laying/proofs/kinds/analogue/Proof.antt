@@ -16,7 +16,8 @@ cast-t25 c = record { fits = omega (arith, c .struct-known10 .given) }
 
 put-placed-requires : tie.Need-put-placed-requires
 put-placed-requires c κs =
-    omega (arith, c .before .before .before .before .before .before .before .before .before .before .before .before .before .before .pre .inside)
+    let p = c .before .before .before .before .before .before .before in
+    omega (arith, p .before .before .before .before .before .before .before .pre .inside)
 
 pub analogue-spec : {M : Type 1} → statement M
 analogue-spec = tie.close (tie.spec (search needs) (search needs) (search needs) (search needs) (search needs) cast-t17 (search needs)
