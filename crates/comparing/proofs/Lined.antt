@@ -65,7 +65,9 @@ module _ (k : ℕ) (text : List ℕ) {n absent : ℕ} {c : List ℕ} {at end : �
 
 -- bytes in hex and what ends the field: where they end, and the buffer is as long as it was
 pub ended-length :
-    (p : List ℕ) (end : ℕ) {c d : List ℕ} {at r : ℕ} → Put c at (hex p ++ end ∷ []) r d → (r ≡ at + 2 * length p + 1) × (length d ≡ length c)
+    (p : List ℕ) (end : ℕ) {c d : List ℕ} {at r : ℕ}
+    → Put c at (hex p ++ end ∷ []) r d
+    → (r ≡ at + 2 * length p + 1) × (length d ≡ length c)
 ended-length p end h = (omega (arith, h .ends, length-append (hex p) (end ∷ []), hex-length p), h .long)
 
 -- parts

@@ -18,7 +18,8 @@ returns-2 c =
     let q = c .before .before in
     let d = q .before .before .before .before .before in
     let i = d .before .before in
-    present 2 (hexPair (i .before .before .args .id)) (i .if1 .left) (d .put-hex .ensures .0) (omega (arith, d .put-hex .ensures .1)) (q .put2 .ensures)
+    present 2 (hexPair (i .before .before .args .id)) (i .if1 .left) (d .put-hex .ensures .0)
+    (omega (arith, d .put-hex .ensures .1)) (q .put2 .ensures)
 
 pub put-id-spec : {M : Type 1} → statement M
 put-id-spec = tie.close (tie.spec (search needs) (λ c κs. search needs) (search needs) returns (λ c κs. search needs) (search needs)

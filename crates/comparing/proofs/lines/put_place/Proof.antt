@@ -18,7 +18,8 @@ returns-2 c =
     let q = c .before .before in
     let d = q .before .before .before .before .before in
     let i = d .before .before in
-    present 8 (decimal (i .before .before .args .o)) (i .if1 .left) (d .put-decimal .ensures .0) (omega (arith, d .put-decimal .ensures .1)) (q .put2 .ensures)
+    present 8 (decimal (i .before .before .args .o)) (i .if1 .left) (d .put-decimal .ensures .0)
+    (omega (arith, d .put-decimal .ensures .1)) (q .put2 .ensures)
 
 pub put-place-spec : {M : Type 1} → statement M
 put-place-spec = tie.close (tie.spec (search needs) (λ c κs. search needs) (search needs) returns (λ c κs. search needs) (search needs)
