@@ -24,7 +24,8 @@ sift-requires-2 c κs =
     let w = z .before .before .before in
     let y = w .before .before in
     let s = y .before .before .before .before .before in
-    let ready = strings-ready _ _ (s .pre .0) (s .pre .1) (s .pre .2) (s .pre .3) (y .sift .ensures) (w .wide .ensures .0) (w .wide .ensures .1) (z .note-first .ensures) in
+    let ready = strings-ready _ _ (s .pre .0) (s .pre .1) (s .pre .2) (s .pre .3) (y .sift .ensures)
+    (w .wide .ensures .0) (w .wide .ensures .1) (z .note-first .ensures) in
     (ready, length-replicate {A = ℕ} 96 0)
 
 sift-requires-3 : tie.Need-sift-requires-3
@@ -34,7 +35,8 @@ sift-requires-3 c κs =
     let w = z .before .before .before in
     let y = w .before .before in
     let s = y .before .before .before .before .before in
-    let ready = pins-ready _ _ (s .pre .0) (s .pre .1) (s .pre .2) (s .pre .3) (y .sift .ensures) (w .wide .ensures .0) (w .wide .ensures .1) (z .note-first .ensures) (v .sift2 .ensures) in
+    let ready = pins-ready _ _ (s .pre .0) (s .pre .1) (s .pre .2) (s .pre .3) (y .sift .ensures)
+    (w .wide .ensures .0) (w .wide .ensures .1) (z .note-first .ensures) (v .sift2 .ensures) in
     (ready, s .pre .3 .notes .kept-long)
 
 planned-requires : tie.Need-planned-requires
@@ -45,8 +47,8 @@ planned-requires c κs =
     let w = z .before .before .before in
     let y = w .before .before in
     let s = y .before .before .before .before .before in
-    all-listed _ _ (s .pre .0) (s .pre .1) (s .pre .2) (s .pre .3) (y .sift .ensures) (w .wide .ensures .0) (w .wide .ensures .1) (z .note-first .ensures) (v .sift2 .ensures)
-    (u .sift3 .ensures)
+    all-listed _ _ (s .pre .0) (s .pre .1) (s .pre .2) (s .pre .3) (y .sift .ensures)
+    (w .wide .ensures .0) (w .wide .ensures .1) (z .note-first .ensures) (v .sift2 .ensures) (u .sift3 .ensures)
 
 returns : tie.Need-returns
 returns c =
@@ -56,8 +58,8 @@ returns c =
     let w = z .before .before .before in
     let y = w .before .before in
     let s = y .before .before .before .before .before in
-    all-decided _ _ (s .pre .0) (s .pre .1) (s .pre .2) (s .pre .3) (y .sift .ensures) (w .wide .ensures .0) (w .wide .ensures .1) (z .note-first .ensures) (v .sift2 .ensures)
-    (u .sift3 .ensures) (c .planned .ensures)
+    all-decided _ _ (s .pre .0) (s .pre .1) (s .pre .2) (s .pre .3) (y .sift .ensures)
+    (w .wide .ensures .0) (w .wide .ensures .1) (z .note-first .ensures) (v .sift2 .ensures) (u .sift3 .ensures) (c .planned .ensures)
 
 pub choose-spec : {M : Type 1} → statement M
 choose-spec = tie.close (tie.spec sift-requires shared-slice-read-wide (λ c κs. search needs) (λ c. search needs) (λ c κs. search needs)
