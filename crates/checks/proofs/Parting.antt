@@ -5,15 +5,17 @@ use native.Mathlib.Omega.{arith}
 use mathlib.Core.Path.{_≡_, refl, sym, _∙_}
 use mathlib.Core.Bool.{true, false}
 use mathlib.Core.List.{List, [], _∷_}
+use mathlib.Core.Option.{none}
 use lib.ListN.{length}
 use lib.Dec.{eqb}
 use borrow.Author.Tests.{ne-eqb}
 use Rattle.format.specs.Pins.{among}
-use Rattle.format.specs.Records.{Record, tachometer, external}
-use Rattle.format.specs.Rules.{numbered, firstBroken, ownRules, chipIdentifiers}
-use Rattle.format.specs.Decode.{whenNil, cutBlocks, cutTwo, cutThree, externalOf}
-use Rattle.format.specs.Writing.{assembledBreaks, partBreaks}
+use Rattle.format.specs.Records.{tachometer, external}
+use Rattle.format.specs.Rules.{numbered, chipIdentifiers}
+use Rattle.format.specs.Decode.{cutBlocks, cutTwo, cutThree, externalOf}
+use Rattle.format.specs.Writing.{assemble, assembledBreaks, partBreaks}
 use Rattle.format.specs.declared.records.BusDevice.{BusDevice}
+use Rattle.format.specs.declared.records.Element.{Element}
 use Rattle.format.specs.declared.records.Element.the-variants.{Controller, Tachometer, External}
 use Rattle.format.specs.declared.settings.Settings.{Settings}
 use Rattle.blocks.specs.Cutting.{isSome, exact, SpeedPart, PairsPart}
@@ -22,14 +24,23 @@ use Rattle.blocks.proofs.EachKind.{two, three}
 use Rattle.blocks.proofs.Faults.{speed-fault, pairs-fault}
 use Rattle.rules.specs.Broken.{orElse, DeviceBreaks}
 
--- a kind without a part
-pub alone :
-    (s : Settings) (x : Record) (p : List ℕ) {fault r : ℕ}
-    → r ≡ orElse (eqb (length p) 0) 8 fault
-    → fault ≡ numbered (firstBroken (ownRules s x))
-    → r ≡ numbered (assembledBreaks s (whenNil p x))
-alone s x [] e f = e ∙ f
-alone s x (b ∷ p) e f = e ∙ rw (ne-eqb (suc (length p)) 0 (λ q. omega (arith, q))) refl
+-- an element is of a kind, and breaks what the kind breaks; one without a part 8 where there is one, and else what it breaks alone
+module _ (s : Settings) (e k : Element) (p : List ℕ) {r : ℕ} (same : e ≡ k) where
+  pub of-kind : r ≡ numbered (partBreaks s k p) → r ≡ numbered (partBreaks s e p)
+  of-kind h = rw same h
+
+  pub alone :
+      {fault : ℕ}
+      → r ≡ orElse (eqb (length p) 0) 8 fault
+      → fault ≡ numbered (assembledBreaks s (assemble k []))
+      → ((b : ℕ) (q : List ℕ) → assemble k (b ∷ q) ≡ none)
+      → r ≡ numbered (partBreaks s e p)
+  unfolding partBreaks
+  alone {fault} h f none-else = of-kind (go p h)
+    where
+      go : (q : List ℕ) → r ≡ orElse (eqb (length q) 0) 8 fault → r ≡ numbered (assembledBreaks s (assemble k q))
+      go [] h = h ∙ f
+      go (b ∷ q) h = h ∙ rw (ne-eqb (suc (length q)) 0 (λ n. omega (arith, n)), none-else b q) refl
 
 -- a device with its part
 module _

@@ -160,6 +160,15 @@ fn put_bytes(out: &mut [u8], at: usize, p: &[u8]) -> usize
     end
 }
 
+// The same, and what ends the field.
+fn put_ended(out: &mut [u8], at: usize, p: &[u8], end: u8) -> usize
+    requires { ⌜ at + 2 * length (now p) < length (now out) ⌝ }
+    ensures { λ r. ⌜ Put (now (out .entry)) at (hex (now (p .entry)) ++ end ∷ []) r (now (out .exit)) ⌝ }
+{
+    let e = put_bytes(out, at, p);
+    put(out, e, &[end])
+}
+
 // Whether two parts are the same.
 fn alike(p: &[u8], q: &[u8]) -> bool
     ensures { λ r. ⌜ r ≡ same (now (p .entry)) (now (q .entry)) ⌝ }
@@ -206,8 +215,6 @@ pub fn put_part(out: &mut [u8], at: usize, a: usize, b: usize, p: &[u8], q: &[u8
             9,
         ],
     );
-    let g = put_bytes(out, f, p);
-    let h = put(out, g, &[9]);
-    let i = put_bytes(out, h, q);
-    put(out, i, &[10])
+    let g = put_ended(out, f, p, 9);
+    put_ended(out, g, q, 10)
 }

@@ -10,8 +10,7 @@ use lib.ListN.{length, drop}
 use lib.Dec.{eqb, leb}
 use borrow.Author.Tests.{eqb-true, leb-true, ne-eqb}
 use Rattle.format.specs.Slots.{byte}
-use Rattle.format.specs.Records.{Record, digital, analogue, fan, led, water, pump, voltage, current, controller, tachometer, zone, string}
-use Rattle.format.specs.Records.{external, rgb, elementOf}
+use Rattle.format.specs.Records.{Record, controller, tachometer, zone, string, external, elementOf}
 use Rattle.format.specs.Decode.{readDigital, readAnalogue, readFan, readLed, readWater, readVoltage, readCurrent, readDevice}
 use Rattle.format.specs.Decode.{readExternal, readRgb, guard, bind, pick, cutBlocks, cutTwo, cutThree, decode}
 use Rattle.format.specs.declared.pins.Chip.{Chip}
@@ -31,80 +30,55 @@ bind-element :
 bind-element none f e x g h = let z : _≡_ {A = ℕ} 0 1 = cc in absurd (omega arith)
 bind-element (some a) f e x g h = let z : f a ≡ x = cc in g a ∙ ap elementOf z
 
--- a kind of one length
-even : (n m : ℕ) (y x : Record) → guard (eqb n m) (some y) ≡ some x → (n ≡ m) × (elementOf y ≡ elementOf x)
-even n m y x h =
-    let p = guard-some (eqb n m) (some y) x h in
-    let q = p .1 in
-    let z : y ≡ x = cc in
-    (eqb-true n m (p .0), ap elementOf z)
+-- the kinds whose fields are read: the identifier, how many bytes are read, and the element that they are
+pub data Kind (chip : Chip) (b : ℕ → ℕ) : ℕ → ℕ → Element → Type 0 where
+  is-digital : Kind chip b 1 18 (Digital (readDigital chip b))
+  is-analogue : Kind chip b 2 17 (Analogue (readAnalogue chip b))
+  is-fan : Kind chip b 3 13 (Fan (readFan chip b))
+  is-led : Kind chip b 4 11 (Led (readLed chip b))
+  is-water : Kind chip b 5 12 (Water (readWater chip b))
+  is-pump : Kind chip b 6 13 (Pump (readFan chip b))
+  is-voltage : Kind chip b 7 8 (Voltage (readVoltage chip b))
+  is-current : Kind chip b 8 11 (Current (readCurrent chip b))
+  is-controller : Kind chip b 9 8 (Controller (readDevice chip b))
+  is-tachometer : Kind chip b 10 8 (Tachometer (readDevice chip b))
+  is-external : Kind chip b 13 9 (External (readExternal chip b))
+  is-rgb : Kind chip b 14 8 (Rgb (readRgb chip b))
 
 module _ (chip : Chip) (c : List ℕ) (x : Record) where
-  pub is-digital : decode chip 1 c ≡ some x → (length c ≡ 18) × (Digital (readDigital chip (byte c)) ≡ elementOf x)
-  unfolding decode
-  is-digital h = even (length c) 18 (digital (readDigital chip (byte c))) x h
+  -- a kind of one length
+  even : (n : ℕ) (y : Record) → guard (eqb (length c) n) (some y) ≡ some x → (n ≤ length c) × (elementOf y ≡ elementOf x)
+  even n y h =
+      let p = guard-some (eqb (length c) n) (some y) x h in
+      let q = p .1 in
+      let z : y ≡ x = cc in
+      (omega (arith, eqb-true (length c) n (p .0)), ap elementOf z)
 
-  pub is-analogue : decode chip 2 c ≡ some x → (length c ≡ 17) × (Analogue (readAnalogue chip (byte c)) ≡ elementOf x)
-  unfolding decode
-  is-analogue h = even (length c) 17 (analogue (readAnalogue chip (byte c))) x h
+  -- a kind with a part
+  parted :
+      {A : Type 0} (n m : ℕ) (o : Option A) (f : A → Record) (e : Element)
+      → m ≤ n
+      → ((a : A) → e ≡ elementOf (f a))
+      → guard (leb n (length c)) (bind o (λ a. some (f a))) ≡ some x
+      → (m ≤ length c) × (e ≡ elementOf x)
+  parted n m o f e l g h =
+      let p = guard-some (leb n (length c)) (bind o (λ a. some (f a))) x h in
+      (omega (arith, leb-true n (length c) (p .0)), bind-element o f e x g (p .1))
 
-  pub is-fan : decode chip 3 c ≡ some x → (length c ≡ 13) × (Fan (readFan chip (byte c)) ≡ elementOf x)
+  of-kind : {id n : ℕ} {e : Element} → Kind chip (byte c) id n e → decode chip id c ≡ some x → (n ≤ length c) × (e ≡ elementOf x)
   unfolding decode
-  is-fan h = even (length c) 13 (fan (readFan chip (byte c))) x h
-
-  pub is-led : decode chip 4 c ≡ some x → (length c ≡ 11) × (Led (readLed chip (byte c)) ≡ elementOf x)
-  unfolding decode
-  is-led h = even (length c) 11 (led (readLed chip (byte c))) x h
-
-  pub is-water : decode chip 5 c ≡ some x → (length c ≡ 12) × (Water (readWater chip (byte c)) ≡ elementOf x)
-  unfolding decode
-  is-water h = even (length c) 12 (water (readWater chip (byte c))) x h
-
-  pub is-pump : decode chip 6 c ≡ some x → (length c ≡ 13) × (Pump (readFan chip (byte c)) ≡ elementOf x)
-  unfolding decode
-  is-pump h = even (length c) 13 (pump (readFan chip (byte c))) x h
-
-  pub is-voltage : decode chip 7 c ≡ some x → (length c ≡ 8) × (Voltage (readVoltage chip (byte c)) ≡ elementOf x)
-  unfolding decode
-  is-voltage h = even (length c) 8 (voltage (readVoltage chip (byte c))) x h
-
-  pub is-current : decode chip 8 c ≡ some x → (length c ≡ 11) × (Current (readCurrent chip (byte c)) ≡ elementOf x)
-  unfolding decode
-  is-current h = even (length c) 11 (current (readCurrent chip (byte c))) x h
-
-  pub is-rgb : decode chip 14 c ≡ some x → (length c ≡ 8) × (Rgb (readRgb chip (byte c)) ≡ elementOf x)
-  unfolding decode
-  is-rgb h = even (length c) 8 (rgb (readRgb chip (byte c))) x h
-
-  pub is-controller : decode chip 9 c ≡ some x → (8 ≤ length c) × (Controller (readDevice chip (byte c)) ≡ elementOf x)
-  unfolding decode
-  is-controller h =
-      let p = guard-some (leb 8 (length c)) (bind (cutBlocks (length c) (drop 8 c)) (λ l. some (controller (readDevice chip (byte c)) l)))
-      x h in (
-        leb-true 8 (length c) (p .0),
-        bind-element (cutBlocks (length c) (drop 8 c)) (λ l. controller (readDevice chip (byte c)) l)
-            (Controller (readDevice chip (byte c))) x (λ l. refl) (p .1),
-      )
-
-  pub is-tachometer : decode chip 10 c ≡ some x → (9 ≤ length c) × (Tachometer (readDevice chip (byte c)) ≡ elementOf x)
-  unfolding decode
-  is-tachometer h =
-      let p = guard-some (leb 9 (length c)) (bind (cutTwo (drop 9 c)) (λ t. some (tachometer (readDevice chip (byte c)) (t .0) (t .1)))) x
-      h in (
-        leb-true 9 (length c) (p .0),
-        bind-element (cutTwo (drop 9 c)) (λ t. tachometer (readDevice chip (byte c)) (t .0) (t .1))
-            (Tachometer (readDevice chip (byte c))) x (λ t. refl) (p .1),
-      )
-
-  pub is-external : decode chip 13 c ≡ some x → (9 ≤ length c) × (External (readExternal chip (byte c)) ≡ elementOf x)
-  unfolding decode
-  is-external h =
-      let p = guard-some (leb 9 (length c)) (bind (cutThree (drop 9 c))
-      (λ t. some (external (readExternal chip (byte c)) (t .0) (t .1) (t .2)))) x h in (
-        leb-true 9 (length c) (p .0),
-        bind-element (cutThree (drop 9 c)) (λ t. external (readExternal chip (byte c)) (t .0) (t .1) (t .2))
-            (External (readExternal chip (byte c))) x (λ t. refl) (p .1),
-      )
+  of-kind is-digital h = even _ _ h
+  of-kind is-analogue h = even _ _ h
+  of-kind is-fan h = even _ _ h
+  of-kind is-led h = even _ _ h
+  of-kind is-water h = even _ _ h
+  of-kind is-pump h = even _ _ h
+  of-kind is-voltage h = even _ _ h
+  of-kind is-current h = even _ _ h
+  of-kind is-controller h = parted 8 8 (cutBlocks (length c) (drop 8 c)) (λ l. controller _ l) _ (omega arith) (λ l. refl) h
+  of-kind is-tachometer h = parted 9 8 (cutTwo (drop 9 c)) (λ t. tachometer _ (t .0) (t .1)) _ (omega arith) (λ t. refl) h
+  of-kind is-external h = parted 9 9 (cutThree (drop 9 c)) (λ t. external _ (t .0) (t .1) (t .2)) _ (omega arith) (λ t. refl) h
+  of-kind is-rgb h = even _ _ h
 
   pub is-text : decode chip 12 c ≡ some x → Text ≡ elementOf x
   unfolding decode
@@ -150,3 +124,11 @@ module _ (chip : Chip) (c : List ℕ) (x : Record) where
       go : (t : Bool) → pick t (some (zone c)) none ≡ some x → Zone ≡ elementOf x
       go true q = let z : zone c ≡ x = cc in ap elementOf z
       go false q = let z : _≡_ {A = ℕ} 0 1 = cc in absurd (omega arith)
+
+-- the arm of a kind: there are as many bytes as are read, and what they are is the element
+module _ (chip : Chip) (c : List ℕ) {id k n : ℕ} {e : Element} (kind : Kind chip (byte c) k n e) (same : id ≡ k) where
+  pub long-enough : (x : Record) × (decode chip id c ≡ some x) → n ≤ length c
+  long-enough p = of-kind chip c (p .0) kind (rw same at (p .1)) .0
+
+  pub reads : {r : Element} → r ≡ e → (x : Record) → decode chip id c ≡ some x → r ≡ elementOf x
+  reads f x h = f ∙ of-kind chip c x kind (rw same at h) .1

@@ -62,20 +62,20 @@ pub fn put_fixed(buf: &mut [u8], at: usize, e: Element)
     ensures { λ _. ⌜ now (buf .exit) ≡ overwritten at (written (fixed e)) (now (buf .entry)) ⌝ }
 {
     match e {
-        Element::Digital(d) => copy_into(buf, at, &kinds::digital(d)),
-        Element::Analogue(a) => copy_into(buf, at, &kinds::analogue(a)),
-        Element::Fan(f) => copy_into(buf, at, &kinds::fan(f)),
-        Element::Led(l) => copy_into(buf, at, &kinds::led(l)),
-        Element::Water(w) => copy_into(buf, at, &kinds::water(w)),
-        Element::Pump(f) => copy_into(buf, at, &kinds::fan(f)),
-        Element::Voltage(v) => copy_into(buf, at, &kinds::voltage(v)),
-        Element::Current(c) => copy_into(buf, at, &kinds::current(c)),
-        Element::Controller(d) => copy_into(buf, at, &kinds::controller(d)),
-        Element::Tachometer(d) => copy_into(buf, at, &kinds::tachometer(d)),
+        Element::Digital(d) => kinds::digital(buf, at, d),
+        Element::Analogue(a) => kinds::analogue(buf, at, a),
+        Element::Fan(f) => kinds::fan(buf, at, f),
+        Element::Led(l) => kinds::led(buf, at, l),
+        Element::Water(w) => kinds::water(buf, at, w),
+        Element::Pump(f) => kinds::fan(buf, at, f),
+        Element::Voltage(v) => kinds::voltage(buf, at, v),
+        Element::Current(c) => kinds::current(buf, at, c),
+        Element::Controller(d) => kinds::controller(buf, at, d),
+        Element::Tachometer(d) => kinds::tachometer(buf, at, d),
         Element::Zone => {}
         Element::Text => {}
-        Element::External(x) => copy_into(buf, at, &kinds::external(x)),
-        Element::Rgb(c) => copy_into(buf, at, &kinds::rgb(c)),
+        Element::External(x) => kinds::external(buf, at, x),
+        Element::Rgb(c) => kinds::rgb(buf, at, c),
     }
 }
 

@@ -18,8 +18,9 @@ use Rattle.flags.specs.Marks.{Marks}
 use Rattle.flags.proofs.Marked.{marks-front}
 use Rattle.claims.specs.Taken.{HeldIs, whats}
 use Rattle.claims.specs.declared.Held.{Held}
-use Rattle.saving.specs.Saving.{Line, line, cleared, Saved, saved, records, stringIndexes, firstLine, zoned}
+use Rattle.saving.specs.Saving.{salvageable, Line, line, cleared, Saved, saved, records, stringIndexes, firstLine, zoned}
 use Rattle.saving.proofs.Choosing.{inZone, choose-gathered}
+use Rattle.saving.proofs.Theorems.{salvageable-says}
 use Rattle.fates.specs.Noted.{Each, Codes, Notes}
 use Rattle.fates.specs.declared.Counts.{Counts}
 use Rattle.fates.proofs.Noting.{each-snoc, cleared-code}
@@ -215,3 +216,56 @@ decided c t p kept log e clears l n s =
       clears = l .clear ∙ s;
       size = rw (l .keeps) (l .size);
     }
+
+-- 13, 14 and 15, one behind another, from what the pass leaves
+module _
+    (c : Chip) (t : List ℕ) {held : Held} (top : length t ≤ 4096) (able : salvageable c t ≡ true)
+    (made : HeldIs held (madeAt 0 (firstClaims (described c t)))) {kept log : List ℕ} {zs ss : List Bool} {a : Counts}
+    (w : Passed c t kept log zs ss a)
+  where
+    clear : contested (described c t) [] ≡ none
+    clear = salvageable-says c t .0 able .clear
+
+    pub zones-ready : Ready c Zones t kept (a .kept) zs held log (a .lines)
+    zones-ready = ready-13 c t held made clear kept log zs ss a w top
+
+    module _
+        {b : Counts} {one log₁ : List ℕ} (first : Sifted c Zones t kept (a .kept) zs held log (a .lines) b one log₁)
+        {index : ℕ} (at-4 : index ≡ byte t 4) (small : index < 256) {lines : ℕ} {log₂ : List ℕ}
+        (n : NotesFirst log₁ (b .lines) (not (getD ss index false)) lines log₂)
+      where
+        same : not (getD ss index false) ≡ not (among (described c t .string) (stringIndexes (afterZones c t)))
+        same = clears-14 c t held made clear ss index (w .index) at-4 small
+
+        noted-zones : Notes c t one log₁ b (afterZones c t)
+        noted-zones = noted-13 c t held made clear kept log zs ss a w first
+
+        few : b .lines ≤ 1456
+        few = omega (arith, first .not-many, w .few-lines, w .notes .few)
+
+        pub strings-ready : Ready c Strings t one (b .kept) ss held log₂ lines
+        strings-ready = ready-14 c t held made clear one log₁ log₂ ss b lines noted-zones few _ same n (w .index) top
+
+        module _
+            {d : Counts} {two log₃ : List ℕ} (second : Sifted c Strings t one (b .kept) ss held log₂ lines d two log₃)
+          where
+            noted-strings : Notes c t two log₃ d (afterStrings c t)
+            noted-strings = noted-14 c t held made clear one log₁ log₂ ss b lines noted-zones few _ same n (w .index) second
+
+            few-then : d .lines ≤ 1553
+            few-then = omega (arith, few, n .more, second .not-many, noted-zones .few)
+
+            pub pins-ready : Ready c Pins t two (d .kept) ss held log₃ (d .lines)
+            pins-ready = ready-15 c t held made clear two log₃ ss d noted-strings few-then (w .index) top
+
+            module _
+                {e : Counts} {kept₄ log₄ : List ℕ} (third : Sifted c Pins t two (d .kept) ss held log₃ (d .lines) e kept₄ log₄)
+              where
+                noted-all : Notes c t kept₄ log₄ e (afterAll c t)
+                noted-all = noted-15 c t held made clear two log₃ ss d noted-strings few-then (w .index) third
+
+                pub all-listed : Listed t kept₄ (e .kept)
+                all-listed = listed c t kept₄ log₄ e noted-all top
+
+                pub all-decided : {p : Plan} → PlanIs t kept₄ e (not (getD ss index false)) p → Decided c t p kept₄ log₄
+                all-decided {p} l = decided c t p kept₄ log₄ e _ l noted-all same

@@ -7,6 +7,7 @@ ghost use Rattle.format.specs.declared.settings.Rules.the-variants.{Ordinary};
 ghost use Rattle.shown.specs.Own.{three as threeOf, selectOf, fanPins, lampPins, ownPins, zoneOf};
 use elements::byte_of;
 use format::records::Address;
+use format::records::BusDevice;
 use format::records::Element;
 use format::records::PwmFan;
 use format::records::StatusLed;
@@ -38,40 +39,54 @@ pub fn shown(e: Element, part: &[u8]) -> Showing
             let a = d.address;
             on_bus(d.placement.zone, d.bus, a)
         }
-        Element::Analogue(a) => placed(a.placement.zone, own(a.pin.0, 255, 255)),
-        Element::Fan(f) => placed(f.placement.zone, fan_pins(f)),
-        Element::Led(l) => placed(l.placement.zone, lamp_pins(l)),
-        Element::Water(w) => placed(w.placement.zone, own(w.pin.0, 255, 255)),
-        Element::Pump(f) => placed(f.placement.zone, fan_pins(f)),
-        Element::Voltage(v) => placed(v.placement.zone, own(v.pin.0, 255, 255)),
-        Element::Current(c) => placed(c.placement.zone, own(c.pin.0, 255, 255)),
-        Element::Controller(d) => {
-            let a = d.address;
-            on_bus(d.placement.zone, d.bus, a)
-        }
-        Element::Tachometer(d) => {
-            let a = d.address;
-            on_bus(d.placement.zone, d.bus, a)
-        }
+        Element::Analogue(a) => placed(a.placement.zone, a.pin.0, 255, 255),
+        Element::Fan(f) => fan(f),
+        Element::Led(l) => led(l),
+        Element::Water(w) => placed(w.placement.zone, w.pin.0, 255, 255),
+        Element::Pump(f) => fan(f),
+        Element::Voltage(v) => placed(v.placement.zone, v.pin.0, 255, 255),
+        Element::Current(c) => placed(c.placement.zone, c.pin.0, 255, 255),
+        Element::Controller(d) => device(d),
+        Element::Tachometer(d) => device(d),
         Element::Zone => without_pins(number_of(part)),
         Element::Text => without_pins(256),
         Element::External(x) => {
             let d = x.device;
-            let a = d.address;
-            on_bus(d.placement.zone, d.bus, a)
+            device(d)
         }
-        Element::Rgb(r) => placed(r.placement.zone, own(r.red.0, r.green.0, r.blue.0)),
+        Element::Rgb(r) => placed(r.placement.zone, r.red.0, r.green.0, r.blue.0),
     }
 }
 
-fn placed(zone: u8, pins: OwnPins) -> Showing
-    ensures { λ r. ⌜ (r .zone ≡ zone) × (r .pins ≡ pins) × (r .used ≡ true) ⌝ }
+fn placed(zone: u8, one: u8, two: u8, three: u8) -> Showing
+    ensures { λ r. ⌜ (r .zone ≡ zone) × (r .pins ≡ threeOf one two three) × (r .used ≡ true) ⌝ }
 {
     Showing {
         zone: wide(zone),
-        pins,
+        pins: own(one, two, three),
         used: true,
     }
+}
+
+// 03h and 06h
+fn fan(f: PwmFan) -> Showing
+    ensures { λ r. ⌜ (r .zone ≡ f .placement .zone) × (r .pins ≡ fanPins f) × (r .used ≡ true) ⌝ }
+{
+    let t = f.tachometer;
+    placed(f.placement.zone, f.pwm.0, byte_of(t), 255)
+}
+
+// 04h
+fn led(l: StatusLed) -> Showing
+    ensures { λ r. ⌜ (r .zone ≡ l .placement .zone) × (r .pins ≡ lampPins l) × (r .used ≡ true) ⌝ }
+{
+    let a = l.one;
+    let b = l.two;
+    let c = l.three;
+    let p = a.pin;
+    let q = b.pin;
+    let r = c.pin;
+    placed(l.placement.zone, byte_of(p), byte_of(q), byte_of(r))
 }
 
 // A device on a bus: its chip select, if it has one, and its bus type.
@@ -83,6 +98,15 @@ fn on_bus(zone: u8, bus: u8, a: Address) -> Showing
         pins: selected(a),
         used: rules::in_use(bus, Rules::Ordinary),
     }
+}
+
+// 09h, 0Ah and 0Dh
+fn device(d: BusDevice) -> Showing
+    ensures { λ r. ⌜ (r .zone ≡ d .placement .zone) × (r .pins ≡ threeOf (selectOf (d .address)) 0xff 0xff)
+        × (r .used ≡ typeInUse Ordinary (d .bus)) ⌝ }
+{
+    let a = d.address;
+    on_bus(d.placement.zone, d.bus, a)
 }
 
 fn without_pins(zone: usize) -> Showing
@@ -115,25 +139,6 @@ fn selected(a: Address) -> OwnPins
     ensures { λ r. ⌜ r ≡ threeOf (selectOf a) 0xff 0xff ⌝ }
 {
     own(select_of(a), 255, 255)
-}
-
-fn fan_pins(f: PwmFan) -> OwnPins
-    ensures { λ r. ⌜ r ≡ fanPins f ⌝ }
-{
-    let t = f.tachometer;
-    own(f.pwm.0, byte_of(t), 255)
-}
-
-fn lamp_pins(l: StatusLed) -> OwnPins
-    ensures { λ r. ⌜ r ≡ lampPins l ⌝ }
-{
-    let a = l.one;
-    let b = l.two;
-    let c = l.three;
-    let p = a.pin;
-    let q = b.pin;
-    let r = c.pin;
-    own(byte_of(p), byte_of(q), byte_of(r))
 }
 
 // A zone descriptor's own number, from its part.

@@ -6,15 +6,12 @@ use native.Mathlib.Omega.{arith}
 use denote.Ref.{now}
 use lib.ListN.{length-replicate}
 use Rattle.saving.proofs.Theorems.{salvageable-says}
-use Rattle.salvaging.proofs.Deciding.{ready-13, noted-13, clears-14, ready-14, noted-14, ready-15, noted-15, listed, decided}
+use Rattle.salvaging.proofs.Deciding.{zones-ready, strings-ready, pins-ready, all-listed, all-decided}
 use Rattle.salvaging.proofs.choose.Statement.{statement}
 use Rattle.salvaging.proofs.choose.Tie as tie
 
 sift-requires : tie.Need-sift-requires
-sift-requires c κs =
-    let s = c .before .before .before .before in
-    let f = salvageable-says (s .args .chip) (now (s .args .t)) .0 (s .pre .1) in
-    (ready-13 _ _ _ (s .pre .2) (f .clear) _ _ _ _ _ (s .pre .3) (s .pre .0), length-replicate {A = ℕ} 96 0)
+sift-requires c κs = (search zones-ready, length-replicate {A = ℕ} 96 0)
 
 shared-slice-read-wide : tie.Need-shared-slice-read-wide
 shared-slice-read-wide c =
@@ -27,16 +24,9 @@ sift-requires-2 c κs =
     let w = z .before .before .before in
     let y = w .before .before in
     let s = y .before .before .before .before .before in
-    let f = salvageable-says (s .args .chip) (now (s .args .t)) .0 (s .pre .1) in
-    let h = s .pre .2 in
-    let p = s .pre .3 in
-    let x = y .sift .ensures in
-    let n = noted-13 _ _ _ h (f .clear) _ _ _ _ _ p x in
-    let q = clears-14 _ _ _ h (f .clear) _ _ (p .index) (w .wide .ensures .0) (w .wide .ensures .1) in (
-      ready-14 _ _ _ h (f .clear) _ _ _ _ _ _ n (omega (arith, x .not-many, p .few-lines, p .notes .few)) _ q (z .note-first .ensures)
-          (p .index) (s .pre .0),
-      length-replicate {A = ℕ} 96 0,
-    )
+    let ready = strings-ready _ _ (s .pre .0) (s .pre .1) (s .pre .2) (s .pre .3) (y .sift .ensures)
+    (w .wide .ensures .0) (w .wide .ensures .1) (z .note-first .ensures) in
+    (ready, length-replicate {A = ℕ} 96 0)
 
 sift-requires-3 : tie.Need-sift-requires-3
 sift-requires-3 c κs =
@@ -45,21 +35,9 @@ sift-requires-3 c κs =
     let w = z .before .before .before in
     let y = w .before .before in
     let s = y .before .before .before .before .before in
-    let f = salvageable-says (s .args .chip) (now (s .args .t)) .0 (s .pre .1) in
-    let h = s .pre .2 in
-    let p = s .pre .3 in
-    let x = y .sift .ensures in
-    let n = noted-13 _ _ _ h (f .clear) _ _ _ _ _ p x in
-    let q = clears-14 _ _ _ h (f .clear) _ _ (p .index) (w .wide .ensures .0) (w .wide .ensures .1) in
-    let k = v .sift2 .ensures in
-    let o =
-    noted-14 _ _ _ h (f .clear) _ _ _ _ _ _ n (omega (arith, x .not-many, p .few-lines, p .notes .few)) _ q (z .note-first .ensures)
-    (p .index) k in (
-      ready-15 _ _ _ h (f .clear) _ _ _ _ o
-          (omega (arith, x .not-many, p .few-lines, p .notes .few, z .note-first .ensures .more, k .not-many, n .few))
-          (p .index) (s .pre .0),
-      p .notes .kept-long,
-    )
+    let ready = pins-ready _ _ (s .pre .0) (s .pre .1) (s .pre .2) (s .pre .3) (y .sift .ensures)
+    (w .wide .ensures .0) (w .wide .ensures .1) (z .note-first .ensures) (v .sift2 .ensures) in
+    (ready, s .pre .3 .notes .kept-long)
 
 planned-requires : tie.Need-planned-requires
 planned-requires c κs =
@@ -69,21 +47,8 @@ planned-requires c κs =
     let w = z .before .before .before in
     let y = w .before .before in
     let s = y .before .before .before .before .before in
-    let f = salvageable-says (s .args .chip) (now (s .args .t)) .0 (s .pre .1) in
-    let h = s .pre .2 in
-    let p = s .pre .3 in
-    let x = y .sift .ensures in
-    let n = noted-13 _ _ _ h (f .clear) _ _ _ _ _ p x in
-    let q = clears-14 _ _ _ h (f .clear) _ _ (p .index) (w .wide .ensures .0) (w .wide .ensures .1) in
-    let k = v .sift2 .ensures in
-    let o =
-    noted-14 _ _ _ h (f .clear) _ _ _ _ _ _ n (omega (arith, x .not-many, p .few-lines, p .notes .few)) _ q (z .note-first .ensures)
-    (p .index) k in
-    listed _ _ _ _ _
-    (noted-15 _ _ _ h (f .clear) _ _ _ _ o
-    (omega (arith, x .not-many, p .few-lines, p .notes .few, z .note-first .ensures .more, k .not-many, n .few))
-    (p .index) (u .sift3 .ensures))
-    (s .pre .0)
+    all-listed _ _ (s .pre .0) (s .pre .1) (s .pre .2) (s .pre .3) (y .sift .ensures)
+    (w .wide .ensures .0) (w .wide .ensures .1) (z .note-first .ensures) (v .sift2 .ensures) (u .sift3 .ensures)
 
 returns : tie.Need-returns
 returns c =
@@ -93,32 +58,9 @@ returns c =
     let w = z .before .before .before in
     let y = w .before .before in
     let s = y .before .before .before .before .before in
-    let f = salvageable-says (s .args .chip) (now (s .args .t)) .0 (s .pre .1) in
-    let h = s .pre .2 in
-    let p = s .pre .3 in
-    let x = y .sift .ensures in
-    let n = noted-13 _ _ _ h (f .clear) _ _ _ _ _ p x in
-    let q = clears-14 _ _ _ h (f .clear) _ _ (p .index) (w .wide .ensures .0) (w .wide .ensures .1) in
-    let k = v .sift2 .ensures in
-    let o =
-    noted-14 _ _ _ h (f .clear) _ _ _ _ _ _ n (omega (arith, x .not-many, p .few-lines, p .notes .few)) _ q (z .note-first .ensures)
-    (p .index) k in
-    decided _ _ _ _ _ _ _ (c .planned .ensures)
-    (noted-15 _ _ _ h (f .clear) _ _ _ _ o
-    (omega (arith, x .not-many, p .few-lines, p .notes .few, z .note-first .ensures .more, k .not-many, n .few))
-    (p .index) (u .sift3 .ensures))
-    q
+    all-decided _ _ (s .pre .0) (s .pre .1) (s .pre .2) (s .pre .3) (y .sift .ensures)
+    (w .wide .ensures .0) (w .wide .ensures .1) (z .note-first .ensures) (v .sift2 .ensures) (u .sift3 .ensures) (c .planned .ensures)
 
 pub choose-spec : {M : Type 1} → statement M
-choose-spec =
-    tie.close
-    (tie.spec
-    sift-requires
-    shared-slice-read-wide
-    (λ c κs. search needs)
-    (λ c. search needs)
-    (λ c κs. search needs)
-    sift-requires-2
-    sift-requires-3
-    planned-requires
-    returns)
+choose-spec = tie.close (tie.spec sift-requires shared-slice-read-wide (λ c κs. search needs) (λ c. search needs) (λ c κs. search needs)
+    sift-requires-2 sift-requires-3 planned-requires returns)

@@ -1,4 +1,4 @@
--- `laying::kinds::digital` meets its contract: the address has room in its slot, the seventh, and its byte is that slot's.
+-- `laying::kinds::digital` meets its contract: the address has room in its slot, the seventh, and the numbers fit by their types.
 -- Assumes nothing.
 use native.Mathlib.Omega.{arith}
 use borrow.Author.Needs.{needs}
@@ -8,26 +8,14 @@ use Rattle.laying.proofs.Laws.{roomy-at}
 use Rattle.laying.proofs.kinds.digital.Statement.{statement}
 use Rattle.laying.proofs.kinds.digital.Tie as tie
 
-address-byte-requires : tie.Need-address-byte-requires
-address-byte-requires c κs = roomy-at (fixed (Digital (c .args .d))) 6 (c .pre)
+cast-t23 : tie.Need-cast-t23
+cast-t23 c = record { fits = omega (arith, c .struct-known8 .given) }
 
-cast-t19 : tie.Need-cast-t19
-cast-t19 c = record { fits = omega (arith, c .struct-known8 .given) }
-
-returns : tie.Need-returns
-returns c = rw (c .before .before .before .before .before .before .before .before .address-byte .ensures)
+put-device-requires : tie.Need-put-device-requires
+put-device-requires c κs =
+    let s = c .before .before .before .before .before .before .before .before .before .before .before .before in
+    (roomy-at (fixed (Digital (s .args .d))) 6 (s .pre .slots), omega (arith, s .pre .inside))
 
 pub digital-spec : {M : Type 1} → statement M
-digital-spec =
-    tie.close
-    (tie.spec
-    address-byte-requires
-    (search needs)
-    (search needs)
-    (search needs)
-    (search needs)
-    (search needs)
-    (search needs)
-    (search needs)
-    cast-t19
-    returns)
+digital-spec = tie.close (tie.spec (search needs) (search needs) (search needs) (search needs) (search needs) (search needs) (search needs)
+    cast-t23 (search needs) put-device-requires (search needs) (λ c. search needs))

@@ -6,13 +6,14 @@ use borrow.Author.Needs.{needs}
 use Rattle.laying.proofs.kinds.fan.Statement.{statement}
 use Rattle.laying.proofs.kinds.fan.Tie as tie
 
-cast-t11 : tie.Need-cast-t11
-cast-t11 c =
-    let f = c .before .before .before .before .before .good .0 .1 .1 in
-    record { fits = omega (arith, f .1 .1 .1 .1 .1 .0) }
+cast-t15 : tie.Need-cast-t15
+cast-t15 c = record { fits = omega (arith, c .struct-known4 .given) }
 
 returns : tie.Need-returns
-returns c = rw (c .before .before .before .before .byte-of .ensures) refl
+returns c =
+    let put = c .before .before in
+    rw (put .put-placed .ensures, put .before .before .before .before .before .before .before .byte-of .ensures) refl
 
 pub fan-spec : {M : Type 1} → statement M
-fan-spec = tie.close (tie.spec (λ c κs. search needs) (λ c. search needs) (λ c. search needs) (λ c. search needs) cast-t11 returns)
+fan-spec = tie.close (tie.spec (λ c κs. search needs) (λ c. search needs) (λ c. search needs) (λ c. search needs) cast-t15 (search needs)
+    (λ c κs. search needs) (search needs) returns)
