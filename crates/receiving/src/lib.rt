@@ -32,7 +32,7 @@ fn lead(first: &mut [u8; 30], count: usize, q: &[u8]) -> usize
         return 0;
     }
     let end = 16 - count;
-    underway::keep(first, count, &q[0..end]);
+    underway::keep_each(first, count, &q[0..end]);
     end
 }
 
@@ -74,7 +74,7 @@ fn receive(
         return;
     }
     if total < 16 {
-        underway::keep(first, count, q);
+        underway::keep_each(first, count, q);
         let way = states::way_of(n);
         states::put(n, 0, code, total, way);
         return;

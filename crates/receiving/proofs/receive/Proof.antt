@@ -16,7 +16,7 @@ returns c =
 returns-2 : tie.Need-returns-2
 returns-2 c =
     let k = c .before .before .before .before in
-    grows-early _ _ _ _ _ _ _ _ _ _ (k .before .before .if2 .taken) (k .keep .ensures) (c .put .ensures)
+    grows-early _ _ _ _ _ _ _ _ _ _ (k .before .before .if2 .taken) (k .keep-each .ensures) (c .put .ensures)
 
 returns-3 : tie.Need-returns-3
 returns-3 c =
