@@ -86,7 +86,11 @@ eight-next from a k p head head′ c m l =
         ap (byte (eightAt (from + a) a p head′)) z ∙ e .there (c .size ∙ h) (i - a) (omega arith) ∙ ap (byte p) w
 
 -- as many as there is room for are all
-pub copied-all : (from end : ℕ) (p head head′ : List ℕ) → RoomIs from (length p) end → CopiedIs from 0 end p head head′ → KeepIs from p head head′
+pub copied-all :
+    (from end : ℕ) (p head head′ : List ℕ)
+    → RoomIs from (length p) end
+    → CopiedIs from 0 end p head head′
+    → KeepIs from p head head′
 copied-all from end p head head′ r c =
     record {
       keeps =
@@ -131,12 +135,25 @@ module _ (from end : ℕ) (p head first last : List ℕ) (r : RoomIs from (lengt
   begun : 8 ≤ end → CopiedIs from 0 8 p head first
   begun l = let w = r .within (omega arith) in rw e (eight-copied from 0 p head (omega arith))
 
+  -- the last eight
+  finished :
+      (last : List ℕ) (k : ℕ) (most : List ℕ)
+      → CopiedIs from 0 k p head most
+      → 8 ≤ end
+      → end - 8 ≤ k
+      → last ≡ eightAt (from + (end - 8)) (end - 8) p most
+      → KeepIs from p head last
+  finished last k most c l m f =
+      let w = r .within (omega arith) in
+      let z : end - 8 + 8 ≡ end = omega arith in
+      let e = eight-next from (end - 8) k p head most c m (omega arith) in
+      let there = subst (λ (n : ℕ). CopiedIs from 0 n p head (eightAt (from + (end - 8)) (end - 8) p most)) z e in
+      copied-all from end p head last r (rw f there)
+
   pub by-two : 8 ≤ end → end ≤ 16 → last ≡ eightAt (from + (end - 8)) (end - 8) p first → KeepIs from p head last
   by-two l m f =
       let w = r .within (omega arith) in
-      let z : end - 8 + 8 ≡ end = omega arith in
-      let c = eight-next from (end - 8) 8 p head first (begun l) (omega arith) (omega arith) in
-      copied-all from end p head last r (rw f (subst (λ (n : ℕ). CopiedIs from 0 n p head (eightAt (from + (end - 8)) (end - 8) p first)) z c))
+      finished last 8 first (begun l) (omega arith) (omega arith) f
 
   pub by-four :
       (second third : List ℕ)
@@ -147,8 +164,6 @@ module _ (from end : ℕ) (p head first last : List ℕ) (r : RoomIs from (lengt
       → KeepIs from p head last
   by-four second third l f g h =
       let w = r .within (omega arith) in
-      let z : end - 8 + 8 ≡ end = omega arith in
       let c = eight-next from 8 8 p head first (begun (omega arith)) (omega arith) (omega arith) in
       let d = eight-next from (end - 16) 16 p head second (rw f c) (omega arith) (omega arith) in
-      let e = eight-next from (end - 8) (end - 16 + 8) p head third (rw g d) (omega arith) (omega arith) in
-      copied-all from end p head last r (rw h (subst (λ (n : ℕ). CopiedIs from 0 n p head (eightAt (from + (end - 8)) (end - 8) p third)) z e))
+      finished last (end - 16 + 8) third (rw g d) (omega arith) (omega arith) h

@@ -1,4 +1,4 @@
--- `piece` meets its contract: 20 after the end, a byte that decides nothing, bytes that are skipped, none, a stopped pass, a single byte, or some.
+-- `piece` meets its contract: 20 after the end; a byte that decides nothing, skipped bytes, none, a stopped pass, a single byte, or some.
 -- Assumes nothing.
 use Prim.Native.Nat.{_-_}
 use native.Mathlib.Omega.{arith}
