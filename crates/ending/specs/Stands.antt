@@ -1,6 +1,6 @@
 -- What is lent from call to call, and when it stands for the bytes so far.
 -- Assumes nothing.
-use Prim.Native.Nat.{ℕ, _<_, _≤_}
+use Prim.Native.Nat.{ℕ, _-_, _<_, _≤_}
 use mathlib.Core.Path.{_≡_}
 use mathlib.Core.List.{List}
 use lib.ListN.{length}
@@ -15,6 +15,7 @@ use Rattle.underway.specs.Under.{Holds}
 use Rattle.closing.specs.Ways.{WayIs}
 use Rattle.states.specs.Numbers.{settingsOf, number, wayOf}
 use Rattle.advancing.specs.Advancing.{opened, Fresh}
+use Rattle.advancing.specs.Quiet.{QuietRun}
 
 -- 16 numbers; the description's bytes; of the element under way the first 30 bytes; which zone and string numbers are declared and
 -- which named, and the place of the first element that names each
@@ -45,6 +46,13 @@ pub record Stands (σ : Settings) (s : State) (l : Lent) : Type 0 where
   pub pass :
       16 < s .count
       → WayIs (described σ s) (wayOf (l .numbers)) (l .head) (l .marks) (l .zone-first) (l .string-first)
+      (opened (descriptionBreaks (σ .chip) (described σ s)) (s .run))
+  -- up to the count that number 15 gives, where it is ahead, the bytes of the element under way decide nothing
+  pub quiet :
+      number (l .numbers) 2 < number (l .numbers) 15
+      → (16 < number (l .numbers) 2)
+      × (number (l .numbers) 15 ≤ 4097)
+      × QuietRun (number (l .numbers) 15 - number (l .numbers) 2) (wayOf (l .numbers) .under)
       (opened (descriptionBreaks (σ .chip) (described σ s)) (s .run))
 
 -- .. after some bytes

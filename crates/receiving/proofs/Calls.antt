@@ -44,6 +44,7 @@ begun σ n first head s f zp sp =
       head = λ _. rw (s .under) refl;
       fresh = λ z. absurd (omega (arith, z));
       pass = λ z. absurd (omega (arith, z));
+      quiet = rw (s .numbers) (λ z. absurd (omega arith));
     }
 
 -- the shorter of a piece and the room
@@ -160,6 +161,26 @@ module _ (l : Lent) (p : List ℕ) where
             go false y =
                 let k = leb-false (4097 - number (l .numbers) 2) (length p) y in
                 omega (arith, n, ap length e, ap length (take-all (4097 - number (l .numbers) 2) p (omega (arith, k))))
+
+    -- where the count is below number 15, the state says that there is room
+    pub piece-quick :
+        (q : List ℕ) (l′ : Lent)
+        → number (l .numbers) 2 < number (l .numbers) 15
+        → (length p ≡ 0 → ⊥)
+        → (number (l .numbers) 2 ≤ 4096 → q ≡ take (4097 - number (l .numbers) 2) p)
+        → Bytes p
+        → ReceiveIs l q l′
+        → PieceIs l p 0 l′
+    piece-quick q l′ ahead n e small r =
+        record {
+          late = λ y. absurd (y z);
+          none = λ y. absurd (n (ap length y));
+          taken = λ _. (refl, r .live);
+          goes =
+              λ σ b s.
+              let h : number (l .numbers) 2 ≤ 4096 = omega (arith, ahead, s .quiet ahead .1) in
+              piece-goes q l′ h n (e h) small r .goes σ b s;
+        }
 
 -- a place in two bytes
 under : (k : ℕ) → k % 65536 ≤ 65535

@@ -75,6 +75,7 @@ module _ (n first : List ℕ) (f : Flags) (head zp sp q : List ℕ) (n′ first�
             head = λ _. s .head few;
             fresh = λ z. absurd (omega (arith, z, s .count));
             pass = λ z. absurd (omega (arith, z, s .count));
+            quiet = rw (e .0) (λ z. absurd (omega arith));
           }
 
 -- the description is whole with the piece, or was before
@@ -206,6 +207,7 @@ module _
             head = λ z. let a = alone (omega (arith, long, z)) in rw (a .1) (s .head (omega (arith, s .count, long)));
             fresh = λ z. rw (e .1, alone z .0) (fresh (omega (arith, long, z)));
             pass = λ z. rw (e .1) (passed z);
+            quiet = rw (e .0) (λ z. absurd (omega arith));
           }
 
     pub grows-on : ReceiveIs (lent n first head f zp sp) q (lent n′ first′ head′ f′ zp′ sp′)

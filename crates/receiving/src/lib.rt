@@ -32,7 +32,7 @@ fn lead(first: &mut [u8; 30], count: usize, q: &[u8]) -> usize
         return 0;
     }
     let end = 16 - count;
-    underway::keep(first, count, &q[0..end]);
+    underway::keep_each(first, count, &q[0..end]);
     end
 }
 
@@ -68,13 +68,8 @@ fn receive(
     let count = n[2];
     let code = n[1];
     let total = count + q.len();
-    // A pass that is stopped stays so, and the bytes are only counted.
-    if (16 < count) & (n[3] != 0) {
-        n[2] = total;
-        return;
-    }
     if total < 16 {
-        underway::keep(first, count, q);
+        underway::keep_each(first, count, q);
         let way = states::way_of(n);
         states::put(n, 0, code, total, way);
         return;
@@ -127,10 +122,23 @@ pub fn piece(
         return 20;
     }
     let count = n[2];
+    let quiet = n[15];
+    if (p.len() == 1) & (count < quiet) {
+        if single::plain(p[0]) {
+            single::lengthen(n, head, count, quiet, p[0]);
+            return 0;
+        }
+    }
     if 4096 < count {
         return 0;
     }
     if p.len() == 0 {
+        return 0;
+    }
+    let end = shorter(p.len(), 4097 - count);
+    // A pass that is stopped stays so, and the bytes are only counted.
+    if (16 < count) & (n[3] != 0) {
+        n[2] = count + end;
         return 0;
     }
     if (p.len() == 1) & (16 < count) {
@@ -140,7 +148,6 @@ pub fn piece(
         receive(n, first, head, zs, ss, zu, su, zp, sp, &p[0..1]);
         return 0;
     }
-    let end = shorter(p.len(), 4097 - count);
     receive(n, first, head, zs, ss, zu, su, zp, sp, &p[0..end]);
     0
 }

@@ -31,8 +31,8 @@ use Rattle.passing.proofs.Sharing.{kept-byte, piece-byte, told-is}
 use Rattle.passing.proofs.Resuming.{bytes-both}
 use Rattle.states.specs.Numbers.{number, wayOf}
 use Rattle.advancing.specs.Advancing.{PlacedAt}
-use Rattle.advancing.proofs.Placing.{stays}
-use Rattle.single.specs.Single.{StaysIs, Marked, OneIs, puts, Longer}
+use Rattle.advancing.specs.Quiet.{QuietRun}
+use Rattle.single.specs.Single.{StaysIs, Marked, OneIs, QuietTo, puts, Longer}
 
 abbrev counted : ℕ → Bool → Bool → Units
 counted whole good high = record { whole = whole; good = good; high = high }
@@ -279,52 +279,68 @@ way-counted (a ∷ []) k e = refl
 way-counted (a ∷ b ∷ []) k e = refl
 way-counted (a ∷ b ∷ c ∷ n) k e = refl
 
-abbrev onward : List ℕ → Under → Way
+abbrev pub onward : List ℕ → Under → Way
 onward n u = record { stop = number n 3; at = number n 4; under = u; state = wayOf n .state }
 
-way-put : (n : List ℕ) (k : ℕ) (u : Under) → length n ≡ 16 → wayOf (puts n k u) ≡ onward n u
-way-put [] k u e = absurd (omega arith)
-way-put (a ∷ []) k u e = absurd (omega arith)
-way-put (a ∷ b ∷ []) k u e = absurd (omega arith)
-way-put (a ∷ b ∷ c ∷ []) k u e = absurd (omega arith)
-way-put (a ∷ b ∷ c ∷ d ∷ []) k u e = absurd (omega arith)
-way-put (a ∷ b ∷ c ∷ d ∷ f ∷ []) k u e = absurd (omega arith)
-way-put (a ∷ b ∷ c ∷ d ∷ f ∷ g ∷ []) k u e = absurd (omega arith)
-way-put (a ∷ b ∷ c ∷ d ∷ f ∷ g ∷ h ∷ []) k u e = absurd (omega arith)
-way-put (a ∷ b ∷ c ∷ d ∷ f ∷ g ∷ h ∷ i ∷ []) k u e = absurd (omega arith)
-way-put (a ∷ b ∷ c ∷ d ∷ f ∷ g ∷ h ∷ i ∷ j ∷ n) k u e = refl
+way-put : (n : List ℕ) (k : ℕ) (u : Under) (j : ℕ) → length n ≡ 16 → wayOf (puts n k u j) ≡ onward n u
+way-put [] k u j e = absurd (omega arith)
+way-put (a ∷ []) k u j e = absurd (omega arith)
+way-put (a ∷ b ∷ []) k u j e = absurd (omega arith)
+way-put (a ∷ b ∷ c ∷ []) k u j e = absurd (omega arith)
+way-put (a ∷ b ∷ c ∷ d ∷ []) k u j e = absurd (omega arith)
+way-put (a ∷ b ∷ c ∷ d ∷ f ∷ []) k u j e = absurd (omega arith)
+way-put (a ∷ b ∷ c ∷ d ∷ f ∷ g ∷ []) k u j e = absurd (omega arith)
+way-put (a ∷ b ∷ c ∷ d ∷ f ∷ g ∷ h ∷ []) k u j e = absurd (omega arith)
+way-put (a ∷ b ∷ c ∷ d ∷ f ∷ g ∷ h ∷ i ∷ []) k u j e = absurd (omega arith)
+way-put (a ∷ b ∷ c ∷ d ∷ f ∷ g ∷ h ∷ i ∷ l ∷ n) k u j e = later n
+  where
+    later : (n : List ℕ) → wayOf (puts (a ∷ b ∷ c ∷ d ∷ f ∷ g ∷ h ∷ i ∷ l ∷ n) k u j) ≡ onward (a ∷ b ∷ c ∷ d ∷ f ∷ g ∷ h ∷ i ∷ l ∷ n) u
+    later [] = refl
+    later (m ∷ []) = refl
+    later (m ∷ o ∷ []) = refl
+    later (m ∷ o ∷ p ∷ []) = refl
+    later (m ∷ o ∷ p ∷ q ∷ []) = refl
+    later (m ∷ o ∷ p ∷ q ∷ r ∷ []) = refl
+    later (m ∷ o ∷ p ∷ q ∷ r ∷ s ∷ n) = refl
 
 -- number 0 and 1 stay, and so does their count
 pub beside : (n : List ℕ) (i j k : ℕ) → j < i → number (set n i k) j ≡ number n j
 beside n i j k l = getD-set-other n i j k 0 (λ e. omega arith)
 
-under-beside : (n : List ℕ) (k : ℕ) (u : Under) (j : ℕ) → j < 5 → number (puts n k u) j ≡ number (set n 2 k) j
-under-beside n k u j l =
+under-beside : (n : List ℕ) (k : ℕ) (u : Under) (q j : ℕ) → j < 5 → number (puts n k u q) j ≡ number (set n 2 k) j
+under-beside n k u q j l =
     let a = set n 2 k in
     let b = set a 5 (u .len) in
     let c = set b 6 (u .at) in
     let d = set c 7 (u .blocks) in
-    beside d 8 j (u .mark) (omega arith)
+    let e = set d 8 (u .mark) in
+    beside e 15 j q (omega arith)
+    ∙ beside d 8 j (u .mark) (omega arith)
     ∙ beside c 7 j (u .blocks) (omega arith)
     ∙ beside b 6 j (u .at) (omega arith)
     ∙ beside a 5 j (u .len) (omega arith)
 
--- a pass that is stopped
-pub longer-stopped : (n head : List ℕ) (x : ℕ) → (number n 3 ≡ 0 → ⊥) → Longer n head x (set n 2 (number n 2 + 1)) head
-longer-stopped n head x z =
-    let k = number n 2 + 1 in
-    record {
-      ended = beside n 2 0 k (omega arith);
-      size = length-set n 2 k;
-      code = beside n 2 1 k (omega arith);
-      count = λ e. getD-set-same n 2 k 0 (omega arith);
-      on = λ e σ d f zp sp m s w p small l. rw (way-counted n k e) (stays σ (wayOf n) (x ∷ []) head f zp sp d s z w);
-    }
+quiet-put : (n : List ℕ) (k : ℕ) (u : Under) (q : ℕ) → length n ≡ 16 → number (puts n k u q) 15 ≡ q
+quiet-put n k u q e =
+    let a = set n 2 k in
+    let b = set a 5 (u .len) in
+    let c = set b 6 (u .at) in
+    let d = set c 7 (u .blocks) in
+    getD-set-same (set d 8 (u .mark)) 15 q 0
+    (omega (
+      arith,
+      length-set d 8 (u .mark),
+      length-set c 7 (u .blocks),
+      length-set b 6 (u .at),
+      length-set a 5 (u .len),
+      length-set n 2 k,
+    ))
 
--- one that goes on
+-- a byte that does not complete the element
 module _
-    (n head : List ℕ) (x : ℕ) (before-it u : Under) (head′ : List ℕ) {b : Bool} (z : number n 3 ≡ 0) (e : before-it ≡ wayOf n .under)
-    (t : b ≡ true) (w : StaysIs head (before-it .len) x b) (m : OneIs before-it x head u head′)
+    (n head : List ℕ) (x : ℕ) (before-it u : Under) (head′ : List ℕ) (quiet : ℕ) {b : Bool} (z : number n 3 ≡ 0)
+    (e : before-it ≡ wayOf n .under) (t : b ≡ true) (w : StaysIs head (before-it .len) x b) (m : OneIs before-it x head u head′)
+    (c : QuietTo head′ u (number n 2 + 1) quiet)
   where
     goes :
         (σ : Settings) (d : Description) (f : Flags) (zp sp : List ℕ) (k : ℕ) (s : Run)
@@ -333,28 +349,36 @@ module _
         → Bytes (x ∷ [])
         → k < 4097
         → WayIs d (onward n u) head′ f zp sp (runBytes σ s (x ∷ []))
+        × (number n 2 + 1 < quiet → QuietRun (quiet - (number n 2 + 1)) u (runBytes σ s (x ∷ [])))
     goes σ d f zp sp k (broken j p) o q small l = absurd (omega (arith, z, o .0, o .1))
     goes σ d f zp sp k (going before at v) o q small l =
         let h = subst (λ (y : Under). UnderIs y head v) (sym e) (o .under) in
         let still = w .waits t v (h .held) (h .long) in
         let y = m .on record { cut = h .low; room = omega (arith, q .0, h .long) } in
-        rw (run-on σ before at v (x ∷ []) still)
-        record {
-          goes = z;
-          here = o .here;
-          place = o .place;
-          gone = o .gone;
-          under = y .grows v h (bytes-both v (x ∷ []) (h .bytes) small) (omega (arith, length-append v (x ∷ [])));
-          waits = still;
-        }
+        let g = y .grows v h (bytes-both v (x ∷ []) (h .bytes) small) (omega (arith, length-append v (x ∷ []))) in
+        rw (run-on σ before at v (x ∷ []) still) (
+          record { goes = z; here = o .here; place = o .place; gone = o .gone; under = g; waits = still },
+          λ i. c .quiet i (v ++ x ∷ []) g,
+        )
 
-    pub longer-on : Longer n head x (puts n (number n 2 + 1) u) head′
+    pub longer-on : Longer n head x (puts n (number n 2 + 1) u quiet) head′
     longer-on =
         let k = number n 2 + 1 in
         record {
-          ended = under-beside n k u 0 (omega arith) ∙ beside n 2 0 k (omega arith);
+          ended = under-beside n k u quiet 0 (omega arith) ∙ beside n 2 0 k (omega arith);
           size = simp length-set;
-          code = under-beside n k u 1 (omega arith) ∙ beside n 2 1 k (omega arith);
-          count = λ e. under-beside n k u 2 (omega arith) ∙ getD-set-same n 2 k 0 (omega arith);
-          on = λ e σ d f zp sp m s w p small l. rw (way-put n k u e) (goes σ d f zp sp m s w p small l);
+          code = under-beside n k u quiet 1 (omega arith) ∙ beside n 2 1 k (omega arith);
+          count = λ e. under-beside n k u quiet 2 (omega arith) ∙ getD-set-same n 2 k 0 (omega arith);
+          on =
+              λ e σ d f zp sp m s w p small l.
+              let g = goes σ d f zp sp m s w p small l in
+              let r = runBytes σ s (x ∷ []) in
+              let y = way-put n k u quiet e in
+              let i = under-beside n k u quiet 2 (omega arith) ∙ getD-set-same n 2 k 0 (omega arith) in (
+                rw y (g .0),
+                rw (i, quiet-put n k u quiet e) (λ a. (
+                  c .low,
+                  subst (λ (v : Under). QuietRun (quiet - k) v r) (sym (ap (λ (v : Way). v .under) y)) (g .1 a),
+                )),
+              );
         }

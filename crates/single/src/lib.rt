@@ -1,12 +1,15 @@
 // A piece of a single byte that the element under way waits for, and that does not complete it: a few of the state's numbers change and the
-// others stay where they are. For speed alone (docs/BENCH.md): every other piece, and this one too, could go the general way (`advancing`).
+// others stay where they are. One of them says up to which count no byte decides anything; until then a byte is only counted and kept.
+// For speed alone (docs/BENCH.md): every other piece, and this one too, could go the general way (`advancing`).
 ghost use mathlib.Core.Path.{_≡_};
+ghost use mathlib.Core.Bool.{not};
 ghost use mathlib.Core.List.{[], _∷_};
-ghost use Prim.Native.Nat.{_+_, _<_, _≤_};
+ghost use Prim.Native.Nat.{_+_, _/_, _<_, _≤_};
 ghost use lib.Dec.{eqb};
 ghost use Rattle.underway.specs.Under.{KeepIs};
 ghost use Rattle.states.specs.Numbers.{number, wayOf};
 ghost use Rattle.single.specs.Single.{StaysIs, Marked, UnitIs, EntryIs, OneIs, puts, ByteIs};
+ghost use Rattle.single.specs.Single.{NextIs, QuietTo, LengthenIs};
 use blocks::Cut;
 use underway::Under;
 use words::wide;
@@ -157,31 +160,93 @@ fn under_of(n: &[usize; 16]) -> Under
     }
 }
 
-fn put(n: &mut [usize; 16], count: usize, u: Under)
-    ensures { λ _. ⌜ now (n .exit) ≡ puts (now (n .entry)) count u ⌝ }
+fn put(n: &mut [usize; 16], count: usize, u: Under, quiet: usize)
+    ensures { λ _. ⌜ now (n .exit) ≡ puts (now (n .entry)) count u quiet ⌝ }
 {
     n[2] = count;
     n[5] = u.len;
     n[6] = u.at;
     n[7] = u.blocks;
     n[8] = u.mark;
+    n[15] = quiet;
+}
+
+fn lesser(a: usize, b: usize) -> usize
+    ensures { λ r. ⌜ (r ≤ a) × (r ≤ b) ⌝ }
+{
+    if b < a { b } else { a }
+}
+
+// The next byte of the element that may decide something, by its kind: in a text one after a unit that was bad or opened a pair, of
+// blocks the next ENTRIES byte.
+fn next_of(id: u8, u: Under) -> usize
+    ensures { λ r. ⌜ NextIs id u r ⌝ }
+{
+    if id == 12 {
+        return if u.mark == 0 { 65536 } else { 0 };
+    }
+    let most = underway::most_of(id);
+    if most == 0 {
+        return 65536;
+    }
+    if u.len <= 12 {
+        return 12;
+    }
+    if most <= u.blocks {
+        return 65536;
+    }
+    12 - underway::lead_of(id) + u.at % 65536
+}
+
+// The count up to which no byte decides anything, where it is ahead; the last byte of the element always does.
+fn quiet_to(head: &[u8; 30], u: Under, count: usize) -> usize
+    requires { ⌜ count ≤ 4097 ⌝ }
+    ensures { λ r. ⌜ QuietTo (now (head .entry)) u count r ⌝ }
+{
+    if u.len < 3 {
+        return 0;
+    }
+    let told = wide(head[1]) + 256 * wide(head[2]);
+    if told <= u.len {
+        return 0;
+    }
+    let end = lesser(told - 1, next_of(head[0], u));
+    if end <= u.len {
+        return 0;
+    }
+    lesser(count + (end - u.len), 4097)
+}
+
+// No upper byte of a surrogate.
+pub fn plain(x: u8) -> bool
+    ensures { λ r. ⌜ r ≡ not (eqb (x / 8) 27) ⌝ }
+{
+    x / 8 != 27
+}
+
+// A byte that decides nothing.
+pub fn lengthen(n: &mut [usize; 16], head: &mut [u8; 30], count: usize, quiet: usize, x: u8)
+    requires { ⌜ count < quiet ⌝ }
+    ensures { λ _. ⌜ LengthenIs (now (n .entry)) (now (head .entry)) count x (now (n .exit)) (now (head .exit)) ⌝ }
+{
+    let had = n[5] % 65536;
+    keep_one(head, had, x);
+    n[2] = count + 1;
+    n[5] = had + 1;
 }
 
 // Whether the byte is taken so; else nothing changes.
 pub fn byte(n: &mut [usize; 16], head: &mut [u8; 30], x: u8) -> bool
-    requires { ⌜ number (now n) 2 ≤ 4096 ⌝ }
+    requires { ⌜ (number (now n) 2 ≤ 4096) × (number (now n) 3 ≡ 0) ⌝ }
     ensures { λ r. ⌜ ByteIs (now (n .entry)) (now (head .entry)) x r (now (n .exit)) (now (head .exit)) ⌝ }
 {
     let count = n[2] + 1;
-    if n[3] != 0 {
-        n[2] = count;
-        return true;
-    }
     let u = under_of(n);
     if !stays(head, u.len, x) {
         return false;
     }
     let r = one_more(u, x, head);
-    put(n, count, r);
+    let quiet = quiet_to(head, r, count);
+    put(n, count, r, quiet);
     true
 }

@@ -1,5 +1,5 @@
 // The numbers of the state that is lent from piece to piece: 0 whether the end was called, 1 the settings, 2 how many bytes there were
-// (4,097 of more), 3 to 14 where the pass is.
+// (4,097 of more), 3 to 14 where the pass is, 15 the count up to which no byte decides anything (`single`), or 0.
 ghost use mathlib.Core.Path.{_≡_};
 ghost use Prim.Native.Nat.{_%_, _<_, _≤_};
 ghost use Rattle.states.specs.Numbers.{settingsOf, chipCode, rulesCode, codeOf, wayOf, numbersOf};

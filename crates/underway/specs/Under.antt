@@ -4,7 +4,7 @@ use Prim.Native.Nat.{ℕ, _+_, _-_, _*_, _/_, _%_, _<_, _≤_}
 use mathlib.Core.Path.{_≡_}
 use mathlib.Core.Bool.{Bool, true, false, _&&_, cond}
 use mathlib.Core.List.{List, _++_}
-use lib.ListN.{length, drop}
+use lib.ListN.{length, set, drop}
 use lib.Dec.{eqb, leb}
 use Rattle.format.specs.Slots.{byte, Bytes}
 use Rattle.format.specs.Utf16.{units, pairedAfter, paired}
@@ -20,6 +20,25 @@ pub record Holds (head v : List ℕ) : Type 0 where
 
 pub record KeepIs (from : ℕ) (p head head′ : List ℕ) : Type 0 where
   pub keeps : (v : List ℕ) → from ≡ length v → Holds head v → Holds head′ (v ++ p)
+
+-- so many bytes of a piece are among the first 30
+pub record RoomIs (from size r : ℕ) : Type 0 where
+  pub there : r ≤ size
+  pub within : 0 < r → from + r ≤ 30
+  pub all : r < size → 30 ≤ from + r
+
+-- so many bytes of a piece, from one place, stand at another; those before stay
+pub record CopiedIs (to from n : ℕ) (p head head′ : List ℕ) : Type 0 where
+  pub size : length head′ ≡ length head
+  pub before : (i : ℕ) → i < to → byte head′ i ≡ byte head i
+  pub there : length head ≡ 30 → (i : ℕ) → i < n → byte head′ (to + i) ≡ byte p (from + i)
+
+-- eight of them
+abbrev pub eightAt : ℕ → ℕ → List ℕ → List ℕ → List ℕ
+eightAt to from p head =
+    set (set (set (set (set (set (set (set head to (byte p from)) (to + 1) (byte p (from + 1))) (to + 2) (byte p (from + 2))) (to + 3)
+    (byte p (from + 3))) (to + 4) (byte p (from + 4))) (to + 5) (byte p (from + 5))) (to + 6) (byte p (from + 6))) (to + 7)
+    (byte p (from + 7))
 
 -- a mark: the whole units of a text are good, and the last is a high surrogate
 abbrev pub markOf : Bool → Bool → ℕ

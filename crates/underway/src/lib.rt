@@ -5,7 +5,7 @@ ghost use Prim.Native.Nat.{_+_, _*_, _<_, _≤_};
 ghost use lib.ListN.{length};
 ghost use lib.Dec.{eqb};
 ghost use Rattle.underway.specs.Under.{markOf, mostOf, leadOf, KeepIs, UnitsFrom, UnitsOn, TextOn, BlocksFrom, BlocksOn, CutOn};
-ghost use Rattle.underway.specs.Under.{MoreIs};
+ghost use Rattle.underway.specs.Under.{RoomIs, CopiedIs, eightAt, MoreIs};
 use blocks::Cut;
 
 // The number of bytes; of blocks where the next ENTRIES byte would stand in the part, and how many there are; and a mark. Of blocks it
@@ -38,16 +38,79 @@ pub fn mark_of(good: bool, high: bool) -> usize
     if high { 3 } else { 1 }
 }
 
-// The bytes of a piece among the first 30; later ones are not kept.
-pub fn keep(head: &mut [u8; 30], from: usize, p: &[u8])
-    requires { ⌜ from + length (now p) ≤ 4097 ⌝ }
-    ensures { λ _. ⌜ KeepIs from (now (p .entry)) (now (head .entry)) (now (head .exit)) ⌝ }
+// How many bytes of a piece are among the first 30.
+fn room(from: usize, size: usize) -> usize
+    ensures { λ r. ⌜ RoomIs from size r ⌝ }
+{
+    if 30 <= from {
+        return 0;
+    }
+    let left = 30 - from;
+    if left < size { left } else { size }
+}
+
+// So many of them, one by one.
+fn each(head: &mut [u8; 30], from: usize, p: &[u8], end: usize)
+    requires { ⌜ (end ≤ length (now p)) × (0 < end → from + end ≤ 30) ⌝ }
+    ensures { λ _. ⌜ CopiedIs from 0 end (now (p .entry)) (now (head .entry)) (now (head .exit)) ⌝ }
 {
     let mut j: usize = 0;
-    while (from + j < 30) & (j < p.len()) {
+    while j < end {
         head[from + j] = p[j];
         j += 1;
     }
+}
+
+// Eight of them, all read before one is written, so that they go through one register.
+fn eight(head: &mut [u8; 30], to: usize, p: &[u8], from: usize)
+    requires { ⌜ (to + 8 ≤ 30) × (from + 8 ≤ length (now p)) ⌝ }
+    ensures { λ _. ⌜ now (head .exit) ≡ eightAt to from (now (p .entry)) (now (head .entry)) ⌝ }
+{
+    let a = p[from];
+    let b = p[from + 1];
+    let c = p[from + 2];
+    let d = p[from + 3];
+    let e = p[from + 4];
+    let f = p[from + 5];
+    let g = p[from + 6];
+    let h = p[from + 7];
+    head[to] = a;
+    head[to + 1] = b;
+    head[to + 2] = c;
+    head[to + 3] = d;
+    head[to + 4] = e;
+    head[to + 5] = f;
+    head[to + 6] = g;
+    head[to + 7] = h;
+}
+
+// The bytes of a piece among the first 30, by eights that overlap; later ones are not kept.
+fn keep(head: &mut [u8; 30], from: usize, p: &[u8])
+    requires { ⌜ from + length (now p) ≤ 4097 ⌝ }
+    ensures { λ _. ⌜ KeepIs from (now (p .entry)) (now (head .entry)) (now (head .exit)) ⌝ }
+{
+    let end = room(from, p.len());
+    if end < 8 {
+        each(head, from, p, end);
+        return;
+    }
+    eight(head, from, p, 0);
+    if end <= 16 {
+        eight(head, from + (end - 8), p, end - 8);
+        return;
+    }
+    eight(head, from + 8, p, 8);
+    eight(head, from + (end - 16), p, end - 16);
+    eight(head, from + (end - 8), p, end - 8);
+}
+
+// The same for the description, whose pieces are few: `keep` has one caller, and so stays no call (docs/BENCH.md).
+pub fn keep_each(head: &mut [u8; 30], from: usize, p: &[u8])
+    requires { ⌜ from + length (now p) ≤ 4097 ⌝ }
+    ensures { λ _. ⌜ KeepIs from (now (p .entry)) (now (head .entry)) (now (head .exit)) ⌝ }
+{
+    let end = room(from, p.len());
+    each(head, from, p, end);
 }
 
 // Of a text: how many units are whole, whether they are good, and whether the last is a high surrogate.

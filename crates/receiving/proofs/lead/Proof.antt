@@ -10,7 +10,7 @@ use Rattle.receiving.proofs.lead.Tie as tie
 returns-2 : tie.Need-returns-2
 returns-2 c =
     let k = c .before .before .before in
-    lead-now _ _ _ _ _ (k .if1 .left) (omega arith) refl (c .keep .ensures)
+    lead-now _ _ _ _ _ (k .if1 .left) (omega arith) refl (c .keep-each .ensures)
 
 pub lead-spec : {M : Type 1} → statement M
 lead-spec =

@@ -1,89 +1,75 @@
--- `keep` meets its contract: so many bytes of the piece are kept.
+-- `keep` meets its contract: fewer than eight bytes one by one, up to 16 by two eights, or all by four.
 -- Assumes nothing.
-use Prim.Native.Nat.{ℕ, _+_, _-_, _≤_, _<_}
 use native.Mathlib.Omega.{arith}
-use mathlib.Core.Path.{_≡_, ap}
-use mathlib.Core.Bool.{true, _&&_, and-eq-true-iff}
-use mathlib.Core.List.{List, _++_, append-nil}
-use lib.ListN.{length, take}
-use denote.Ref.{now}
-use lib.Dec.{ltb}
-use borrow.Author.Tests.{ltb-true}
-use Rattle.underway.specs.Under.{Holds}
-use Rattle.underway.proofs.Keeping.{keep-next, keep-all}
+use Rattle.underway.proofs.Eights.{copied-all, eight-fits, by-two, by-four}
+use borrow.Author.Needs.{needs}
 use Rattle.underway.proofs.keep.Statement.{statement}
 use Rattle.underway.proofs.keep.Tie as tie
 
-abbrev Inv-loop : tie.InvT-loop
-Inv-loop head₀ from p j₀ head j = (j ≤ length p) × ((v : List ℕ) → from ≡ length v → Holds head₀ v → Holds head (v ++ take j p))
+returns : tie.Need-returns
+returns c = copied-all _ _ _ _ _ (c .before .before .before .room .ensures) (c .each .ensures)
 
-abbrev μ-loop : tie.MeasureT-loop
-μ-loop head₀ from p j₀ head j = length p - j
+eight-requires : tie.Need-eight-requires
+eight-requires c κs =
+    let l = c .before .if1 .left in
+    let f = eight-fits _ _ _ 0 (c .before .before .room .ensures) (omega arith) in
+    (omega (arith, f .0), omega (arith, f .1))
 
-loop-holds : tie.Need-loop-holds Inv-loop μ-loop
-loop-holds c = (omega arith, λ v e h. rw (append-nil v) h)
+eight-requires-2 : tie.Need-eight-requires-2
+eight-requires-2 c κs =
+    let b = c .before .before .before .before in
+    let l = b .if1 .left in
+    eight-fits _ _ _ _ (b .before .room .ensures) (omega arith)
 
--- the two tests of a turn
-tests : (i j n : ℕ) → ltb i 30 && ltb j n ≡ true → (i < 30) × (j < n)
-tests i j n h = let t = and-eq-true-iff (ltb i 30) (ltb j n) .0 h in (ltb-true i 30 (t .0), ltb-true j n (t .1))
+returns-2 : tie.Need-returns-2
+returns-2 c =
+    let t = c .before .before in
+    let b = t .before .before .before in
+    by-two _ _ _ _ _ _ (b .before .room .ensures) (t .before .eight .ensures) (b .if1 .left) (t .if2 .taken) (c .eight2 .ensures)
 
-add-loop : tie.Need-add-loop Inv-loop μ-loop
-add-loop c = omega (arith, c .loop .inv .0)
+eight-requires-3 : tie.Need-eight-requires-3
+eight-requires-3 c κs =
+    let b = c .before .before .before .before in
+    let l = c .before .if2 .left in
+    eight-fits _ _ _ _ (b .before .room .ensures) (omega arith)
 
-shared-slice-read-head : tie.Need-shared-slice-read-head Inv-loop μ-loop
-shared-slice-read-head c =
-    let l = c .before .before in
-    let a = l .before .args in
-    tests (a .from + l .loop .j) (l .loop .j) (length (now (a .p))) (c .before .loop-test .taken) .1
+eight-requires-4 : tie.Need-eight-requires-4
+eight-requires-4 c κs =
+    let b = c .before .before .before in
+    let l = b .if2 .left in
+    eight-fits _ _ _ _ (b .before .before .before .before .room .ensures) (omega arith)
 
-add-head : tie.Need-add-head Inv-loop μ-loop
-add-head c = omega (arith, c .before .before .loop .inv .0)
+eight-requires-5 : tie.Need-eight-requires-5
+eight-requires-5 c κs =
+    let b = c .before .before .before .before .before in
+    let l = b .if2 .left in
+    eight-fits _ _ _ _ (b .before .before .before .before .room .ensures) (omega arith)
 
-element-write-head : tie.Need-element-write-head Inv-loop μ-loop
-element-write-head c =
-    let l = c .before .before in
-    let a = l .before .args in
-    tests (a .from + l .loop .j) (l .loop .j) (length (now (a .p))) (c .before .loop-test .taken) .0
-
-add-j : tie.Need-add-j Inv-loop μ-loop
-add-j c = omega (arith, c .before .before .loop .inv .0)
-
-loop-less : tie.Need-loop-less Inv-loop μ-loop
-loop-less c =
-    let l = c .before .before in
-    let a = l .before .args in
-    let t = tests (a .from + l .loop .j) (l .loop .j) (length (now (a .p))) (c .before .loop-test .taken) in
-    omega arith
-
-loop-again : tie.Need-loop-again Inv-loop μ-loop
-loop-again c =
-    let l = c .before .before in
-    let a = l .before .args in
-    let t = tests (a .from + l .loop .j) (l .loop .j) (length (now (a .p))) (c .before .loop-test .taken) in (
-      omega arith,
-      λ v e h. keep-next _ v (now (a .p)) (l .loop .j) (l .loop .inv .1 v e h) (ap (λ (n : ℕ). n + l .loop .j) e) (t .1) (t .0),
-    )
-
-returns : tie.Need-returns Inv-loop μ-loop
-returns c =
-    let l = c .before in
-    record {
-      keeps = λ v e h. keep-all _ v _ (l .loop .j) (l .loop .inv .1 v e h) (ap (λ (n : ℕ). n + l .loop .j) e) (l .loop .inv .0)
-          (c .loop-test .left);
-    }
+returns-3 : tie.Need-returns-3
+returns-3 c =
+    let g = c .before .before in
+    let f = g .before .before in
+    let b = f .before .before in
+    by-four _ _ _ _ _ _ (b .before .before .before .before .room .ensures) (b .before .eight .ensures) _ _ (b .if2 .left)
+    (f .eight3 .ensures) (g .eight4 .ensures) (c .eight5 .ensures)
 
 pub keep-spec : {M : Type 1} → statement M
 keep-spec =
     tie.close
     (tie.spec
-    Inv-loop
-    μ-loop
-    loop-holds
-    add-loop
-    shared-slice-read-head
-    add-head
-    element-write-head
-    add-j
-    loop-less
-    loop-again
-    returns)
+    (λ c κs. search needs)
+    (λ c κs. search needs)
+    returns
+    eight-requires
+    (λ c. search needs)
+    eight-requires-2
+    returns-2
+    (λ c. search needs)
+    eight-requires-3
+    (λ c. search needs)
+    (λ c. search needs)
+    (λ c. search needs)
+    eight-requires-4
+    (λ c. search needs)
+    eight-requires-5
+    returns-3)
