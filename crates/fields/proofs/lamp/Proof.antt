@@ -11,4 +11,7 @@ returns c = rw (add-one, c .before .before .optional .ensures)
 
 pub lamp-spec : {M : Type 1} → statement M
 lamp-spec =
-    tie.close (tie.spec (λ c. omega arith) (search needs) (λ c. omega arith) (λ c. omega arith) (λ c. omega arith) (λ c. omega arith) returns)
+    tie.close
+    (tie.spec
+    (λ c. omega arith) (search needs) (λ c. omega arith) (λ c. omega arith)
+    (λ c. omega arith) (λ c. omega arith) returns)
