@@ -1,5 +1,5 @@
 /* The C face of the proved reader and writer of ESA configuration tables, revision 0.90 (target/staticlib/libesa.a, made by
-   'rt staticlib esa'; x86-64). C99, and C++. What each call below answers and leaves is proved of the library for every input;
+   'rt staticlib esa', for x86-64; on another processor target/own/libesa.a, made by 'tools/archive . target/own'). C99, and C++. What each call below answers and leaves is proved of the library for every input;
    docs/CALLS.md has the theorem to each.
 
    WHAT A CALLER OWES. Nothing proves the C around the library, so these three are yours to keep:
@@ -165,7 +165,8 @@ uint64_t esa_fields(const uint8_t *table, size_t length, size_t k, uint64_t sett
 size_t esa_part_length(const uint8_t *table, size_t length, size_t k, uint64_t settings);
 
 /* Where does it stand? 0, and beside it the place of the part in the table and its length, which esa_place and esa_length take
-   apart; the place is behind the element's fixed fields also where the part is empty. Or the refusal of esa_element. */
+   apart; the place is behind the element's fixed fields also where the part is empty. Element 0 starts at 16, and each next one at the
+   place + the length of the part before it. Or the refusal of esa_element. */
 uint64_t esa_part(const uint8_t *table, size_t length, size_t k, uint64_t settings);
 
 /* The same of the text of a string, which is its part from byte 3 on, well-formed UTF-16 with the low byte first. 0, and beside it
@@ -437,7 +438,8 @@ static inline unsigned esa_diff_table(uint64_t answer)
    does: the table stands at the front of 'out', the text at the front of 'lines', and the bytes behind both are as they were. The
    table is always accepted; one that is accepted already comes out with its reserved places at zero, and no lines. A line for each
    change, in the order made: the offset in 'file' (of the description 0), the number of the rule, 'left out' or 'cleared', parted
-   by tabs and ended by a line feed.
+   by tabs and ended by a line feed. Where it stopped has no line, so no lines does not mean that nothing was lost: esa_check of 'file'
+   tells whether it was whole.
    Or 24 at 0, where nothing can be saved; or 16 at 0 where 'room' is under the new table's length. With a refusal no byte of 'out'
    or 'lines' alters. No table needs more room than 4,096 bytes; every text fits into 'lines', and none is ended by a zero. */
 enum { ESA_SALVAGE_LINES = 32768 };

@@ -117,6 +117,10 @@ behind_the_stop() {
     try "4,096 bytes and no more" saves_whole longest "1 element"
     printf 'x' >>longest
     try "a byte more" stops '' "only the first 4,096 bytes count, as no table has more, and nothing behind them was saved; the new table has 1 element" longest
+    head -c 326 "$tables/this-month.esa" >cut_off
+    try "cut off between two elements" stops '' "bytes 1-2 say that the table has 337 bytes, and the file ends at byte 326; if it was cut off there, what stood behind is not saved; the new table has 15 elements" cut_off
+    bytes_to 010110020007000080FFFFFF00000000 untold
+    try "a length that no table has" saves '' "0 elements" untold out.esa
 }
 
 nothing_to_save() {

@@ -1,5 +1,5 @@
 # awk -v saved='N elements' -f ../refusals/elements.awk -f stop.awk - <LINES
-# Where the program salvage stopped before the end of the file, in a sentence; nothing where it looked at all of it. The lines are the
+# Where the program salvage stopped before the end of the file, or that the file is shorter than it says, in a sentence; else nothing. The lines are the
 # program's, and FILE in the environment is the start of the file in hex, up to 4,097 bytes.
 
 BEGIN {
@@ -17,6 +17,7 @@ END {
     if (p < end && kept < 96) print cut(p)
     else if (p < end) print full(p)
     else if (size > end) print beyond()
+    else if (word(1) > size && word(1) <= 4096) print short()
 }
 
 function is_whole(p) { return end - p >= 3 && word(p + 1) >= 3 && p + word(p + 1) <= end }
@@ -25,6 +26,11 @@ function cut(p) {
     if (word(1) == p) return "from byte " p " on, where bytes 1-2 say that the table ends, nothing was saved; the new table has " saved
     return "from byte " p " on no element can be told apart (6), and nothing from there on was saved; the new table has " saved \
         "; if more stands there, mend the length of the element there or of the one before it, and try again"
+}
+
+function short() {
+    return "bytes 1-2 say that the table has " word(1) " bytes, and the file ends at byte " size "; if it was cut off there, what stood behind " \
+        "is not saved; the new table has " saved
 }
 
 function beyond() {

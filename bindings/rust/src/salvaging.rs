@@ -11,7 +11,8 @@ const LINES: usize = 32768;
 pub struct Saved {
     /// The length of the new table.
     pub length: usize,
-    /// A line for each change, in the order made: old offset, number of the rule, `left out` or `cleared`, by tabs.
+    /// A line for each change, in the order made: old offset, number of the rule, `left out` or `cleared`, by tabs. Where it stopped has
+    /// no line: [`check`](crate::check) of the file tells whether it was whole.
     pub lines: String,
 }
 
