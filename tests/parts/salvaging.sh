@@ -120,7 +120,7 @@ behind_the_stop() {
     head -c 326 "$tables/this-month.esa" >cut_off
     try "cut off between two elements" stops '' "bytes 1-2 say that the table has 337 bytes, and the file ends at byte 326; if it was cut off there, what stood behind is not saved; the new table has 15 elements" cut_off
     bytes_to 010110020007000080FFFFFF00000000 untold
-    try "a length that no table has" saves '' "0 elements" untold out.esa
+    try "a length that no table has" saves_whole untold "0 elements"
 }
 
 nothing_to_save() {
