@@ -29,10 +29,13 @@ says_all() { # TEXT WORD...
 misused() {
     try "no word at all" complains 2 "esa: say what to do"
     try "no word at all: how to use it" complains 2 "     ./esa help                this text"
-    try "a command that there is not: two lines" says_all "esa: there is no command 'chek'${newline}$how" chek good
+    try "a command that there is not: two lines" says_all "esa: there is no command 'ls'${newline}$how" ls good
+    try "a letter left out: the nearest command" says_all "esa: there is no command 'chek'; the nearest is check${newline}$how" chek good
+    try "a letter too many" complains 2 "esa: there is no command 'diffs'; the nearest is diff" diffs good
+    try "two letters exchanged" complains 2 "esa: there is no command 'lable'; the nearest is label" lable good 0
     try "a misuse of a command: its own line and no other" says_all "esa: label needs the name of a table and the number of an element${newline}use: ./esa label FILE K [NAME]${newline}$how" label
     try "that of another" says_all "esa: trace takes a table and a trace, and 3 names were given${newline}use: ./esa trace FILE [TRACE]${newline}$how" trace a b c
-    try "an unknown word" complains 2 "esa: there is no command 'verify'" verify good
+    try "an unknown word, like none" says_all "esa: there is no command 'verify'${newline}$how" verify good
     try "an option for a command" complains 2 "esa: there is no command '--all'" --all good
     try "an empty word" complains 2 "esa: there is no command ''" ''
     try "check of nothing" complains 2 "esa: check needs the name of a file, or several" check
