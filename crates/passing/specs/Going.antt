@@ -24,6 +24,9 @@ use Rattle.passing.specs.declared.Share.{Share}
 pub record ByteOf (head : List ℕ) (had : ℕ) (p : List ℕ) (k r : ℕ) : Type 0 where
   pub is : (v : List ℕ) → Holds head v → had ≡ length v → r ≡ byte (v ++ p) k
 
+pub record ToldOf (head : List ℕ) (had : ℕ) (p : List ℕ) (r : ℕ) : Type 0 where
+  pub is : (v : List ℕ) → Holds head v → had ≡ length v → r ≡ stated (v ++ p)
+
 -- what the header says of an element that waits, with the bytes of a piece
 pub data Shares (v p : List ℕ) (told take′ : ℕ) : Type 0 where
   waits : 3 ≤ told → unready (v ++ p) ≡ true → take′ ≡ length p → length v + take′ < told → Shares v p told take′

@@ -1,9 +1,10 @@
 // The pass over the elements, piece by piece: the bytes of a piece complete the element under way, then come whole elements, and the
 // rest begins one.
-ghost use Prim.Native.Nat.{_+_, _-_, _<_, _≤_};
+ghost use mathlib.Core.Path.{_≡_};
+ghost use Prim.Native.Nat.{_+_, _-_, _*_, _<_, _≤_};
 ghost use lib.ListN.{length};
 ghost use Rattle.pass.specs.Tracks.{flags, Low};
-ghost use Rattle.passing.specs.Going.{ByteOf, DueIs, ResumeIs, AheadIs, TurnIs, PassIs};
+ghost use Rattle.passing.specs.Going.{ByteOf, ToldOf, DueIs, ResumeIs, AheadIs, TurnIs, PassIs};
 use closing::Ran;
 use closing::Way;
 use format::settings::Settings;
@@ -20,6 +21,28 @@ fn byte_of(head: &[u8; 30], had: usize, p: &[u8], k: usize) -> u8
         return head[k];
     }
     p[k - had]
+}
+
+// Two bytes, the low one first.
+fn pair(low: u8, high: u8) -> usize
+    ensures { λ r. ⌜ r ≡ low + 256 * high ⌝ }
+{
+    wide(low) + 256 * wide(high)
+}
+
+// The length that the element's header gives: the header stands in the piece, is kept, or a cut goes through it. (The first two are by
+// far the most, and take one read: docs/BENCH.md.)
+fn told_of(head: &[u8; 30], had: usize, p: &[u8]) -> usize
+    requires { ⌜ 3 ≤ had + length (now p) ⌝ }
+    ensures { λ r. ⌜ ToldOf (now (head .entry)) had (now (p .entry)) r ⌝ }
+{
+    if had == 0 {
+        return pair(p[1], p[2]);
+    }
+    if 3 <= had {
+        return pair(head[1], head[2]);
+    }
+    pair(byte_of(head, had, p, 1), byte_of(head, had, p, 2))
 }
 
 // The length that the element's header gives, and how many bytes of the piece belong to it. Where the header is not there all do.
@@ -39,7 +62,7 @@ fn due(head: &[u8; 30], had: usize, p: &[u8]) -> Share
             take: p.len(),
         };
     }
-    let told = wide(byte_of(head, had, p, 1)) + 256 * wide(byte_of(head, had, p, 2));
+    let told = told_of(head, had, p);
     if all < told {
         return Share {
             told,
