@@ -8,5 +8,4 @@ pub mod Tried
 pub mod BadWriters
 pub mod OtherChip
 pub mod Malformed
-pub mod Back
 pub mod Appending

@@ -5,11 +5,11 @@ use native.Mathlib.Omega.{arith}
 use native.Mathlib.Nat.{add-zero}
 use mathlib.Core.Path.{_≡_, refl, sym, _∙_, ap, subst}
 use mathlib.Core.Bool.{Bool, true, false, cond}
-use mathlib.Core.List.{List, [], _++_}
+use mathlib.Core.List.{List, [], _∷_, _++_}
 use lib.ListN.{length, drop, set, length-drop}
 use lib.Seq.{length-take-le, getD-drop}
 use lib.Dec.{eqb}
-use Rattle.format.specs.Slots.{byte, Bytes, written, word, Starts}
+use Rattle.format.specs.Slots.{byte, Bytes, written, whole, word, Starts}
 use Rattle.format.specs.Records.{Record, elementOf}
 use Rattle.format.specs.Layout.{opening, idOf, layout}
 use Rattle.format.specs.Rules.{descriptionRoomy, shaped}
@@ -19,10 +19,9 @@ use Rattle.format.specs.Decode.{readDescription}
 use Rattle.format.specs.Writing.{overwritten, writing}
 use Rattle.format.specs.declared.pins.Chip.{Chip}
 use Rattle.format.specs.declared.records.Description.{Description}
-use Rattle.format.proofs.Slots.{starts-over, over-starts, starts-more, take-fits, starts-roomy}
+use Rattle.format.proofs.Slots.{starts-over, over-starts, starts-more, take-fits, starts-roomy, roomy-split}
 use Rattle.format.proofs.EachKind.{description-fits}
 use Rattle.format.proofs.Kept.{own-kept}
-use Rattle.demands.proofs.Demand2.{opening-roomy}
 use Rattle.places.specs.Walks.{RoleBytes}
 use Rattle.places.proofs.Roles.{role-bytes}
 use Rattle.walking.specs.Walk.{Here}
@@ -41,7 +40,8 @@ pub read-roomy : (c : Chip) (t : List ℕ) → Bytes t → 16 ≤ length t → b
 read-roomy c t small long one =
     let d = readDescription c (byte t) in
     let st = over-starts t (opening d (stated t)) (omega (arith, long)) (description-fits c (byte t) (stated t) small one refl) in
-    opening-roomy d (stated t) (starts-roomy t (opening d (stated t)) (drop 16 t) small st)
+    let roomy = starts-roomy t (opening d (stated t)) (drop 16 t) small st in
+    roomy-split (whole 1 ∷ word (stated t)) (drop 3 (opening d 16)) roomy .1
 
 -- it is laid out for a table of 16 bytes; then the length is mended, and the index cleared
 mended-length :
