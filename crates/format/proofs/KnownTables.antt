@@ -106,12 +106,28 @@ all-each s (l ∷ ls) h =
     let t = and-true (right s l) (allRight s ls) h in
     (right-each s l (t .0), all-each s ls (t .1))
 
-computed : (c : Chip) (k : Rules) → allRight (on c k) (every c k) ≡ true
+-- each of the four is computed in a definition of its own, once
+ordinary-320 : allRight (on C8051F320 Ordinary) (every C8051F320 Ordinary) ≡ true
 unfolding verdictOf pass step decode descriptionRules ownRules rulesAgainst
-computed C8051F320 Ordinary = refl
-computed C8051F320 Archive = refl
-computed C8051F321 Ordinary = refl
-computed C8051F321 Archive = refl
+ordinary-320 = refl
+
+archive-320 : allRight (on C8051F320 Archive) (every C8051F320 Archive) ≡ true
+unfolding verdictOf pass step decode descriptionRules ownRules rulesAgainst
+archive-320 = refl
+
+ordinary-321 : allRight (on C8051F321 Ordinary) (every C8051F321 Ordinary) ≡ true
+unfolding verdictOf pass step decode descriptionRules ownRules rulesAgainst
+ordinary-321 = refl
+
+archive-321 : allRight (on C8051F321 Archive) (every C8051F321 Archive) ≡ true
+unfolding verdictOf pass step decode descriptionRules ownRules rulesAgainst
+archive-321 = refl
+
+computed : (c : Chip) (k : Rules) → allRight (on c k) (every c k) ≡ true
+computed C8051F320 Ordinary = ordinary-320
+computed C8051F320 Archive = archive-320
+computed C8051F321 Ordinary = ordinary-321
+computed C8051F321 Archive = archive-321
 
 module _ (s : Settings) where
   lists : Lists s (every (s .chip) (s .rules))

@@ -1,5 +1,6 @@
 -- `course` meets its contract: the points that the count comes after lead to its interval.
 -- Assumes nothing.
+use native.Mathlib.Omega.{arith}
 use mathlib.Core.Path.{refl, sym, _∙_, ap}
 use borrow.Author.Needs.{needs}
 use Rattle.converting.specs.Outcomes.{tenths}
@@ -62,15 +63,15 @@ course-spec =
     returns-2
     (λ c κs. search needs)
     (λ c κs. search needs)
-    (search needs)
+    (λ c. omega arith)
     (λ c κs. search needs)
-    (search needs)
-    (search needs)
-    (search needs)
-    (search needs)
-    (search needs)
-    (search needs)
-    (search needs)
-    (search needs)
+    (λ c. omega arith)
+    (λ c. omega arith)
+    (λ c. omega arith)
+    (λ c. omega arith)
+    (λ c. omega arith)
+    (λ c. omega arith)
+    (λ c. omega arith)
+    (λ c. omega arith)
     step-requires
     returns-3)
