@@ -24,17 +24,6 @@ place-text o h = rw (ne-eqb o 65535 (omega arith)) refl
 abbrev fronted : List ℕ → List ℕ → List ℕ
 fronted x y = 68 ∷ 9 ∷ [] ++ ((x ++ 9 ∷ []) ++ (y ++ 9 ∷ []))
 
-pub front :
-    {c d e f : List ℕ} {at r r′ r″ a b : ℕ}
-    → a ≤ 4096
-    → b ≤ 4096
-    → Put c at (68 ∷ 9 ∷ []) r d
-    → Put d r (placeText a ++ 9 ∷ []) r′ e
-    → Put e r′ (placeText b ++ 9 ∷ []) r″ f
-    → Put c at (fronted (decimal a) (decimal b)) r″ f
-front {c} {f = f} {at = at} {r″ = r″} {a = a} {b = b} h k p q s =
-    subst (λ (l : List ℕ). Put c at l r″ f) (λ i. fronted (place-text a h i) (place-text b k i)) (then p (then q s))
-
 -- what follows both offsets
 pub behind :
     {c d e : List ℕ} {at r r′ : ℕ} (x y : List ℕ) {z : List ℕ}
@@ -43,6 +32,19 @@ pub behind :
     → Put c at (68 ∷ 9 ∷ [] ++ ((x ++ 9 ∷ []) ++ ((y ++ 9 ∷ []) ++ z))) r′ e
 behind {c} {e = e} {at = at} {r′ = r′} x y {z} p q =
     subst (λ (l : List ℕ). Put c at l r′ e) (ap (λ (l : List ℕ). 68 ∷ 9 ∷ [] ++ l) (append-assoc (x ++ 9 ∷ []) (y ++ 9 ∷ []) z)) (then p q)
+
+-- no offset of a table is 65535
+pub behind-both :
+    {c d e : List ℕ} {at r r′ : ℕ} (a b : ℕ) {z : List ℕ}
+    → a ≤ 4096
+    → b ≤ 4096
+    → Put c at (fronted (placeText a) (placeText b)) r d
+    → Put d r z r′ e
+    → Put c at (68 ∷ 9 ∷ [] ++ ((decimal a ++ 9 ∷ []) ++ ((decimal b ++ 9 ∷ []) ++ z))) r′ e
+behind-both {c} {d} {at = at} {r = r} a b h k p q =
+    behind (decimal a) (decimal b)
+    (subst (λ (l : List ℕ). Put c at l r d) (λ i. fronted (place-text a h i) (place-text b k i)) p)
+    q
 
 -- a number's text, or `-` where the number stands for the missing one, and what ends the field
 module _ (k : ℕ) (text : List ℕ) {n absent : ℕ} {c : List ℕ} {at end : ℕ} where

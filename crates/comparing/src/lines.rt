@@ -3,7 +3,7 @@ ghost use mathlib.Core.Path.{_≡_};
 ghost use mathlib.Core.List.{[], _∷_, _++_};
 ghost use Prim.Native.Nat.{_+_, _*_, _<_, _≤_};
 ghost use lib.ListN.{length};
-ghost use Rattle.spelling.specs.Spelling.{Put, decimal};
+ghost use Rattle.spelling.specs.Spelling.{Put};
 ghost use Rattle.differing.specs.Fields.{hex};
 ghost use Rattle.differing.specs.Differences.{same};
 ghost use Rattle.comparing.specs.Rows.{codeText, fieldLine, rowText, rowsText, fieldsText, partText};
@@ -18,16 +18,32 @@ use spelling::put_decimal;
 use spelling::put_hex;
 use spelling::put_pin_or_dash;
 
+// One byte.
+fn put_byte(out: &mut [u8], at: usize, b: u8) -> usize
+    requires { ⌜ at + 1 ≤ length (now out) ⌝ }
+    ensures { λ r. ⌜ Put (now (out .entry)) at (b ∷ []) r (now (out .exit)) ⌝ }
+{
+    put(out, at, &[b])
+}
+
+// `-` and what ends the field.
+fn put_dash(out: &mut [u8], at: usize, end: u8) -> usize
+    requires { ⌜ at + 2 ≤ length (now out) ⌝ }
+    ensures { λ r. ⌜ Put (now (out .entry)) at (45 ∷ end ∷ []) r (now (out .exit)) ⌝ }
+{
+    put(out, at, &[45, end])
+}
+
 // An offset and a tab; 65535 stands for the missing one.
 fn put_place(out: &mut [u8], at: usize, o: usize) -> usize
     requires { ⌜ at + 9 ≤ length (now out) ⌝ }
     ensures { λ r. ⌜ Put (now (out .entry)) at (placeText o ++ 9 ∷ []) r (now (out .exit)) × (r ≤ at + 9) ⌝ }
 {
     if o == 65535 {
-        return put(out, at, &[45, 9]);
+        return put_dash(out, at, 9);
     }
     let a = put_decimal(out, at, o);
-    put(out, a, &[9])
+    put_byte(out, a, 9)
 }
 
 // An identifier and what ends the field; 255 stands for the missing one.
@@ -36,10 +52,10 @@ fn put_id(out: &mut [u8], at: usize, id: u8, end: u8) -> usize
     ensures { λ r. ⌜ Put (now (out .entry)) at (idText id ++ end ∷ []) r (now (out .exit)) × (r ≤ at + 3) ⌝ }
 {
     if id == 255 {
-        return put(out, at, &[45, end]);
+        return put_dash(out, at, end);
     }
     let a = put_hex(out, at, id);
-    put(out, a, &[end])
+    put_byte(out, a, end)
 }
 
 // The line of two kinds, or of an element without a partner.
@@ -47,18 +63,16 @@ pub fn put_kind(out: &mut [u8], at: usize, a: usize, b: usize, k: u8, l: u8) -> 
     requires { ⌜ at + 60 ≤ length (now out) ⌝ }
     ensures { λ r. ⌜ Put (now (out .entry)) at (kindLine a b k l) r (now (out .exit)) ⌝ }
 {
-    let e = put(out, at, &[68, 9]);
-    let f = put_place(out, e, a);
-    let g = put_place(out, f, b);
-    let h = put(out, g, &[107, 105, 110, 100, 9]);
-    let i = put_id(out, h, k, 9);
-    put_id(out, i, l, 10)
+    let e = put_front(out, at, a, b);
+    let f = put(out, e, &[107, 105, 110, 100, 9]);
+    let g = put_id(out, f, k, 9);
+    put_id(out, g, l, 10)
 }
 
 // `D` and both offsets, a tab behind each.
 fn put_front(out: &mut [u8], at: usize, a: usize, b: usize) -> usize
-    requires { ⌜ (at + 20 ≤ length (now out)) × (a ≤ 4096) × (b ≤ 4096) ⌝ }
-    ensures { λ r. ⌜ Put (now (out .entry)) at (68 ∷ 9 ∷ [] ++ ((decimal a ++ 9 ∷ []) ++ (decimal b ++ 9 ∷ []))) r (now (out .exit))
+    requires { ⌜ at + 20 ≤ length (now out) ⌝ }
+    ensures { λ r. ⌜ Put (now (out .entry)) at (68 ∷ 9 ∷ [] ++ ((placeText a ++ 9 ∷ []) ++ (placeText b ++ 9 ∷ []))) r (now (out .exit))
         × (r ≤ at + 20) ⌝ }
 {
     let e = put(out, at, &[68, 9]);
@@ -73,10 +87,10 @@ fn put_content(out: &mut [u8], at: usize, v: usize, end: u8) -> usize
 {
     if v < 16777216 {
         let a = put_decimal(out, at, v);
-        return put(out, a, &[end]);
+        return put_byte(out, a, end);
     }
     let a = put_pin_or_dash(out, at, ((v - 16777216) % 256) as u8);
-    put(out, a, &[end])
+    put_byte(out, a, end)
 }
 
 // The line of row i.
@@ -86,7 +100,7 @@ fn put_field(out: &mut [u8], at: usize, a: usize, b: usize, i: usize, v: usize, 
 {
     let e = put_front(out, at, a, b);
     let f = put_name(out, e, i);
-    let g = put(out, f, &[9]);
+    let g = put_byte(out, f, 9);
     let h = put_content(out, g, v, 9);
     put_content(out, h, w, 10)
 }
@@ -166,7 +180,7 @@ fn put_ended(out: &mut [u8], at: usize, p: &[u8], end: u8) -> usize
     ensures { λ r. ⌜ Put (now (out .entry)) at (hex (now (p .entry)) ++ end ∷ []) r (now (out .exit)) ⌝ }
 {
     let e = put_bytes(out, at, p);
-    put(out, e, &[end])
+    put_byte(out, e, end)
 }
 
 // Whether two parts are the same.

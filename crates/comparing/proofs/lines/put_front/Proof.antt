@@ -1,8 +1,8 @@
--- `put_front` meets its contract: no offset of a table is 65535.
+-- `put_front` meets its contract: both offsets, one behind another.
 -- Assumes nothing.
 use native.Mathlib.Omega.{arith}
-use Rattle.comparing.proofs.Lined.{front}
 use borrow.Author.Needs.{needs}
+use Rattle.spelling.proofs.Putting.{then}
 use Rattle.comparing.proofs.lines.put_front.Statement.{statement}
 use Rattle.comparing.proofs.lines.put_front.Tie as tie
 
@@ -26,7 +26,7 @@ returns c =
     let r = c .before .before in
     let q = r .before .before .before .before in
     let p = q .before .before .before .before in (
-      front (omega arith) (omega arith) (p .put .ensures) (q .put-place .ensures .0) (r .put-place2 .ensures .0),
+      then (p .put .ensures) (then (q .put-place .ensures .0) (r .put-place2 .ensures .0)),
       omega (arith, p .put .ensures .ends, q .put-place .ensures .1, r .put-place2 .ensures .1),
     )
 

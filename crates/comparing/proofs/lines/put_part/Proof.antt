@@ -3,10 +3,9 @@
 use native.Mathlib.Omega.{arith}
 use mathlib.Core.Path.{sym, _∙_}
 use denote.Ref.{now}
-use Rattle.spelling.specs.Spelling.{decimal}
 use Rattle.spelling.proofs.Putting.{then}
 use borrow.Author.Needs.{needs}
-use Rattle.comparing.proofs.Lined.{behind, ended-length, part-same, part-line, part-space}
+use Rattle.comparing.proofs.Lined.{behind-both, ended-length, part-same, part-line, part-space}
 use Rattle.comparing.proofs.lines.put_part.Statement.{statement}
 use Rattle.comparing.proofs.lines.put_part.Tie as tie
 
@@ -44,9 +43,10 @@ returns-2 c =
     let p = g .before .before .before .before in
     let f = p .before .before .before .before .before in
     let e = f .before .before in
-    let a = e .before .before .before .before .before .args in
+    let s = e .before .before .before .before .before in
+    let a = s .args in
     rw (part-line (a .a) (a .b) (now (a .p)) (now (a .q)) (sym (e .before .alike .ensures) ∙ e .if1 .left))
-    (behind (decimal (a .a)) (decimal (a .b)) (f .put-front .ensures .0)
+    (behind-both (a .a) (a .b) (s .pre .1) (s .pre .2) (f .put-front .ensures .0)
     (then (p .put .ensures) (then (g .put-ended .ensures) (h .put-ended2 .ensures))))
 
 pub put-part-spec : {M : Type 1} → statement M
