@@ -11,7 +11,10 @@ returns : tie.Need-returns
 returns c =
     let t = c .before .before .before .if1 .taken in
     record {
-      is = λ v h e. c .pair .ensures ∙ told-is v _ (piece-byte v _ 1 0 (sym t ∙ e) (omega arith)) (piece-byte v _ 2 0 (sym t ∙ e) (omega arith));
+      is =
+          λ v h e.
+          c .pair .ensures
+          ∙ told-is v _ (piece-byte v _ 1 0 (sym t ∙ e) (omega arith)) (piece-byte v _ 2 0 (sym t ∙ e) (omega arith));
     }
 
 returns-2 : tie.Need-returns-2
@@ -27,7 +30,10 @@ returns-2 c =
 returns-3 : tie.Need-returns-3
 returns-3 c =
     record {
-      is = λ v h e. c .pair3 .ensures ∙ told-is v _ (c .before .before .byte-of .ensures .is v h e) (c .before .byte-of2 .ensures .is v h e);
+      is =
+          λ v h e.
+          c .pair3 .ensures
+          ∙ told-is v _ (c .before .before .byte-of .ensures .is v h e) (c .before .byte-of2 .ensures .is v h e);
     }
 
 pub told-of-spec : {M : Type 1} → statement M
