@@ -1,5 +1,7 @@
 // The pass from its first byte on: it opens where the description is whole, its flags are cleared where the first element begins, and
 // numbers that no pass has are left alone.
+#![tactic(auto)]
+
 ghost use Rattle.std.specs.Prelude.{true, false};
 ghost use Rattle.format.specs.Slots.{byte};
 ghost use Rattle.format.specs.Decode.{read_description};

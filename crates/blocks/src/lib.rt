@@ -1,6 +1,8 @@
 // The blocks of 09h, 0Ah and 0Dh, which are to fill an element's part exactly: its bytes from the first block on. A block is an
 // ENTRIES byte and that many pairs of four bytes; `lead` bytes stand before each ENTRIES byte: in 09h one, SPEED, in the
 // others none.
+#![tactic(auto)]
+
 ghost use Rattle.std.specs.Prelude.{◌≡◌, true, ◌+◌, ◌<◌, ◌≤◌, length};
 ghost use Rattle.blocks.specs.Cutting.{enter, past_block, cut_of, SpeedPart, PairsPart};
 
@@ -8,7 +10,7 @@ use words::wide;
 
 // A part as far as it is cut: where the next ENTRIES byte would stand, and whether each block before it has a pair. (How many
 // blocks there are is not counted: a third number would not go by registers, which costs a third of the time.)
-#[derive(Drop)]
+#[derive(Clone, Copy)]
 pub struct Cut {
     pub at: usize,
     pub full: bool,
@@ -16,7 +18,7 @@ pub struct Cut {
 
 // What a whole part says of its element: 8, whether blocks fill it and are as many as there may be, and 9, whether each block
 // that must have a pair has one.
-#[derive(Drop)]
+#[derive(Clone, Copy)]
 pub struct Part {
     pub whole: bool,
     pub full: bool,

@@ -1,4 +1,6 @@
 // The lines of salvage as text in a lent buffer, one a change: old offset, number of the rule, `left out` or `cleared`.
+#![tactic(auto)]
+
 ghost use Rattle.std.specs.Prelude.{◌+◌, ◌≤◌, length};
 ghost use Rattle.changes.specs.Written.{PutsChange, PutsLine, Noted, PutsLines};
 

@@ -1,5 +1,7 @@
 // What the writer asks of an element with its part before it writes: 8, 9, 23 and 10, which are found by the functions that the
 // reader calls too.
+#![tactic(auto)]
+
 ghost use Rattle.std.specs.Prelude.{◌≡◌, true, false, length, eqb};
 ghost use Rattle.format.specs.Rules.{numbered};
 ghost use Rattle.format.specs.Writing.{part_breaks};

@@ -1,4 +1,6 @@
 // The claims of an element that stands in a table, by its kind.
+#![tactic(auto)]
+
 ghost use Rattle.std.specs.Prelude.{◌≡◌, true};
 ghost use Rattle.format.specs.Rules.{pinned};
 ghost use Rattle.format.specs.Claims.{claims_of};

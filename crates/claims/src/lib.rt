@@ -1,4 +1,6 @@
 // 15: claims on pins, as sets of pins: pin i of the 25 in bit i.
+#![tactic(auto)]
+
 ghost use Rattle.std.specs.Prelude.{◌≡◌, true, List, [], ◌∷◌, ◌++◌, ◌<◌};
 ghost use Rattle.format.specs.Pins.{allowed};
 ghost use Rattle.format.specs.declared.pins.Chip.{Chip};
@@ -14,7 +16,7 @@ use pinsets::bit_of;
 
 // The pins that one element claims alone, those that it claims jointly (shared pins and a chip select), and those that it
 // claims alone twice.
-#[derive(Drop)]
+#[derive(Clone, Copy)]
 pub struct Claims {
     pub alone: u32,
     pub joint: u32,
@@ -22,7 +24,7 @@ pub struct Claims {
 }
 
 // The pins claimed so far, and the place of the first clash; 65,536 where there is none.
-#[derive(Drop)]
+#[derive(Clone, Copy)]
 pub struct Held {
     pub alone: u32,
     pub joint: u32,

@@ -1,4 +1,6 @@
 // Whole elements, in a piece or after a cut: what the pass comes to after them.
+#![tactic(auto)]
+
 ghost use Rattle.std.specs.Prelude.{◌≡◌, true, false, ◌+◌, ◌≤◌, ◌<◌, length};
 ghost use Rattle.format.specs.Verdict.{known};
 ghost use Rattle.pass.specs.Tracks.{flags, Low};
@@ -13,7 +15,7 @@ use words::wide;
 
 // Where the pass is: the rule that stopped it, or 0, and its place; or the place of the element under way, what is held of it, and
 // what the elements before have left.
-#[derive(Drop)]
+#[derive(Clone, Copy)]
 pub struct Way {
     pub stop: usize,
     pub at: usize,
@@ -22,7 +24,7 @@ pub struct Way {
 }
 
 // The same, and how many bytes of a piece are taken.
-#[derive(Drop)]
+#[derive(Clone, Copy)]
 pub struct Ran {
     pub taken: usize,
     pub way: Way,

@@ -1,4 +1,6 @@
 // Two tables side by side: what differs between them, as text in a lent buffer.
+#![tactic(auto)]
+
 ghost use Rattle.std.specs.Prelude.{◌≡◌, ◌+◌, ◌≤◌, length};
 ghost use Rattle.std.proofs.Math.Option.{Option};
 ghost use Rattle.format.specs.Slots.{written};
@@ -22,7 +24,7 @@ use walking::{length_at, part_at};
 use words::wide;
 
 // How long the text is; or which table is refused, with the number and the place.
-#[derive(Drop)]
+#[derive(Clone, Copy)]
 pub enum Outcome {
     Text(usize),
     Refused(u8, u8, usize),

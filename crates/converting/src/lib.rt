@@ -1,4 +1,6 @@
 // Counts into readings: currents and voltages between their two ends, temperatures along five calibration points, pulses into RPM.
+#![tactic(auto)]
+
 ghost use Rattle.std.specs.Prelude.{◌≡◌, true, cond, ◌≤◌, ◌<◌};
 ghost use Rattle.converting.specs.Outcomes.{outcome_of, deciamps, decivolts};
 ghost use Rattle.converting.specs.Rounding.{Nearest};
@@ -11,7 +13,7 @@ use crate::units::{ReadRpm, Tenths};
 use format::units::{Counts, Deciamps, Decivolts};
 
 // What a count is read as, with its unit.
-#[derive(Drop)]
+#[derive(Clone, Copy)]
 pub enum Converted {
     Temperature(Tenths),
     Current(Deciamps),
@@ -23,7 +25,7 @@ pub enum Converted {
 }
 
 // The same as plain numbers, for text and tallies.
-#[derive(Drop)]
+#[derive(Clone, Copy)]
 pub enum Outcome {
     Reading(u32),
     Under,
@@ -46,7 +48,7 @@ pub fn told(answer: Converted) -> Outcome
 }
 
 // The converter's counts at 0, 25, 50, 75 and 100 degrees.
-#[derive(Drop)]
+#[derive(Clone, Copy)]
 pub struct Calibration {
     pub at0: Counts,
     pub at25: Counts,

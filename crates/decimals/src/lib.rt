@@ -1,4 +1,6 @@
 // Any number of 64 bits in plain decimals.
+#![tactic(auto)]
+
 ghost use Rattle.std.specs.Prelude.{◌≡◌, ◌+◌, ◌≤◌, length};
 ghost use Rattle.spelling.specs.Spelling.{Put, digit};
 ghost use Rattle.decimals.specs.Decimals.{decimals, Spelt};
@@ -6,7 +8,7 @@ ghost use Rattle.decimals.specs.Decimals.{decimals, Spelt};
 use spelling::{put, put_decimal};
 
 // The digits of a number stand at the end of these bytes, from here on.
-#[derive(Drop)]
+#[derive(Clone, Copy)]
 struct Digits {
     bytes: [u8; 20],
     from: usize,

@@ -4,3 +4,4 @@
 // proofs/ Tells, Ranges: a text tells its content; Determined: contents determine the bytes; Nothing, Equal: no lines exactly when the
 //         records are equal; Exchange: with the tables exchanged; Bound: how long the text can be; Comparing: contents are compared
 //         where texts are; Only: the same of bytes, and one text alone.
+#![tactic(auto)]

@@ -1,4 +1,6 @@
 // An element's bytes as a case of the element enum, where its variable part starts, its identifier and its position.
+#![tactic(auto)]
+
 ghost use Rattle.std.specs.Prelude.{◌≡◌};
 ghost use Rattle.std.proofs.Math.Option.{some};
 ghost use Rattle.format.specs.Records.{Record, element_of, unknown_position};

@@ -1,5 +1,7 @@
 // What a table that came in pieces is answered at its end: 1, 2 and 3, which are known last and stand first; then where the pass
 // stopped; then the rules over the whole table, 13, 14 and 15, whose places are the first ones by number.
+#![tactic(auto)]
+
 ghost use Rattle.std.specs.Prelude.{◌≡◌, ◌%◌};
 ghost use Rattle.pass.specs.Tracks.{flags};
 ghost use Rattle.ending.specs.Ending.{LackingIs, AloneIs, OverIs, PassedIs, VerdictIs};

@@ -1,6 +1,8 @@
 // The C face: numbers and byte slices. An answer leaves as one number: the number of 'What comes back' and 256 times what
 // stands beside it. Settings come as one number: bit 0 set is the 321, bit 1 the archive's rules, other bits are ignored; the writer
 // and the pin sheet ignore bit 1 too.
+#![tactic(auto)]
+
 ghost use Rattle.std.specs.Prelude.{◌≡◌};
 ghost use Rattle.parts.specs.Inside.{block_in, pair_in, list_in, list_pair_in, colour_in, colour_pair_in};
 ghost use Rattle.metering.specs.Face.{OwnFor};

@@ -1,6 +1,8 @@
 // Reads a table on standard input and prints whether there is a fan or a pump in a zone, whose number stands behind the options: 'yes' or
 // 'no', a tab, and the number of elements visited. With a refusal there is one line: R, number, place, with tabs. The option --chip
 // names the chip.
+#![tactic(auto)]
+
 use fans::{Visit, Zoned};
 use format::settings::Settings;
 use libc::{STDERR_FILENO, STDIN_FILENO, STDOUT_FILENO};

@@ -1,5 +1,7 @@
 // Is there a fan in this zone? A walk over the elements of a table that stops at the first fan or pump of the zone, and how many
 // elements it visited.
+#![tactic(auto)]
+
 ghost use Rattle.std.specs.Prelude.{◌≡◌, List, ◌+◌, ◌<◌};
 ghost use Rattle.format.specs.Slots.{Fits};
 ghost use Rattle.format.specs.Records.{Record};
@@ -15,14 +17,14 @@ use reader::handed_on;
 use walking::length_at;
 
 // Whether the element that was visited last is a fan or a pump of the zone, and how many were visited.
-#[derive(Drop)]
+#[derive(Clone, Copy)]
 pub struct Visit {
     pub hit: bool,
     pub count: usize,
 }
 
 // What the last visit gave, or the table's refusal.
-#[derive(Drop)]
+#[derive(Clone, Copy)]
 pub enum Zoned {
     Seen(Visit),
     Refused(u8, usize),

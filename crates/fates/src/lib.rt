@@ -1,12 +1,14 @@
 // What becomes of each element of a damaged table, noted in two lent arrays: what is kept, and the changes in the order made. An element
 // that is kept is held as twice its place, and one more where its string index is cleared.
+#![tactic(auto)]
+
 ghost use Rattle.std.specs.Prelude.{◌≡◌, ◌+◌, ◌*◌, ◌/◌, ◌<◌};
 ghost use Rattle.fates.specs.Noted.{Settles};
 
 use words::wide;
 
 // It stays; it is left out by a rule; its string index is cleared.
-#[derive(Drop)]
+#[derive(Clone, Copy)]
 pub enum Fate {
     Stays,
     Leaves(u8),
@@ -14,7 +16,7 @@ pub enum Fate {
 }
 
 // How many are kept, and how many changes there are.
-#[derive(Drop)]
+#[derive(Clone, Copy)]
 pub struct Counts {
     pub kept: usize,
     pub lines: usize,

@@ -1,5 +1,7 @@
 // From bytes to records, one function a kind. Each takes the slice from offset 3 of the element to its end, and the
 // chip whose pins the record's are.
+#![tactic(auto)]
+
 ghost use Rattle.std.specs.Prelude.{◌≡◌, ◌+◌, ◌<◌, ◌≤◌, length, eqb};
 ghost use Rattle.format.specs.Slots.{byte};
 ghost use Rattle.format.specs.Decode.{optional_of, read_placement, pick_address, read_digital, read_analogue, read_fan, read_lamp, read_led};

@@ -1,5 +1,7 @@
 // For each of the 256 numbers the place of the first element that names it, 0 where none does; and the least place of a number
 // that is named and not declared. With these the rules over the whole table, 13 and 14, need no second walk.
+#![tactic(auto)]
+
 ghost use Rattle.std.specs.Prelude.{◌≡◌, ◌<◌};
 ghost use Rattle.firsts.specs.Firsts.{noted, pick, lesser, LeastTo};
 

@@ -1,4 +1,6 @@
 // Flags for all 256 numbers: which of them are in a list.
+#![tactic(auto)]
+
 ghost use Rattle.std.specs.Prelude.{◌≡◌};
 ghost use Rattle.flags.specs.Marks.{lacks_to, Lacks};
 

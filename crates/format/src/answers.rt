@@ -2,28 +2,28 @@
 use crate::records::{Description, Element};
 
 // Of a check: accepted, with the number of elements; or the number and the place of a refusal.
-#[derive(Drop)]
+#[derive(Clone, Copy)]
 pub enum Answer {
     Accepted(usize),
     Refused(u8, usize),
 }
 
 // Of asking for the description.
-#[derive(Drop)]
+#[derive(Clone, Copy)]
 pub enum Described {
     Description(Description),
     Refused(u8, usize),
 }
 
 // Of asking for element k.
-#[derive(Drop)]
+#[derive(Clone, Copy)]
 pub enum Asked {
     Element(Element),
     Refused(u8, usize),
 }
 
 // Of the writer: done, with the new length.
-#[derive(Drop)]
+#[derive(Clone, Copy)]
 pub enum Written {
     Length(usize),
     Refused(u8, usize),

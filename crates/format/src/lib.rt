@@ -1,5 +1,7 @@
 // What an ESA configuration table is: its units, pins, records and answers. The layout, the rules and the
 // verdict are definitions in specs/, the theorems about them stand in proofs/. No running code.
+#![tactic(auto)]
+
 pub mod answers;
 pub mod pins;
 pub mod records;

@@ -3,7 +3,7 @@ use crate::pins::{OptionalPin, Pin};
 use crate::units::{Centimetres, Counts, Deciamps, Decivolts, Degrees, FourMilliamps, Rpm};
 
 // The table description (000, Table 4).
-#[derive(Drop)]
+#[derive(Clone, Copy)]
 pub struct Description {
     pub device: u8,
     pub string: u8,
@@ -16,7 +16,7 @@ pub struct Description {
 }
 
 // What every element but a string and a zone descriptor begins with: its name, its position and its zone.
-#[derive(Drop)]
+#[derive(Clone, Copy)]
 pub struct Placement {
     pub string: u8,
     pub x: Centimetres,
@@ -26,14 +26,14 @@ pub struct Placement {
 }
 
 // A device address: a seven-bit bus address or a chip select pin, by the bus type (000, Tables 9 and 10).
-#[derive(Drop)]
+#[derive(Clone, Copy)]
 pub enum Address {
     Bus(u8),
     Select(Pin),
 }
 
 // 01h (000, Table 11). The two registers are the device's; the two values are what is read from them.
-#[derive(Drop)]
+#[derive(Clone, Copy)]
 pub struct DigitalSensor {
     pub placement: Placement,
     pub bus: u8,
@@ -47,7 +47,7 @@ pub struct DigitalSensor {
 }
 
 // 02h (000, Table 12): the converter's count at each of five temperatures.
-#[derive(Drop)]
+#[derive(Clone, Copy)]
 pub struct AnalogueSensor {
     pub placement: Placement,
     pub thermal: u8,
@@ -60,7 +60,7 @@ pub struct AnalogueSensor {
 }
 
 // 03h, and 06h (000, Table 14 and 8.9).
-#[derive(Drop)]
+#[derive(Clone, Copy)]
 pub struct PwmFan {
     pub placement: Placement,
     pub pwm: Pin,
@@ -72,7 +72,7 @@ pub struct PwmFan {
 }
 
 // One of the three lamps of a status LED.
-#[derive(Drop)]
+#[derive(Clone, Copy)]
 pub struct Lamp {
     pub pin: OptionalPin,
     pub colour: u8,
@@ -80,7 +80,7 @@ pub struct Lamp {
 }
 
 // 04h (000, Table 15).
-#[derive(Drop)]
+#[derive(Clone, Copy)]
 pub struct StatusLed {
     pub placement: Placement,
     pub one: Lamp,
@@ -89,7 +89,7 @@ pub struct StatusLed {
 }
 
 // 05h (000, Table 18): the converter's count at each of three levels.
-#[derive(Drop)]
+#[derive(Clone, Copy)]
 pub struct WaterLevel {
     pub placement: Placement,
     pub pin: Pin,
@@ -99,7 +99,7 @@ pub struct WaterLevel {
 }
 
 // 07h (000, Table 19).
-#[derive(Drop)]
+#[derive(Clone, Copy)]
 pub struct VoltageSensor {
     pub placement: Placement,
     pub pin: Pin,
@@ -108,7 +108,7 @@ pub struct VoltageSensor {
 }
 
 // 08h (000, Table 20).
-#[derive(Drop)]
+#[derive(Clone, Copy)]
 pub struct CurrentSensor {
     pub placement: Placement,
     pub pin: Pin,
@@ -117,7 +117,7 @@ pub struct CurrentSensor {
 }
 
 // 09h and 0Ah before their blocks, and what 0Dh has in common with them (000, Tables 21, 24 and 27).
-#[derive(Drop)]
+#[derive(Clone, Copy)]
 pub struct BusDevice {
     pub placement: Placement,
     pub bus: u8,
@@ -125,14 +125,14 @@ pub struct BusDevice {
 }
 
 // 0Dh before its blocks (000, Table 27), with the identifier of its chip (Table 28).
-#[derive(Drop)]
+#[derive(Clone, Copy)]
 pub struct ExternalRgb {
     pub device: BusDevice,
     pub identifier: u8,
 }
 
 // 0Eh (000, Table 26).
-#[derive(Drop)]
+#[derive(Clone, Copy)]
 pub struct RgbLed {
     pub placement: Placement,
     pub red: Pin,
@@ -141,7 +141,7 @@ pub struct RgbLed {
 }
 
 // A register pair (000, Table 23).
-#[derive(Drop)]
+#[derive(Clone, Copy)]
 pub struct RegisterPair {
     pub address: u16,
     pub data: u16,
@@ -150,7 +150,7 @@ pub struct RegisterPair {
 // An element of each of the fourteen kinds. What varies in length is handed on beside it, as the element's part: the
 // blocks of a controller, of a tachometer and of an external RGB LED, and of a zone descriptor and a string all bytes after the
 // header.
-#[derive(Drop)]
+#[derive(Clone, Copy)]
 pub enum Element {
     Digital(DigitalSensor),
     Analogue(AnalogueSensor),

@@ -1,6 +1,8 @@
 // What the bytes of an element that stands in a zone say of it alone: the first of 8, 9, 23 and 10 that it breaks, the pins
 // that it claims, and those of the fan list that count through the table. The slices start after the element's header; pins are
 // read and judged under the caller's settings.
+#![tactic(auto)]
+
 ghost use Rattle.std.specs.Prelude.{◌≡◌, true, false, ◌≤◌, length};
 ghost use Rattle.format.specs.Slots.{byte};
 ghost use Rattle.format.specs.Decode.{read_device};
@@ -15,14 +17,14 @@ use format::records::{PwmFan, RgbLed};
 use format::settings::Settings;
 
 // The pins of the fan list that an element counts: whether there is any, the first and the last.
-#[derive(Drop)]
+#[derive(Clone, Copy)]
 pub struct Fans {
     pub any: bool,
     pub first: u8,
     pub last: u8,
 }
 
-#[derive(Drop)]
+#[derive(Clone, Copy)]
 pub struct Found {
     pub fault: u8,
     pub claims: Claims,

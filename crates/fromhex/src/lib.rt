@@ -1,4 +1,6 @@
 // A table moved back out of Intel HEX. A line is judged by spelling what it may send, and comparing.
+#![tactic(auto)]
+
 ghost use Rattle.std.specs.Prelude.{◌≡◌, List, ◌++◌, ℕ, ◌+◌, ◌*◌, ◌<◌, ◌≤◌, length};
 ghost use Rattle.format.specs.Slots.{byte};
 ghost use Rattle.hextext.specs.Text.{data_line};
@@ -16,7 +18,7 @@ use laying::copy_into;
 use spelling::put;
 
 // What the walk over a text finds: how many bytes it sends, or the first bad line.
-#[derive(Drop)]
+#[derive(Clone, Copy)]
 pub enum Walked {
     Bytes(usize),
     Bad(usize),

@@ -1,4 +1,6 @@
 // Records of Intel HEX as text, put into a lent buffer; each function answers where its text ends.
+#![tactic(auto)]
+
 ghost use Rattle.std.specs.Prelude.{◌≡◌, ◌+◌, ◌*◌, ◌-◌, ◌%◌, ◌<◌, ◌≤◌, length};
 ghost use Rattle.hextext.specs.Text.{sum};
 ghost use Rattle.hextext.specs.Digits.{PutDigits, PutLine};

@@ -1,4 +1,6 @@
 // An element's header, fixed fields and part, side by side in a lent buffer; and the table's length. Every other byte is as it was.
+#![tactic(auto)]
+
 ghost use Rattle.std.specs.Prelude.{◌≡◌, true, ◌∷◌, ◌+◌, ◌<◌, ◌≤◌, length};
 ghost use Rattle.format.specs.Slots.{whole, word, written};
 ghost use Rattle.format.specs.Rules.{element_roomy};

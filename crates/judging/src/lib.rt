@@ -1,5 +1,7 @@
 // What an element says that a cut went through, once it is whole, by what is held of it: 09h, 0Ah and 0Dh by their fixed bytes and
 // the cut of their blocks, 0Ch by its number and how its text ended. The judges are those of a whole table.
+#![tactic(auto)]
+
 ghost use Rattle.std.specs.Prelude.{◌≤◌};
 ghost use Rattle.judging.specs.Whole.{SpeedIs, PairsIs, DeviceIs, TextIs, NumberIs};
 

@@ -2,6 +2,8 @@
 // with tabs; below the first, of whose listing document 01 has a line, that listing. The other two have the answer of request 2/14,
 // 10 at 32. Table A and fan F are written out as the document has them, A with its length mended. tools/known holds what is
 // printed to the second program.
+#![tactic(auto)]
+
 use format::answers::Answer;
 use format::pins::Chip;
 use format::settings::{Rules, Settings};

@@ -2,6 +2,8 @@
 // name may stand that is lent for an element without a string. The first line is 'text' where the label stands in the table, in UTF-16
 // with the low byte first, and 'name' where it is the lent one; then come its bytes, as they are. With a refusal there is one line: R,
 // number, place, with tabs. The option --chip names the chip.
+#![tactic(auto)]
+
 use format::settings::Settings;
 use labels::Source;
 use libc::{STDERR_FILENO, STDIN_FILENO};

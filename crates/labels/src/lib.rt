@@ -1,5 +1,7 @@
 // The label of an element: what a person reads beside it. It is a part of one of two lent slices, and no byte is copied: the text of
 // the element's string, which stands in the table, or a name that the caller lends, where the element has no string.
+#![tactic(auto)]
+
 ghost use Rattle.std.specs.Prelude.{◌≡◌, List, [], ◌∷◌};
 ghost use Rattle.format.specs.Slots.{byte};
 ghost use Rattle.format.specs.Records.{Record};
@@ -16,7 +18,7 @@ use reader::handed_on;
 use walking::{length_at, place_of};
 
 // From which of the two it is, and where: a text in the table, its place and its length; the lent name, whole. Or a refusal.
-#[derive(Drop)]
+#[derive(Clone, Copy)]
 pub enum Source {
     Text(usize, usize),
     Lent,

@@ -1,4 +1,6 @@
 // From records to bytes in a lent buffer: reserved places at zero, every other byte of the buffer as it was.
+#![tactic(auto)]
+
 ghost use Rattle.std.specs.Prelude.{◌≡◌, true, ◌+◌, ◌≤◌, length};
 ghost use Rattle.format.specs.Slots.{byte_of, flag, roomy, written};
 ghost use Rattle.format.specs.Layout.{opening, fixed};

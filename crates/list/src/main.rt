@@ -1,5 +1,7 @@
 // Reads a table on standard input and prints its listing: one record a line; of a refused table only R, number, place. The option
 // --chip names the chip, and --archive has the archive's rules.
+#![tactic(auto)]
+
 use format::settings::Settings;
 use libc::STDIN_FILENO;
 use options::Options;

@@ -1,4 +1,6 @@
 // The listing of a table, as text in a lent buffer: one record a line, fields parted by tabs.
+#![tactic(auto)]
+
 ghost use Rattle.std.specs.Prelude.{◌≡◌, false, [], ◌∷◌, ◌++◌, ◌+◌, ◌*◌, ◌≤◌, length};
 ghost use Rattle.format.specs.Rules.{in_use};
 ghost use Rattle.format.specs.declared.settings.Rules.TheVariants.{Ordinary};
@@ -83,7 +85,7 @@ fn put_supply(out: &mut [u8], at: usize, d: Description) -> usize
     put_number(out, at, m.0)
 }
 
-#[derive(Drop)]
+#[derive(Clone, Copy)]
 pub struct Milliamps(pub usize);
 
 // Power units are of 4 mA.

@@ -1,5 +1,7 @@
 // The new table of salvage in a lent buffer: the description and what is kept, copied as it stands; then reserved places at zero, cleared
 // string indexes at 0.
+#![tactic(auto)]
+
 ghost use Rattle.std.specs.Prelude.{◌≡◌, cond, ◌+◌, ◌<◌, ◌≤◌, length};
 ghost use Rattle.format.specs.Slots.{byte, Bytes};
 ghost use Rattle.reserved.specs.Zeroed.{reach};
@@ -46,7 +48,7 @@ pub fn put_table(
 }
 
 // Elements of the old table that are kept and stand end to end: where they end, and which comes next.
-#[derive(Drop)]
+#[derive(Clone, Copy)]
 struct Run {
     to: usize,
     next: usize,

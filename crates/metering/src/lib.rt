@@ -1,4 +1,6 @@
 // One count without a trace: what it means at an element of a table.
+#![tactic(auto)]
+
 ghost use Rattle.std.specs.Prelude.{◌≡◌, ◌≤◌};
 ghost use Rattle.metering.specs.Meters.{metered_of, Short, Meters};
 ghost use Rattle.metering.specs.Face.{place_of, packed_of, ReadingFor, OwnFor};
@@ -8,7 +10,7 @@ use format::answers::Asked;
 use format::settings::Settings;
 
 // A reading in the unit of the element's kind, 'under 0', 'over 100', or a refusal and its place.
-#[derive(Drop)]
+#[derive(Clone, Copy)]
 pub enum Metered {
     Reading(u32),
     Under,

@@ -1,4 +1,6 @@
 // What elements name, noted by number with the place of the first that does: their zones and their strings.
+#![tactic(auto)]
+
 ghost use Rattle.std.specs.Prelude.{◌≡◌, ◌+◌, ◌<◌, ◌≤◌};
 ghost use Rattle.format.specs.Slots.{byte};
 ghost use Rattle.naming.specs.Naming.{Names, LengthIs, OneNamed, AllNamed};

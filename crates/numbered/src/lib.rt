@@ -1,4 +1,6 @@
 // From the record to its numbers, one function a kind; byte 31 names the chip of its pins, and the bytes that a kind does not use are 0.
+#![tactic(auto)]
+
 ghost use Rattle.std.specs.Prelude.{◌≡◌, [], ◌∷◌, ◌++◌, ◌<◌};
 ghost use Rattle.std.proofs.lemmas.List.Edits.{sets};
 ghost use Rattle.format.specs.Layout.{optional_byte};

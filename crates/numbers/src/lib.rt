@@ -1,6 +1,8 @@
 // From the 32 bytes that hold a record's numbers at the C face, each number as wide as the record's type and lowest byte first, to
 // the record, one function a kind. Byte 31 names the chip of its pins; the bytes that a kind does not use are not looked at. The
 // numbers of 03h, 05h, 06h, 07h and 0Eh are laid out as the element's bytes after its header, so that `fields` reads them.
+#![tactic(auto)]
+
 ghost use Rattle.std.specs.Prelude.{◌≡◌, ◌<◌, eqb};
 ghost use Rattle.format.specs.Slots.{byte};
 ghost use Rattle.numbers.specs.From.{chip_from, address_from, digital_from, analogue_from, lamp_from, led_from, current_from, device_from};
@@ -16,7 +18,7 @@ use format::units::{Counts, Deciamps, Degrees, FourMilliamps};
 use words::{long, word};
 
 // The element of an identifier, or nothing where that is none of the fourteen.
-#[derive(Drop)]
+#[derive(Clone, Copy)]
 pub enum MaybeElement {
     Element(Element),
     Unknown,

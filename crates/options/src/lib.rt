@@ -1,6 +1,8 @@
 // The options of a program, which stand first among its words: `--chip 320` or `--chip 321`, the 320 if no chip is named; `--archive`
 // for the archive's rules, else the ordinary ones; `--` ends them. What a word is and what it changes is proved; where the words come
 // from is the system's affair.
+#![tactic(auto)]
+
 ghost use Rattle.std.specs.Prelude.{◌≡◌};
 ghost use Rattle.options.specs.Steps.{wanted, archived_of, option_of, number_of, step_of, last_of, settings_of, ordinary_of};
 
@@ -12,7 +14,7 @@ pub mod numerals;
 mod words;
 
 // What a word is where an option may stand.
-#[derive(Drop)]
+#[derive(Clone, Copy)]
 pub enum Word {
     // its number comes next
     Chip,
@@ -24,21 +26,21 @@ pub enum Word {
     Plain,
 }
 
-#[derive(Drop)]
+#[derive(Clone, Copy)]
 pub enum NamedChip {
     Unnamed,
     Named(Chip),
 }
 
 // What the options so far have chosen.
-#[derive(Drop)]
+#[derive(Clone, Copy)]
 pub struct Choice {
     pub chip: NamedChip,
     pub rules: Rules,
 }
 
 // What is wrong with the words.
-#[derive(Drop)]
+#[derive(Clone, Copy)]
 pub enum Misuse {
     Unknown,
     NoChip,
@@ -51,7 +53,7 @@ pub enum Misuse {
 }
 
 // How far the words are read.
-#[derive(Drop)]
+#[derive(Clone, Copy)]
 pub enum State {
     // an option may come
     Open(Choice),
@@ -65,7 +67,7 @@ pub enum State {
 }
 
 // What all words say: the settings, and the index of the first word behind the options.
-#[derive(Drop)]
+#[derive(Clone, Copy)]
 pub enum Options {
     Chosen(Settings, usize),
     Misused(Misuse),

@@ -1,6 +1,8 @@
 // The fields inside a variable part: the speed blocks of 09h, the two blocks of 0Ah, the three of 0Dh and their register pairs; the
 // number and the string index of a zone descriptor, the number and the text of a string. A part is any bytes: of what does not stand
 // whole in it the answer is `Nothing`, a byte past its end is 0.
+#![tactic(auto)]
+
 ghost use Rattle.std.specs.Prelude.{◌≡◌, ◌+◌, ◌*◌, drop};
 ghost use Rattle.format.specs.Slots.{byte};
 ghost use Rattle.format.specs.Records.{zone_number, zone_string, string_number, text_of};
@@ -12,26 +14,26 @@ use format::units::HundredRpm;
 use words::{wide, word};
 
 // The head of a speed block (000, Table 22): so many register pairs follow it.
-#[derive(Drop)]
+#[derive(Clone, Copy)]
 pub struct SpeedBlock {
     pub speed: HundredRpm,
     pub entries: u8,
 }
 
-#[derive(Drop)]
+#[derive(Clone, Copy)]
 pub enum MaybeBlock {
     Block(SpeedBlock),
     Nothing,
 }
 
-#[derive(Drop)]
+#[derive(Clone, Copy)]
 pub enum MaybePair {
     Pair(RegisterPair),
     Nothing,
 }
 
 // How many pairs a block of 0Ah or 0Dh has.
-#[derive(Drop)]
+#[derive(Clone, Copy)]
 pub enum MaybeEntries {
     Entries(u8),
     Nothing,

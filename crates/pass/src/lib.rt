@@ -1,5 +1,7 @@
 // The pass over the elements from offset 16: 6, the 97th (11), 7, 8, 9, 23, 10 (its own pins, then the fan list), the 13th zone (11),
 // 12. Which numbers have been seen and which are named is kept for all 256 numbers, in flags that are lent.
+#![tactic(auto)]
+
 ghost use Rattle.std.specs.Prelude.{◌≡◌, Bool, not, List, ℕ, ◌+◌, ◌<◌, ◌≤◌, length, ltb};
 ghost use Rattle.format.specs.Slots.{byte};
 ghost use Rattle.format.specs.Records.{zone, string};
@@ -16,7 +18,7 @@ use words::wide;
 
 // How many elements and zones there are so far, who claims which pins, and the last fan-list pin used; 0 where none is. (It is as
 // wide as the counts: a state with unused bytes would go through memory in every step, docs/BENCH.md.)
-#[derive(Drop)]
+#[derive(Clone, Copy)]
 pub struct State {
     pub count: usize,
     pub zones: usize,
@@ -25,14 +27,14 @@ pub struct State {
 }
 
 // A step: the rule that stops it, or 0, and what is so far.
-#[derive(Drop)]
+#[derive(Clone, Copy)]
 pub struct Step {
     pub stop: u8,
     pub state: State,
 }
 
 // A step, and the length of what was stepped over.
-#[derive(Drop)]
+#[derive(Clone, Copy)]
 pub struct Moved {
     pub stop: u8,
     pub len: usize,
@@ -40,7 +42,7 @@ pub struct Moved {
 }
 
 // The whole pass.
-#[derive(Drop)]
+#[derive(Clone, Copy)]
 pub struct Over {
     pub stop: u8,
     pub place: usize,

@@ -1,5 +1,7 @@
 // The pass over the elements, piece by piece: the bytes of a piece complete the element under way, then come whole elements, and the
 // rest begins one.
+#![tactic(auto)]
+
 ghost use Rattle.std.specs.Prelude.{◌≡◌, ◌+◌, ◌-◌, ◌*◌, ◌<◌, ◌≤◌, length};
 ghost use Rattle.pass.specs.Tracks.{flags, Low};
 ghost use Rattle.passing.specs.Going.{ByteOf, ToldOf, DueIs, ResumeIs, AheadIs, TurnIs, PassIs};
@@ -44,7 +46,7 @@ fn told_of(head: &[u8; 30], had: usize, p: &[u8]) -> usize
 }
 
 // The length that the element's header gives, and how many bytes of the piece belong to it. Where the header is not there all do.
-#[derive(Drop)]
+#[derive(Clone, Copy)]
 pub struct Share {
     pub told: usize,
     pub take: usize,

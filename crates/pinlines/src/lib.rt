@@ -1,4 +1,6 @@
 // The lines of a pin sheet, as text in a lent buffer: for each pin of the chip its name, a tab and its first claimant.
+#![tactic(auto)]
+
 ghost use Rattle.std.specs.Prelude.{◌+◌, ◌≤◌, length};
 ghost use Rattle.spelling.specs.Spelling.{Put, pin_or_dash};
 ghost use Rattle.sheets.specs.Lines.{claimant_of};

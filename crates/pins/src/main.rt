@@ -1,6 +1,8 @@
 // Reads a table on standard input and prints its pin sheet: a line for each pin of the chip, its name, a tab and its first claimant: `L`
 // for the fault LED, 0 for the description, the offset of an element, or `-`. Of a refused table only R, number, place. The option
 // --chip names the chip.
+#![tactic(auto)]
+
 use format::answers::Answer;
 use format::settings::Settings;
 use libc::STDIN_FILENO;

@@ -1,4 +1,6 @@
 // Which pins a chip has and a use permits: a constant table of pin sets, one row for each chip and use, over the 25 pins.
+#![tactic(auto)]
+
 ghost use Rattle.std.specs.Prelude.{◌≡◌, ◌<◌};
 ghost use Rattle.format.specs.Pins.{same_chip, allowed, allowed_or_unused};
 ghost use Rattle.pinsets.specs.Sets.{pin_index, pin_bit, by_chip, number_of, row_of};

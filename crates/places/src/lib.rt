@@ -1,5 +1,7 @@
 // 13 and 14 as second walks over the elements of a table that the pass came through: where the first one is that names a
 // number which is not declared.
+#![tactic(auto)]
+
 ghost use Rattle.std.specs.Prelude.{◌≡◌, List, ◌∷◌, ℕ};
 ghost use Rattle.format.specs.ZonesAndStrings.{Role, zone_named, string_named, all_among, zones, strings, first_naming};
 ghost use Rattle.format.specs.declared.settings.Settings.{Settings};

@@ -1,5 +1,7 @@
 // Reading a table under the settings that the caller names: is it one, its description, element k and its variable part. Every call
 // checks the whole table first.
+#![tactic(auto)]
+
 ghost use Rattle.std.specs.Prelude.{◌≡◌, ◌≤◌, length, drop};
 ghost use Rattle.format.specs.Slots.{byte, Bytes};
 ghost use Rattle.format.specs.Claims.{made_at, first_claims};
@@ -81,7 +83,7 @@ pub fn part(table: &[u8], k: usize, settings: Settings) -> &[u8]
 }
 
 // Where the variable part of an element stands in the table and how long it is, or a refusal.
-#[derive(Drop)]
+#[derive(Clone, Copy)]
 pub enum Placed {
     At(usize, usize),
     Refused(u8, usize),
@@ -106,7 +108,7 @@ pub fn part_place(table: &[u8], k: usize, settings: Settings) -> Placed
 }
 
 // What a refusal says: its number, and the place.
-#[derive(Drop)]
+#[derive(Clone, Copy)]
 pub struct Refusal {
     pub number: u8,
     pub place: usize,

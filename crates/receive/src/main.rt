@@ -1,6 +1,8 @@
 // Reads a table on standard input in reports of so many bytes, a number that may stand behind the options, else 64, and keeps no more of
 // it than one report and a state. It prints 'ok', a tab and the number of elements; or R, number, place, with tabs. The option --chip
 // names the chip.
+#![tactic(auto)]
+
 ghost use Rattle.std.specs.Prelude.{◌≡◌, ◌≤◌, length};
 
 use format::answers::Answer;

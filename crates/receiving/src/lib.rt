@@ -1,6 +1,8 @@
 // A table that comes in pieces, cut anywhere: start, piece, end, over a state that is lent to each call. What it keeps of the bytes
 // gone by is told beside `Lent` (ending/specs/Stands): numbers, the description's bytes, of the element under way the first 30 bytes,
 // and by zone and string number whether it is declared, whether it is named, and where first.
+#![tactic(auto)]
+
 ghost use Rattle.std.specs.Prelude.{◌≡◌, ◌+◌, ◌<◌, ◌≤◌, length};
 ghost use Rattle.format.specs.Answers.{value_of};
 ghost use Rattle.pass.specs.Tracks.{flags};

@@ -1,5 +1,7 @@
 // Reads a table on standard input and takes the element out whose number, from 0, stands behind the options: the table without it goes to
 // standard output as raw bytes. Refused: the line R, number, place, with tabs. The option --chip names the chip.
+#![tactic(auto)]
+
 use format::answers::Written;
 use format::pins::Chip;
 use format::settings::Settings;

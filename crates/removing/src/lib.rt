@@ -1,5 +1,7 @@
 // Taking an element out of a table: its bytes closed up and the length mended, in the lent bytes themselves. It has the writer's rules,
 // the ordinary ones; the caller names the chip.
+#![tactic(auto)]
+
 ghost use Rattle.std.specs.Prelude.{◌≡◌, List, ◌+◌, ◌-◌, ◌≤◌, length, drop};
 ghost use Rattle.format.specs.Records.{Record};
 ghost use Rattle.format.specs.Pins.{among};
@@ -19,7 +21,7 @@ use format::settings::{Rules, Settings};
 use walking::{length_at, place_of};
 
 // What becomes of an element that is asked to go: it goes, from its place so many bytes; or a refusal.
-#[derive(Drop)]
+#[derive(Clone, Copy)]
 enum Judged {
     Out(usize, usize),
     Refused(u8, usize),

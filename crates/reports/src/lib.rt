@@ -1,5 +1,7 @@
 // `receiving` for the C face: an answer leaves as one number, the number of 'What comes back' and 256 times what stands beside it, and
 // settings come as one number, as in `esa`, which hands its calls on to these.
+#![tactic(auto)]
+
 ghost use Rattle.std.specs.Prelude.{◌≡◌, ◌+◌, ◌*◌, ◌≤◌};
 ghost use Rattle.format.specs.Answers.{value_of};
 ghost use Rattle.pass.specs.Tracks.{flags};

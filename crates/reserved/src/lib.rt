@@ -1,5 +1,7 @@
 // The reserved places of an element that was copied into a lent buffer, set to zero by its identifier: no record is made. Kinds that are
 // not named here have none.
+#![tactic(auto)]
+
 ghost use Rattle.std.specs.Prelude.{◌≡◌, ◌+◌, ◌≤◌, length};
 ghost use Rattle.reserved.specs.Zeroed.{reach, on_bus, address_byte, bus_zeroed, zeroed};
 

@@ -1,5 +1,7 @@
 // Reads a table on standard input. Accepted: its records, read one by one and written again, go to standard output as raw bytes,
 // with reserved places at zero. Refused: the line R, number, place, with tabs. The option --chip names the chip.
+#![tactic(auto)]
+
 use format::answers::Written;
 use format::settings::Settings;
 use libc::{STDIN_FILENO, STDOUT_FILENO};

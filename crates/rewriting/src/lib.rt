@@ -1,5 +1,7 @@
 // A table's records read one by one and written again by start and append, with the same chip named: demand 2 as one call. It has the
 // writer's rules, the ordinary ones.
+#![tactic(auto)]
+
 ghost use Rattle.rewriting.specs.Again.{Rewritten};
 
 use format::answers::{Answer, Written};

@@ -1,5 +1,7 @@
 // What a record breaks by itself: 4, 5, 10 of the description, 8, 9, 23 and 10 of each kind of element (8 of 09h, 0Ah and 0Dh
 // is found in `blocks`). One place for the reader and the writer. A rule's number, or 0.
+#![tactic(auto)]
+
 ghost use Rattle.std.specs.Prelude.{◌≡◌, List, ℕ, ◌≤◌, length};
 ghost use Rattle.format.specs.Slots.{byte};
 ghost use Rattle.format.specs.Records.{Record, digital, analogue, fan, led, water, pump, voltage, current, zone, string, rgb, element_of};

@@ -1,6 +1,8 @@
 // Reads a file on standard input, of which the first 4,096 bytes count. What can be saved of the table in it goes to standard output as
 // raw bytes, and to standard error a line for each change: old offset, number of the rule, `left out` or `cleared`, with tabs.
 // Refused: the line R, number, place on standard output alone. The option --chip names the chip.
+#![tactic(auto)]
+
 use format::settings::Settings;
 use libc::{STDERR_FILENO, STDIN_FILENO};
 use options::Options;

@@ -1,5 +1,7 @@
 // Saving what can be saved of a damaged table, as one call, with the ordinary rules. Memory holds no record: of each element that is
 // kept its old place, and of each change a number. Everything is decided before a byte is written.
+#![tactic(auto)]
+
 ghost use Rattle.std.specs.Prelude.{◌≡◌, true, ◌<◌, ◌≤◌, length};
 ghost use Rattle.format.specs.Slots.{Bytes};
 ghost use Rattle.format.specs.Claims.{made_at, first_claims};
@@ -24,7 +26,7 @@ use sifting::{Stage, sift};
 use words::wide;
 
 // How many are kept and how many lines there are, whether the description's string index is cleared, and the length of the new table.
-#[derive(Drop)]
+#[derive(Clone, Copy)]
 struct Plan {
     kept: usize,
     lines: usize,

@@ -5,9 +5,10 @@
 //         is kept is a part of what stood there; Bounds, Texts: how much there can be; Answers: the known tables; Repaired: the repair
 //         comes to the same. Below them Sifting, Standing, Reading, Choosing, Clearing, Alike, Mending, Keeping, Whole; First, Stages,
 //         Passing.
+#![tactic(auto)]
 
 // What salvage answers: done, with the length of the new table and that of the text of its lines; or the number and the place of a refusal.
-#[derive(Drop)]
+#[derive(Clone, Copy)]
 pub enum Salvaged {
     Done(usize, usize),
     Refused(u8, usize),

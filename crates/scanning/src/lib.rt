@@ -1,5 +1,7 @@
 // The pass of salvage over the elements as they stand, until the reader would say 6 or 96 are kept: what breaks a rule of the pass is left
 // out. The reader's own pass judges each, against those that are kept so far.
+#![tactic(auto)]
+
 ghost use Rattle.std.specs.Prelude.{◌≡◌, [], ◌≤◌, length};
 ghost use Rattle.format.specs.Slots.{byte, Bytes};
 ghost use Rattle.format.specs.Decode.{read_description};
@@ -13,7 +15,7 @@ use pass::{State, walk};
 use walking::length_at;
 
 // How many are kept and how many changes there are; and the place of the first clash among the kept ones, 65,536 where there is none.
-#[derive(Drop)]
+#[derive(Clone, Copy)]
 pub struct Passage {
     pub n: Counts,
     pub clash: usize,

@@ -1,4 +1,6 @@
 // What programs have in common on standard output: some text, the front of a buffer, the line of a refusal.
+#![tactic(auto)]
+
 use libc::STDOUT_FILENO;
 
 pub fn put(text: &[u8]) {

@@ -1,4 +1,6 @@
 // What an element's count is read as, by its record.
+#![tactic(auto)]
+
 ghost use Rattle.std.specs.Prelude.{◌≡◌};
 ghost use Rattle.thermistor.specs.Ready.{Ready};
 ghost use Rattle.sensing.specs.Answers.{Answers, calibration_of, sensor_of};
@@ -9,7 +11,7 @@ use format::units::{Deciamps, Decivolts};
 
 // What a record says of its conversion: IMIN and IMAX, VMIN and VMAX, five calibration points, pulses per revolution, or that there
 // is none.
-#[derive(Drop)]
+#[derive(Clone, Copy)]
 pub enum Sensor {
     Current(Deciamps, Deciamps),
     Voltage(Decivolts, Decivolts),

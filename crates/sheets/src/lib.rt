@@ -1,5 +1,7 @@
 // The pin sheet of a table in a lent place, made afresh or brought forward: for each of the 25 pins from P0.0 up the place of its first
 // claimant, 0 for the description, 65,534 for the fault LED, 65,535 where the pin is free; so it stands for those that the chip lacks.
+#![tactic(auto)]
+
 ghost use Rattle.std.specs.Prelude.{◌≡◌, true, [], ℕ, ◌<◌, ◌≤◌, length, get_or};
 ghost use Rattle.format.specs.Slots.{byte, Bytes};
 ghost use Rattle.format.specs.Pins.{every};

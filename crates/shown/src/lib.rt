@@ -1,4 +1,6 @@
 // What an element says of itself in the listing: its zone, its own pins, and whether it is in use.
+#![tactic(auto)]
+
 ghost use Rattle.std.specs.Prelude.{◌≡◌, true};
 ghost use Rattle.format.specs.Rules.{type_in_use, in_use};
 ghost use Rattle.format.specs.Slots.{byte};
@@ -11,7 +13,7 @@ use format::settings::Rules;
 use words::wide;
 
 // An element's own pins in field order, FFh where there is none.
-#[derive(Drop)]
+#[derive(Clone, Copy)]
 pub struct OwnPins {
     pub one: u8,
     pub two: u8,
@@ -19,7 +21,7 @@ pub struct OwnPins {
 }
 
 // What an element says of itself in the listing.
-#[derive(Drop)]
+#[derive(Clone, Copy)]
 pub struct Showing {
     pub zone: usize,
     pub pins: OwnPins,

@@ -1,5 +1,7 @@
 // The three passes of salvage over what is kept: elements with an undeclared zone are left out, missing string indexes cleared, and
 // elements whose claims clash left out, in that order. One loop for the three.
+#![tactic(auto)]
+
 ghost use Rattle.std.specs.Prelude.{◌≡◌, ◌+◌, ◌<◌, length};
 ghost use Rattle.format.specs.Records.{Record};
 ghost use Rattle.saving.specs.Saving.{At};
@@ -14,7 +16,7 @@ use places::marked;
 use walking::element_at;
 
 // 13, 14 and 15.
-#[derive(Drop)]
+#[derive(Clone, Copy)]
 pub enum Stage {
     Zones,
     Strings,
@@ -22,7 +24,7 @@ pub enum Stage {
 }
 
 // What becomes of an element, and what is claimed then by those that are kept.
-#[derive(Drop)]
+#[derive(Clone, Copy)]
 pub struct Judged {
     pub fate: Fate,
     pub held: Held,

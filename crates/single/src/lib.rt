@@ -1,6 +1,8 @@
 // A piece of a single byte that the element under way waits for, and that does not complete it: a few of the state's numbers change and the
 // others stay where they are. One of them says up to which count no byte decides anything; until then a byte is only counted and kept.
 // For speed alone (docs/BENCH.md): every other piece, and this one too, could go the general way (`advancing`).
+#![tactic(auto)]
+
 ghost use Rattle.std.specs.Prelude.{◌≡◌, not, [], ◌∷◌, ◌+◌, ◌/◌, ◌<◌, ◌≤◌, eqb};
 ghost use Rattle.underway.specs.Under.{KeepIs};
 ghost use Rattle.states.specs.Numbers.{number, way_of};

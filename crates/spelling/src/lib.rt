@@ -1,4 +1,6 @@
 // Numbers and pins as text, put into a lent buffer at a place; each function answers where its text ends.
+#![tactic(auto)]
+
 ghost use Rattle.std.specs.Prelude.{◌≡◌, ◌++◌, ◌+◌, ◌<◌, ◌≤◌, ◌/◌, length};
 ghost use Rattle.spelling.specs.Spelling.{Put, digit, digit_at, upper, decimal, hex_pair, hex_digit, pin_text, pin_or_dash, next, joined};
 ghost use Rattle.spelling.specs.Spelling.{used};

@@ -1,5 +1,7 @@
 // The numbers of the state that is lent from piece to piece: 0 whether the end was called, 1 the settings, 2 how many bytes there were
 // (4,097 of more), 3 to 14 where the pass is, 15 the count up to which no byte decides anything (`single`), or 0.
+#![tactic(auto)]
+
 ghost use Rattle.std.specs.Prelude.{◌≡◌, ◌%◌, ◌<◌, ◌≤◌};
 ghost use Rattle.states.specs.Numbers.{settings_of, chip_code, rules_code, code_of, way_of, numbers_of};
 

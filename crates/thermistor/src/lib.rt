@@ -1,4 +1,6 @@
 // Tenths of a degree of our own thermistor by a ready table: for the meter, which cannot divide.
+#![tactic(auto)]
+
 ghost use Rattle.std.specs.Prelude.{◌≡◌, ◌<◌, ◌≤◌};
 ghost use Rattle.converting.specs.Conversions.{Temperature};
 ghost use Rattle.converting.specs.Formula.{temperature_of, meant};

@@ -1,4 +1,6 @@
 // A table moved into Intel HEX.
+#![tactic(auto)]
+
 ghost use Rattle.std.specs.Prelude.{◌≡◌, ◌+◌, ◌*◌, ◌≤◌, min, length};
 ghost use Rattle.spelling.specs.Spelling.{Put};
 ghost use Rattle.hextext.specs.Text.{data_text, line_count, hex_of};

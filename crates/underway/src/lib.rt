@@ -1,5 +1,7 @@
 // The element under way, that a cut goes through: of its bytes the first 30 at most, their number, and of its part where the next
 // ENTRIES byte would stand or how far its text has come. The bytes of a piece take it on in one go.
+#![tactic(auto)]
+
 ghost use Rattle.std.specs.Prelude.{◌≡◌, ◌+◌, ◌*◌, ◌<◌, ◌≤◌, length, eqb};
 ghost use Rattle.underway.specs.Under.{mark_of, most_of, lead_of, KeepIs, UnitsFrom, UnitsOn, TextOn, BlocksFrom, BlocksOn, CutOn};
 ghost use Rattle.underway.specs.Under.{RoomIs, CopiedIs, eight_at, MoreIs};
@@ -8,7 +10,7 @@ use blocks::Cut;
 
 // The number of bytes; of blocks where the next ENTRIES byte would stand in the part, and how many there are; and a mark. Of blocks it
 // is 0 where each has a pair. Of a text it is even where the whole units are good, and 2 or more where the last is a high surrogate.
-#[derive(Drop)]
+#[derive(Clone, Copy)]
 pub struct Under {
     pub len: usize,
     pub at: usize,
@@ -113,7 +115,7 @@ pub fn keep_each(head: &mut [u8; 30], from: usize, p: &[u8])
 }
 
 // Of a text: how many units are whole, whether they are good, and whether the last is a high surrogate.
-#[derive(Drop)]
+#[derive(Clone, Copy)]
 pub struct Units {
     pub whole: usize,
     pub good: bool,
@@ -182,7 +184,7 @@ fn text_on(u: Under, p: &[u8]) -> Under
 }
 
 // Of blocks: where the next ENTRIES byte would stand in the part, how many there are, and whether each has a pair.
-#[derive(Drop)]
+#[derive(Clone, Copy)]
 pub struct Blocks {
     pub at: usize,
     pub number: usize,

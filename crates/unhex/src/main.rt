@@ -1,5 +1,7 @@
 // Reads a text in Intel HEX on standard input. Where the table that it sends is accepted by the archive's rules, that table goes to
 // standard output. Refused: the line R, number, place (of 21 the line's number), with tabs. The option --chip names the chip.
+#![tactic(auto)]
+
 use format::answers::Written;
 use format::settings::Settings;
 use libc::STDIN_FILENO;

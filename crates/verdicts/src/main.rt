@@ -1,6 +1,8 @@
 // Reads each file that is named behind the options and prints a line for it, with tabs: the file's index from 1, then 'ok' and the
 // number of elements; or R, number, place, the number of bytes and the bytes in hex; or X where the file cannot be read. The option
 // --chip names the chip, and --archive has the archive's rules.
+#![tactic(auto)]
+
 ghost use Rattle.std.specs.Prelude.{◌<◌, ◌≤◌, length};
 ghost use Rattle.io.specs.Counts.{IsPrefixLen};
 

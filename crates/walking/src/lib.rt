@@ -1,5 +1,7 @@
 // The walk over the elements of a table whose acceptance is shown: how long the element at a place is, what it is, its part and
 // where that starts, and the place of element k. Nothing is checked again.
+#![tactic(auto)]
+
 ghost use Rattle.std.specs.Prelude.{◌≡◌, ℕ, ◌+◌, ◌<◌, length, drop};
 ghost use Rattle.format.specs.Slots.{written};
 ghost use Rattle.format.specs.Records.{Record, element_of};

@@ -1,4 +1,6 @@
 // 25: whether the numbers of a record fit the widths of their fields.
+#![tactic(auto)]
+
 ghost use Rattle.std.specs.Prelude.{◌≡◌, true, ◌&&◌};
 ghost use Rattle.format.specs.Slots.{halves, roomy, all_roomy};
 ghost use Rattle.format.specs.Layout.{device, optional_pin_slot};

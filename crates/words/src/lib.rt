@@ -1,4 +1,6 @@
 // Numbers of two and four bytes, lowest byte first, and a byte as a wider number.
+#![tactic(auto)]
+
 ghost use Rattle.std.specs.Prelude.{◌≡◌, ◌+◌, ◌<◌, length};
 ghost use Rattle.format.specs.Slots.{byte};
 ghost use Rattle.format.specs.Decode.{word_at};

@@ -1,6 +1,8 @@
 // Writing a table into a lent buffer: start it, append an element. A refusal leaves every byte as it was: everything is decided
 // before a byte is written. The caller names the chip; a pin of the other one is 10. The rules are the ordinary ones: what
 // is retired is written into no table.
+#![tactic(auto)]
+
 ghost use Rattle.std.specs.Prelude.{◌≡◌, ◌<◌, ◌≤◌, length};
 ghost use Rattle.format.specs.Verdict.{stated};
 ghost use Rattle.format.specs.Writing.{start_answer, append_answer};

@@ -1,5 +1,7 @@
 // Reads a table on standard input. Accepted by the archive's rules: its text in Intel HEX goes to standard output. Refused: the line R,
 // number, place, with tabs. The option --chip names the chip.
+#![tactic(auto)]
+
 use format::answers::Written;
 use format::settings::Settings;
 use libc::STDIN_FILENO;
