@@ -75,8 +75,8 @@ three_distinct p q r h k =
 pub on_bus_lem : ClaimsAre (record { alone = 0; joint = 0x18; twice = 0 }) (claim shared 0x03 ∷ claim shared 0x04 ∷ [])
 unfolding pin_index has_bit
 on_bus_lem = record {
-  alone_pins_lem = empty;
-  joint_pins_lem = by_test 0x18 (0x03 ∷ 0x04 ∷ []) refl refl;
+  alone_set = empty;
+  joint_set = by_test 0x18 (0x03 ∷ 0x04 ∷ []) refl refl;
   among_themselves = refl;
   are_proper = refl;
 }
@@ -88,8 +88,8 @@ pub on_select : (p : ℕ) → among p (listed ChipSelect) ≡ true
     → ClaimsAre (record { alone = 0; joint = bit_or 0x07 (pin_bit p); twice = 0 }) (selects p)
 unfolding pin_index has_bit
 on_select p k = record {
-  alone_pins_lem = empty;
-  joint_pins_lem = union (by_test 0x07 (0x00 ∷ 0x01 ∷ 0x02 ∷ []) refl refl) (one_pin p (listed_pin ChipSelect p k));
+  alone_set = empty;
+  joint_set = union (by_test 0x07 (0x00 ∷ 0x01 ∷ 0x02 ∷ []) refl refl) (one_pin p (listed_pin ChipSelect p k));
   among_themselves = sym (at_among (listed ChipSelect) (λ p. free [] (selects p)) refl p k);
   are_proper = rw k refl;
 }
@@ -101,8 +101,8 @@ pub on_reference : (p : ℕ) → among p (listed AnaloguePin) ≡ true
     → ClaimsAre (record { alone = pin_bit p; joint = 0x80; twice = 0 }) (refers p)
 unfolding pin_index has_bit
 on_reference p k = record {
-  alone_pins_lem = one_pin p (listed_pin AnaloguePin p k);
-  joint_pins_lem = by_test 0x80 (0x07 ∷ []) refl refl;
+  alone_set = one_pin p (listed_pin AnaloguePin p k);
+  joint_set = by_test 0x80 (0x07 ∷ []) refl refl;
   among_themselves = sym (at_among (listed AnaloguePin) (λ p. free [] (refers p)) refl p k);
   are_proper = rw (listed_pin AnaloguePin p k) refl;
 }
@@ -111,9 +111,9 @@ on_reference p k = record {
 pub fault_led_lem : HeldIs (record { alone = 0x100; joint = 0; clash = 65536 }) (made_at 0 (claim alone 0x10 ∷ []))
 unfolding pin_index has_bit
 fault_led_lem = record {
-  alone_pins_lem = by_test 0x100 (0x10 ∷ []) refl refl;
-  joint_pins_lem = empty;
-  first_clash_lem = refl;
+  alone_set = by_test 0x100 (0x10 ∷ []) refl refl;
+  joint_set = empty;
+  clash_at = refl;
   are_proper = refl;
   low = refl;
 }

@@ -96,8 +96,8 @@ module _ (h : Held) (c : Claims) (at : ℕ) (before : List Made) (cs : List Clai
       rw (
         or_zero_lem (bit_or (bit_and c.joint h.alone) (bit_and c.alone (bit_or h.alone h.joint))) c.twice,
         or_zero_lem (bit_and c.joint h.alone) (bit_and c.alone (bit_or h.alone h.joint)),
-        disjoint C.joint_pins_lem H.alone_pins_lem (joint_within cs C.are_proper),
-        disjoint C.alone_pins_lem (union H.alone_pins_lem H.joint_pins_lem) (alone_within cs C.are_proper),
+        disjoint C.joint_set H.alone_set (joint_within cs C.are_proper),
+        disjoint C.alone_set (union H.alone_set H.joint_set) (alone_within cs C.are_proper),
         C.among_themselves,
         none_after cs (whats before),
         none_is cs (whats before) C.are_proper H.are_proper,
@@ -108,7 +108,7 @@ module _ (h : Held) (c : Claims) (at : ℕ) (before : List Made) (cs : List Clai
   clash_place =
       rw (
         none_hit,
-        H.first_clash_lem,
+        H.clash_at,
         place_none before [] H.low,
         first_append before [] (made_at at cs),
         made_first at cs (onto (whats before) []),
@@ -118,9 +118,9 @@ module _ (h : Held) (c : Claims) (at : ℕ) (before : List Made) (cs : List Clai
   pub held_after : (k : ℕ) → k ≡ pick (hit h c) at h.clash
       → HeldIs (record { alone = bit_or h.alone c.alone; joint = bit_or h.joint c.joint; clash = k }) (before ++ made_at at cs)
   held_after k e = record {
-    alone_pins_lem = rw (whats_made before at cs, alone_append (whats before) cs) (union H.alone_pins_lem C.alone_pins_lem);
-    joint_pins_lem = rw (whats_made before at cs, joint_append (whats before) cs) (union H.joint_pins_lem C.joint_pins_lem);
-    first_clash_lem = e ∙ clash_place;
+    alone_set = rw (whats_made before at cs, alone_append (whats before) cs) (union H.alone_set C.alone_set);
+    joint_set = rw (whats_made before at cs, joint_append (whats before) cs) (union H.joint_set C.joint_set);
+    clash_at = e ∙ clash_place;
     are_proper = rw (whats_made before at cs) (proper_append (whats before) cs H.are_proper C.are_proper);
     low = low_made before at cs A H.low;
   }

@@ -53,8 +53,8 @@ lone_none xs (p ∷ ps) = rw (lone_clashes p xs, lone_none (p ∷ xs) ps) refl
 pub claims_alone : (w t : ℕ) (ps : List ℕ) → IsSet w ps → within ps ≡ true → eqb t 0 ≡ distinct [] ps
     → ClaimsAre (record { alone = w; joint = 0; twice = t }) (lone ps)
 claims_alone w t ps s k d = record {
-  alone_pins_lem = rw (lone_alone ps) s;
-  joint_pins_lem = rw (lone_joint ps) empty;
+  alone_set = rw (lone_alone ps) s;
+  joint_set = rw (lone_joint ps) empty;
   among_themselves = d ∙ sym (lone_none [] ps);
   are_proper = lone_proper ps k;
 }

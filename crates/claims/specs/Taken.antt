@@ -71,8 +71,8 @@ is_none (some p) = false
 
 -- one element's claims, and whether they clash among themselves
 pub record ClaimsAre (r : Claims) (cs : List Claim) : Type 0 where
-  pub alone_pins_lem : IsSet r.alone (alone_pins cs)
-  pub joint_pins_lem : IsSet r.joint (joint_pins cs)
+  pub alone_set : IsSet r.alone (alone_pins cs)
+  pub joint_set : IsSet r.joint (joint_pins cs)
   pub among_themselves : eqb r.twice 0 ≡ free [] cs
   pub are_proper : proper cs ≡ true
 
@@ -92,8 +92,8 @@ whats (m ∷ ms) = m.what ∷ whats ms
 
 -- all claims so far
 pub record HeldIs (h : Held) (ms : List Made) : Type 0 where
-  pub alone_pins_lem : IsSet h.alone (alone_pins (whats ms))
-  pub joint_pins_lem : IsSet h.joint (joint_pins (whats ms))
-  pub first_clash_lem : h.clash ≡ place_or (first_clash [] ms)
+  pub alone_set : IsSet h.alone (alone_pins (whats ms))
+  pub joint_set : IsSet h.joint (joint_pins (whats ms))
+  pub clash_at : h.clash ≡ place_or (first_clash [] ms)
   pub are_proper : proper (whats ms) ≡ true
   pub low : low_places ms ≡ true

@@ -2,7 +2,7 @@
 -- Assumes nothing.
 use Prim.Native.Nat.{ℕ, ◌+◌, ◌<◌}
 use native.Mathlib.Omega.{arith}
-use mathlib.Core.Path.{◌≡◌, refl, sym, ◌∙◌, ap}
+use mathlib.Core.Path.{◌≡◌, refl, sym, ◌∙◌, ap, subst}
 use mathlib.Core.Bool.{Bool, true, false, ◌||◌, false≢true}
 use mathlib.Core.List.{List, [], ◌∷◌, append-nil}
 use mathlib.Core.Option.{none}
@@ -79,11 +79,11 @@ module _ (names : Role → List ℕ) (used : List Bool) (ns : List ℕ) (rs : Li
 module _ (string : ℕ) (s : State) (f : Flags) (zp sp : List ℕ) (a : Answer) where
   module _ (d : Description) (rs : List Record) (g : Gone d s f zp sp rs) where
     zone_low : (i : ℕ) → (first_place zone_named i 16 rs ≡ 0 → ⊥) → i < 256
-    zone_low = low zone_named f.zones_named_lem (gathered zone_named rs) rs g.tracks.zone_use (λ i e. e)
+    zone_low = low zone_named f.zone_uses (gathered zone_named rs) rs g.tracks.zone_use (λ i e. e)
 
-    zone_least : {z : ℕ} → LackingIs f.zones_named_lem f.zones_declared zp z → LeastTo 256 zp f.zones_declared z
+    zone_least : {z : ℕ} → LackingIs f.zone_uses f.zones_declared zp z → LeastTo 256 zp f.zones_declared z
     zone_least l =
-        l.least (placeless zone_named f.zones_named_lem (gathered zone_named rs) rs g.tracks.zone_use (λ i e. e) zp g.zone_first)
+        l.least (placeless zone_named f.zone_uses (gathered zone_named rs) rs g.tracks.zone_use (λ i e. e) zp g.zone_first)
 
     or-false : (t u : Bool) → t || u ≡ false → u ≡ false
     or-false true u e = absurd (false≢true (sym e))
@@ -93,18 +93,18 @@ module _ (string : ℕ) (s : State) (f : Flags) (zp sp : List ℕ) (a : Answer) 
     other i e = or-false (eqb i d.string) (among i (gathered string_named rs)) e
 
     string_low : (i : ℕ) → (first_place string_named i 16 rs ≡ 0 → ⊥) → i < 256
-    string_low = low string_named f.strings_named_lem (d.string ∷ gathered string_named rs) rs g.tracks.string_use other
+    string_low = low string_named f.string_uses (d.string ∷ gathered string_named rs) rs g.tracks.string_use other
 
-    string_least : {t : ℕ} {seen : List Bool} → LackingIs f.strings_named_lem seen sp t → LeastTo 256 sp seen t
+    string_least : {t : ℕ} {seen : List Bool} → LackingIs f.string_uses seen sp t → LeastTo 256 sp seen t
     string_least l =
         l.least
-        (placeless string_named f.strings_named_lem (d.string ∷ gathered string_named rs) rs g.tracks.string_use other sp
+        (placeless string_named f.string_uses (d.string ∷ gathered string_named rs) rs g.tracks.string_use other sp
         g.string_first)
 
     declared : Marks (set f.strings_declared 0 true) (0 ∷ strings rs)
     declared = marks_front f.strings_declared (strings rs) 0 (omega arith) g.tracks.string
 
-  module _ (z : ℕ) (l : LackingIs f.zones_named_lem f.zones_declared zp z) where
+  module _ (z : ℕ) (l : LackingIs f.zone_uses f.zones_declared zp z) where
     pub over_13 : (z ≡ 0 → ⊥) → a ≡ Refused 13 z → OverIs string s f zp sp a
     over_13 h p =
         record {
@@ -131,13 +131,14 @@ module _ (string : ℕ) (s : State) (f : Flags) (zp sp : List ℕ) (a : Answer) 
             → string ≡ d.string
             → Gone d s f zp sp rs
             → among d.string (0 ∷ strings rs) ≡ t
-        own t y d rs e g = rw (← e, ← w.0) (sym ((declared d rs g).flag i w.1) ∙ y)
+        own t y d rs e g =
+            subst (λ (n : ℕ). among n (0 ∷ strings rs) ≡ t) (w.0 ∙ e) (sym ((declared d rs g).flag i w.1) ∙ y)
 
         pub over_14_description : get_or (set f.strings_declared 0 true) i false ≡ false → a ≡ Refused 14 0 → OverIs string s f zp sp a
         over_14_description y p = record { concludes = λ d rs e g. p ∙ sym (rw (zoned d rs g, own false y d rs e g) refl) }
 
         module _ (y : get_or (set f.strings_declared 0 true) i false ≡ true) (t : ℕ)
-            (k : LackingIs f.strings_named_lem (set f.strings_declared 0 true) sp t) where
+            (k : LackingIs f.string_uses (set f.strings_declared 0 true) sp t) where
           pub over_14 : (t ≡ 0 → ⊥) → a ≡ Refused 14 t → OverIs string s f zp sp a
           over_14 x p =
               record {

@@ -29,8 +29,11 @@ front_short (more {t = t} {b = b} d f s) =
 
 -- the number of a bad line is at most that of what stands behind the end record
 pub bad_bound : {t : List ℕ} {l : ℕ} → Means t (bad l) → l ≤ 65538
-bad_bound (means f (stops h)) = omega (arith, (front_short f).1)
-bad_bound (means f (after r h)) = omega (arith, (front_short f).1)
+bad_bound (means {k = k} {b = b} f e) = go e
+  where
+    go : {rest : List ℕ} {l : ℕ} → Ends k b rest (bad l) → l ≤ 65538
+    go (stops h) = omega (arith, (front_short f).1)
+    go (after r h) = omega (arith, (front_short f).1)
 
 -- a line that begins a text begins what is cut off the text's end, if it is not cut itself
 uncut : (l m x y : List ℕ) → l ++ m ≡ x ++ y → length l ≤ length x → x ≡ l ++ drop (length l) x

@@ -36,8 +36,8 @@ pub track :
     → t.zones ≤ 12
     → Marks g.zones_declared (zones before ++ zone_declared (role x))
     → Marks g.strings_declared (strings before ++ string_declared (role x))
-    → Marks g.zones_named_lem (gathered zone_named before ++ zone_named (role x))
-    → Marks g.strings_named_lem (d.string ∷ (gathered string_named before ++ string_named (role x)))
+    → Marks g.zone_uses (gathered zone_named before ++ zone_named (role x))
+    → Marks g.string_uses (d.string ∷ (gathered string_named before ++ string_named (role x)))
     → HeldIs t.held (claims d before ++ made_at (place_after before) (claims_of x))
     → t.last ≡ last_pin s.last (fan_pins x)
     → Tracks d t g (before ++ x ∷ [])

@@ -28,11 +28,11 @@ use Rattle.pass.specs.declared.Over.{Over}
 pub record Flags : Type 0 where
   pub zones_declared : List Bool
   pub strings_declared : List Bool
-  pub zones_named_lem : List Bool
-  pub strings_named_lem : List Bool
+  pub zone_uses : List Bool
+  pub string_uses : List Bool
 
 abbrev pub flags : List Bool → List Bool → List Bool → List Bool → Flags
-flags zs ss zu su = record { zones_declared = zs; strings_declared = ss; zones_named_lem = zu; strings_named_lem = su }
+flags zs ss zu su = record { zones_declared = zs; strings_declared = ss; zone_uses = zu; string_uses = su }
 
 -- numbers that a step can go on from, whatever they stand for
 pub record Low (s : State) : Type 0 where
@@ -46,8 +46,8 @@ pub record Tracks (d : Description) (s : State) (f : Flags) (before : List Recor
   pub few : s.zones ≤ 12
   pub zone : Marks f.zones_declared (zones before)
   pub string : Marks f.strings_declared (strings before)
-  pub zone_use : Marks f.zones_named_lem (gathered zone_named before)
-  pub string_use : Marks f.strings_named_lem (d.string ∷ gathered string_named before)
+  pub zone_use : Marks f.zone_uses (gathered zone_named before)
+  pub string_use : Marks f.string_uses (d.string ∷ gathered string_named before)
   pub held : HeldIs s.held (claims d before)
   pub fans : s.last ≡ last_used before
 

@@ -13,7 +13,7 @@ use Rattle.format.specs.Records.{Record}
 use Rattle.format.specs.Layout.{layout, layouts, place_after}
 use Rattle.format.specs.Pins.{among}
 use Rattle.format.specs.Rules.{unless_kept}
-use Rattle.format.specs.ZonesAndStrings.{Role, role, all_among, first_naming, strings, string_named}
+use Rattle.format.specs.ZonesAndStrings.{zone_named, zones, Role, role, all_among, first_naming, strings, string_named}
 use Rattle.format.specs.Claims.{Claim, clashes, Made, made_at, first_clash, claims_of, claims_from, first_claims, claims}
 use Rattle.format.specs.Verdict.{Verdict, Passed, accepted, short, unrevised, missized, misdescribed, stopped, unzoned, unnamed, clashing}
 use Rattle.format.specs.Answers.{value_of, place_of_asked}
@@ -87,7 +87,8 @@ value_bound σ b a (stopped d rest rs here o clean s kept br) =
       o.limit,
       (opened_facts σ.chip b d rest o).0,
     )
-value_bound σ b a (unzoned d rs p z) = omega (arith, naming_below _ _ 16 rs _ z, passed_top σ b d rs p)
+value_bound σ b a (unzoned d rs p z) =
+    omega (arith, naming_below zone_named (zones rs) 16 rs _ z, passed_top σ b d rs p)
 value_bound σ b a (unnamed d rs p z n) =
     unless_below (among d.string (0 ∷ strings rs)) 0 4096 (first_naming string_named (0 ∷ strings rs) 16 rs) (omega arith)
     (λ q w. omega (arith, naming_below string_named (0 ∷ strings rs) 16 rs q w, passed_top σ b d rs p))

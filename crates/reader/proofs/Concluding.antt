@@ -1,7 +1,7 @@
 -- The rules over the whole table, from what the pass has gathered.
 -- Assumes nothing.
 use Prim.Native.Nat.{ℕ, ◌<◌}
-use mathlib.Core.Path.{◌≡◌, refl, sym, ◌∙◌, ap}
+use mathlib.Core.Path.{subst, ◌≡◌, refl, sym, ◌∙◌, ap}
 use mathlib.Core.Bool.{Bool, true, false, ◌||◌, false≢true}
 use mathlib.Core.List.{List, [], ◌∷◌}
 use mathlib.Core.Option.{Option, none, some}
@@ -40,14 +40,14 @@ some_is (some p) h = refl
 pub no_clash : (h : Held) (cs : List Made) → HeldIs h cs → h.clash ≡ 65536 → first_clash [] cs ≡ none
 no_clash h cs k e =
     none_is (first_clash [] cs)
-    (sym (place_none cs [] k.low) ∙ eq-eqb (place_or (first_clash [] cs)) 65536 (sym k.first_clash_lem ∙ e))
+    (sym (place_none cs [] k.low) ∙ eq-eqb (place_or (first_clash [] cs)) 65536 (sym k.clash_at ∙ e))
 
 pub a_clash : (h : Held) (cs : List Made) → HeldIs h cs → (h.clash ≡ 65536 → ⊥) → first_clash [] cs ≡ some h.clash
 a_clash h cs k n =
-    let m : place_or (first_clash [] cs) ≡ 65536 → ⊥ = λ e. n (k.first_clash_lem ∙ e) in
+    let m : place_or (first_clash [] cs) ≡ 65536 → ⊥ = λ e. n (k.clash_at ∙ e) in
     some_is (first_clash [] cs)
     (sym (place_none cs [] k.low) ∙ ne_eqb (place_or (first_clash [] cs)) 65536 m)
-    ∙ ap some (sym k.first_clash_lem)
+    ∙ ap some (sym k.clash_at)
 
 -- a table with elements
 module _ (σ : Settings) (t : List ℕ) (s : State) (zs ss zu su : List Bool) (g : Gathered σ t s zs ss zu su) where
@@ -81,7 +81,8 @@ module _ (σ : Settings) (t : List ℕ) (s : State) (zs ss zu su : List Bool) (g
       pub refused_14_description :
           b ≡ true → (n : ℕ) → n ≡ byte t 4 → n < 256 → get_or ss n false ≡ false → Refused 14 0 ≡ conclude d (elements_of σ t)
       refused_14_description e n q k h =
-          let u : among (byte t 4) (0 ∷ strings rs) ≡ false = rw q at (sym (g.string.flag n k) ∙ h) in
+          let named_by : ℕ → Type 0 = λ m. among m (0 ∷ strings rs) ≡ false in
+          let u : among (byte t 4) (0 ∷ strings rs) ≡ false = subst named_by q (sym (g.string.flag n k) ∙ h) in
           to_all (rw (zoned z, u) refl)
 
       pub refused_14 :
@@ -95,7 +96,8 @@ module _ (σ : Settings) (t : List ℕ) (s : State) (zs ss zu su : List Bool) (g
           ≡ or_zero (first_naming string_named (0 ∷ strings w.rs) 16 w.rs))
           → Refused 14 p ≡ conclude d (elements_of σ t)
       refused_14 e n q k h p f =
-          let u : among (byte t 4) (0 ∷ strings rs) ≡ true = rw q at (sym (g.string.flag n k) ∙ h) in
+          let named_by : ℕ → Type 0 = λ m. among m (0 ∷ strings rs) ≡ true in
+          let u : among (byte t 4) (0 ∷ strings rs) ≡ true = subst named_by q (sym (g.string.flag n k) ∙ h) in
           let w = one_undeclared su ss (byte t 4 ∷ gathered string_named rs) (0 ∷ strings rs) g.string_use g.string b m e in
           let i = w.0 in
           let v = one_named string_named (0 ∷ strings rs) rs 16 i (other i w.1 w.2 u (eqb i (byte t 4)) refl) w.2 in
@@ -110,7 +112,9 @@ module _ (σ : Settings) (t : List ℕ) (s : State) (zs ss zu su : List Bool) (g
               → (c : Bool)
               → eqb i (byte t 4) ≡ c
               → among i (gathered string_named rs) ≡ true
-          other i h n y true x = absurd (false≢true (sym n ∙ rw (eqb-true i (byte t 4) x) y))
+          other i h n y true x = 
+              let named_by : ℕ → Type 0 = λ m. among m (0 ∷ strings rs) ≡ true in
+              absurd (false≢true (sym n ∙ subst named_by (sym (eqb-true i (byte t 4) x)) y))
           other i h n y false x = sym (ap (λ (c : Bool). c || among i (gathered string_named rs)) x) ∙ h
 
       module _ (y : b ≡ false) where

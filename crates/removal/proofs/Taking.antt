@@ -51,12 +51,12 @@ without_part k rs at = out_part (out k rs at)
 
 -- a number gathered with the element is its own, or is gathered without it
 out_gathered :
-    (own : List ℕ) (f : Role → List ℕ) {r : Record} {ss rs : List Record}
+    {r : Record} (own : List ℕ) (f : Role → List ℕ) {ss rs : List Record}
     → Out r ss rs
     → (x : ℕ)
     → In x (own ++ gathered f rs)
     → In x (f (role r)) ⊎ In x (own ++ gathered f ss)
-out_gathered own f {r} (here {rs}) x i =
+out_gathered {r} own f (here {rs}) x i =
     ⊎_elim
     (λ j. inr (in_left x own (gathered f rs) j))
     (λ j. ⊎_map (λ e. e) (in_right x own (gathered f rs)) (in_cases x (f (role r)) (gathered f rs) j))

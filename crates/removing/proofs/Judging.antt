@@ -21,7 +21,7 @@ use Rattle.reader.proofs.Asking.{nth_past}
 use Rattle.places.specs.Walks.{RoleBytes}
 use Rattle.places.proofs.Roles.{role_bytes}
 use Rattle.removal.specs.Taking.{named_as, closed}
-use Rattle.removing.specs.Removed.{Removed, judged, past, still_named_lem, out}
+use Rattle.removing.specs.Removed.{Removed, judged, past, stays_named, out}
 use Rattle.removing.specs.Judging.{Standing, TellsNamed, Closable}
 
 pub past_last :
@@ -42,7 +42,7 @@ module _ (chip : Chip) (b : List ℕ) (k at : ℕ) (l : Located (writing chip) b
   told e = sym (tells (writing chip) l.d l.rs (role l.r) l.accepts (role_there (writing chip) b k at l)) ∙ e
 
   pub stays : r ≡ true → Removed chip b k (Refused 22 at) b
-  stays e = rw l.place (judged l.d l.rs l.accepts (still_named_lem l.is_nth (told e)))
+  stays e = rw l.place (judged l.d l.rs l.accepts (stays_named l.is_nth (told e)))
 
   pub goes :
       {n : ℕ} → r ≡ false → n ≡ stated (drop at b) → Closable b at n × Removed chip b k (Length (length b - n)) (closed b at n)

@@ -24,7 +24,7 @@ use Rattle.format.proofs.Demand3.{unique, only_one_list}
 use Rattle.format.proofs.Asking.{never_both}
 use Rattle.removal.specs.Taking.{named, place_of, closed_up, closed}
 use Rattle.removal.proofs.Closing.{refused_exactly}
-use Rattle.removing.specs.Removed.{Removed, refused, judged, Taken, past, still_named_lem, out}
+use Rattle.removing.specs.Removed.{Removed, refused, judged, Taken, past, stays_named, out}
 
 no : ◌≡◌ {A = ℕ} 0 1 → ⊥
 no z = omega arith
@@ -36,15 +36,15 @@ only_taken :
     → Taken b d rs k w' c'
     → (w ≡ w') × (c ≡ c')
 only_taken b d rs k w w' c c' (past n) (past n') = (refl, refl)
-only_taken b d rs k w w' c c' (past n) (still_named_lem n' h') = absurd (no (cc))
+only_taken b d rs k w w' c c' (past n) (stays_named n' h') = absurd (no (cc))
 only_taken b d rs k w w' c c' (past n) (out n' h') = absurd (no (cc))
-only_taken b d rs k w w' c c' (still_named_lem n h) (past n') = absurd (no (cc))
-only_taken b d rs k w w' c c' (still_named_lem n h) (still_named_lem n' h') = (refl, refl)
-only_taken b d rs k w w' c c' (still_named_lem {r = r} n h) (out {r = r'} n' h') =
+only_taken b d rs k w w' c c' (stays_named n h) (past n') = absurd (no (cc))
+only_taken b d rs k w w' c c' (stays_named n h) (stays_named n' h') = (refl, refl)
+only_taken b d rs k w w' c c' (stays_named {r = r} n h) (out {r = r'} n' h') =
     let e : r ≡ r' = cc in
     absurd (false≢true (sym h' ∙ ap (named d rs) (sym e) ∙ h))
 only_taken b d rs k w w' c c' (out n h) (past n') = absurd (no (cc))
-only_taken b d rs k w w' c c' (out {r = r} n h) (still_named_lem {r = r'} n' h') =
+only_taken b d rs k w w' c c' (out {r = r} n h) (stays_named {r = r'} n' h') =
     let e : r ≡ r' = cc in
     absurd (false≢true (sym h ∙ ap (named d rs) e ∙ h'))
 only_taken b d rs k w w' c c' (out {r = r} n h) (out {r = r'} n' h') =
@@ -73,7 +73,7 @@ module _ (chip : Chip) (b : List ℕ) (k : ℕ) (small : Bytes b) where
         → (w : Written) (c : List ℕ)
         → Removed chip b k w c
         → (w ≡ Refused 22 (place_of rs k)) ↔ (t ≡ true)
-    by_name true e w c x = (λ q. refl, λ q. (only_remove w _ c b x (judged d rs a (still_named_lem at e))).0)
+    by_name true e w c x = (λ q. refl, λ q. (only_remove w _ c b x (judged d rs a (stays_named at e))).0)
     by_name false e w c x =
         let s = (only_remove w _ c _ x (judged d rs a (out at e))).0 in
         (λ q. absurd (no (cc)), λ q. absurd (false≢true q))

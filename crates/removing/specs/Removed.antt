@@ -19,7 +19,7 @@ pub data Taken (b : List ℕ) (d : Description) (rs : List Record) (k : ℕ) : W
   -- 17: there is no element k
   past : nth rs k ≡ none → Taken b d rs k (Refused 17 0) b
   -- '22 at the element when something still names it'
-  still_named_lem : {r : Record} → nth rs k ≡ some r → named d rs r ≡ true → Taken b d rs k (Refused 22 (place_of rs k)) b
+  stays_named : {r : Record} → nth rs k ≡ some r → named d rs r ≡ true → Taken b d rs k (Refused 22 (place_of rs k)) b
   -- 'its bytes closed up and the length mended': 0 with the new length
   out :
       {r : Record}

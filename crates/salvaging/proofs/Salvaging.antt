@@ -93,7 +93,7 @@ module _ (c : Chip) (t : List ℕ) where
   by_claims held h e n w =
       let made = made_at 0 (first_claims (described c t)) in
       let q : eqb held.clash 65536 ≡ is_none (contested (described c t) []) =
-      ap (λ (k : ℕ). eqb k 65536) w.first_clash_lem
+      ap (λ (k : ℕ). eqb k 65536) w.clash_at
       ∙ place_none made [] w.low
       ∙ same_none (first_clash [] made)
       ∙ ap (λ (l : List _). is_none (first_clash [] l)) (sym (append-nil made)) in

@@ -2,7 +2,7 @@
 -- Assumes nothing.
 use Prim.Native.Nat.{ℕ, ◌+◌, ◌≤◌}
 use native.Mathlib.Omega.{arith}
-use mathlib.Core.Path.{◌≡◌, refl, sym, ◌∙◌, ap}
+use mathlib.Core.Path.{◌≡◌, refl, sym, ◌∙◌, ap, subst}
 use mathlib.Core.Bool.{true, false, false≢true, true≢false}
 use mathlib.Core.List.{List, [], ◌∷◌, ◌++◌, append-nil}
 use mathlib.Core.Logic.{◌⊎◌, inl, inr, ⊎_elim}
@@ -124,7 +124,7 @@ pub named_within :
     → Within (gathered string_named mid) (0 ∷ declared)
     → Within (strings_named e out) (0 ∷ declared)
 named_within e declared {out = out} p h w x i =
-    ⊎_elim (λ q. rw (in_one x e.string q) h) (λ q. w x (part_within (part_numbers string_named p) x q))
+    ⊎_elim (λ q. subst (λ (y : ℕ). In y (0 ∷ declared)) (sym (in_one x e.string q)) h) (λ q. w x (part_within (part_numbers string_named p) x q))
     (in_cases x (e.string ∷ []) (gathered string_named out) i)
 
 -- what is kept once undeclared zones are dealt with

@@ -53,11 +53,11 @@ together :
     → KeptOf c out xs
 together c is nothing done done = no_more
 together c is (passes_over r) q p = left (together c is r q p)
-together c is (reads {k = k} e s r) (keep q) (keep p) =
+together c is (reads {k = k} e s r) (keep q) (keep {xs = ys} p) =
     let a = k.what in
     kept a s e
     (by_test (λ m. (m ≡ a) ⊎ (m ≡ unindexed a)) (all_among (string_named (role a)) is) a (unindexed a) (λ t. inl refl) (λ t. inr refl))
-    (together c is r q p)
+    (together c is {out = ys} r q p)
 together c is (reads e s r) (keep q) (leave p) = left (together c is r q p)
 together c is (reads e s r) (leave q) p = left (together c is r q p)
 

@@ -228,6 +228,8 @@ module _ (σ : Settings) (d : Description) (sound : Sound σ d) where
       → Under σ (saved ks []) bs
       → (ls ≡ ls') × (e ≡ e') × (out ≡ out')
   one_pass {ks = ks} (ends g) (ends g') q i = one_repair σ g g' refl q (room_under ks [] i)
+  one_pass {ks = ks} (ends g) (stops m' f' v' g') q i = elim m' [ ]
+  one_pass {ks = ks} (stops m f v g) (ends g') q i = elim m [ ]
   one_pass {ks = ks} {p = p} {bs = bs} (reads_on r few st k w) (reads_on r' few' st' k' w') q i =
       let a = stands_decoded σ.chip bs r st in
       let a' = stands_decoded σ.chip bs r' st' in

@@ -88,7 +88,7 @@ module _ (c : Chip) (t : List ℕ) (n : ℕ) (k : At Record) (h : Keeps c t n k)
 
     test : eqb next.clash 65536 ≡ saving.is_none (contested d (kept ++ k.what ∷ []))
     test =
-        ap (λ (m : ℕ). eqb m 65536) is.first_clash_lem
+        ap (λ (m : ℕ). eqb m 65536) is.clash_at
         ∙ place_none more [] is.low
         ∙ free_none [] more
         ∙ ap (free []) same_whats
