@@ -1,8 +1,24 @@
-use Rattle.std.proofs.Common.{rules, ◌≡◌, ◌<◌, ℕ, ◌+◌, ◌-◌, ◌*◌, ◌≤◌, length, ◌/◌, ◌%◌, Bool, true, false, nat_eq, nat_lt, List, [], ◌∷◌, ◌++◌, slice_index_or, slice_set, bit_and, bit_or, Fits, w8, w32, w64, Bor, MutBor}
-use Rattle.format.specs.Pins.{same_chip, allowed, allowed_or_unused}
-use Rattle.pinsets.specs.Sets.{pin_index, pin_bit, by_chip, number_of, row_of}
+-- The place that `index_of` answers is `pinIndex`'s, by the branch, and below 32 by the table's law.
+-- Assumes nothing.
+use Prim.Native.Nat.{◌+◌, ◌*◌, ◌/◌, ◌%◌}
+use native.Mathlib.Omega.{arith}
+use mathlib.Core.Path.{◌≡◌, refl}
+use mathlib.Core.Bool.{◌&&◌}
+use mathlib.Core.Logic.{⊎_elim}
+use lib.Dec.{ltb}
+use Rattle.pinsets.specs.Sets.{pin_index, pick}
+use Rattle.pinsets.proofs.Table.{picked, picked_not}
+use Rattle.pinsets.proofs.Rows.{index_small}
+use borrow.Author.Rules.{rules}
 use Rattle.pinsets.proofs.index_of.Goals as goal
 
--- src/lib.rt:18:1
 pub returns : goal.returns
-returns c = ?
+unfolding pin_index
+returns c =
+    let b = c.args.b in
+    let t = ltb (b % 16) 8 && ltb b 49 in
+    let d = c.if-b.c in
+    let f : d ≡ pick t b 55 =
+    ⊎_elim (λ w. picked t b 55 w.0.taken w.1) (λ w. picked_not t b 55 w.0.left w.1) c.if-b.branch in
+    let r : d / 16 * 8 + d % 8 ≡ pin_index b = rw f refl in
+    (r, rw r (index_small b (omega arith)))

@@ -1,24 +1,26 @@
-use Rattle.std.proofs.Common.{rules, ◌≡◌, ◌<◌, ℕ, ◌+◌, ◌-◌, ◌*◌, ◌≤◌, length, ◌/◌, ◌%◌, Bool, true, false, nat_eq, nat_lt, List, [], ◌∷◌, ◌++◌, slice_index_or, slice_set, bit_and, bit_or, Fits, w8, w32, w64, Bor, MutBor}
-use Rattle.format.specs.Pins.{same_chip, allowed, allowed_or_unused}
-use Rattle.pinsets.specs.Sets.{pin_index, pin_bit, by_chip, number_of, row_of}
+-- Each row of the table is that of its chip and use, which the match tells.
+-- Assumes nothing.
+use mathlib.Core.Path.{refl}
+use Rattle.pinsets.specs.Sets.{row_of}
+use borrow.Author.Rules.{rules}
 use Rattle.pinsets.proofs.row_of.Goals as goal
 
--- src/lib.rt:43:1
 pub returns-in-FanPin : goal.returns-in-FanPin
-returns-in-FanPin c = ?
+unfolding row_of
+returns-in-FanPin c = rw (c.in-FanPin.is, c.by_chip.ensures) refl
 
--- src/lib.rt:43:1
 pub returns-in-AnaloguePin : goal.returns-in-AnaloguePin
-returns-in-AnaloguePin c = ?
+unfolding row_of
+returns-in-AnaloguePin c = rw (c.in-AnaloguePin.is, c.by_chip-in-AnaloguePin.ensures) refl
 
--- src/lib.rt:43:1
 pub returns-in-ChipSelect : goal.returns-in-ChipSelect
-returns-in-ChipSelect c = ?
+unfolding row_of
+returns-in-ChipSelect c = rw (c.in-ChipSelect.is, c.by_chip-in-ChipSelect.ensures) refl
 
--- src/lib.rt:43:1
 pub returns-in-StatusLed : goal.returns-in-StatusLed
-returns-in-StatusLed c = ?
+unfolding row_of
+returns-in-StatusLed c = rw (c.in-StatusLed.is, c.by_chip-in-StatusLed.ensures) refl
 
--- src/lib.rt:43:1
 pub returns-in-HardwareRevision : goal.returns-in-HardwareRevision
-returns-in-HardwareRevision c = ?
+unfolding row_of
+returns-in-HardwareRevision c = rw (c.in-HardwareRevision.is, c.by_chip-in-HardwareRevision.ensures) refl

@@ -1,0 +1,15 @@
+-- `advance` meets its contract, by whether there are bytes, the pass is stopped, and they are the first.
+-- Assumes nothing.
+use Rattle.advancing.proofs.Starting.{advance_none, advance_stopped, advance_after}
+use borrow.Author.Rules.{rules}
+use Rattle.advancing.proofs.advance.Goals as goal
+
+pub returns-then-q-eq0 : goal.returns-then-q-eq0
+returns-then-q-eq0 c = advance_none _ _ _ _ _ _ _ _ _ c.if-q-eq0.true
+
+pub returns-then-w-ne0 : goal.returns-then-w-ne0
+returns-then-w-ne0 c = advance_stopped _ _ _ _ _ _ _ _ _ c.if-q-eq0.false c.if-w-ne0.true
+
+pub returns : goal.returns
+returns c =
+    advance_after _ _ _ _ _ _ _ _ _ _ _ _ _ _ _ _ _ c.if-q-eq0.false c.if-w-ne0.false c.clear.ensures c.go_on.ensures

@@ -1,0 +1,17 @@
+-- `go_on` meets its contract: it can go on, or it is no pass.
+-- Assumes nothing.
+use borrow.Author.Tests.{not-true, not-false}
+use Rattle.advancing.proofs.Placing.{goes_on, stands_still}
+use borrow.Author.Rules.{rules}
+use Rattle.advancing.proofs.go_on.Goals as goal
+
+pub returns-then-not-sound : goal.returns-then-not-sound
+returns-then-not-sound c = stands_still _ _ _ _ _ _ _ (c.sound.ensures.no (not-true _ c.if-not-sound.true-raw))
+
+pub pass_on-requires : goal.pass_on-requires
+pass_on-requires c =
+    let s = c.sound.ensures.yes (not-false _ c.if-not-sound.false-raw) in
+    (s.ends, s.cut, s.low)
+
+pub returns : goal.returns
+returns c = goes_on _ _ _ _ _ _ _ _ _ _ _ _ c.pass_on.ensures

@@ -1,0 +1,60 @@
+-- `read_speed_blocks` meets its contract. The loop's invariant: it stands on a block, and the cut leads from `end` to where all of
+-- it leads. Assumes nothing.
+use Prim.Native.Nat.{ℕ, suc, ◌+◌, ◌*◌, ◌-◌, ◌≤◌}
+use native.Mathlib.Omega.{arith}
+use mathlib.Core.Path.{◌≡◌, refl, sym, ◌∙◌, ap}
+use mathlib.Core.Logic.{⊎_elim}
+use mathlib.Core.Bool.{true, and-false}
+use lib.Dec.{eqb}
+use lib.ListN.{length}
+use borrow.Author.Rules.{rules}
+use Rattle.blocks.specs.Cutting.{cut, cut_from, cut_of}
+use Rattle.blocks.specs.declared.Cut.{Cut}
+use Rattle.blocks.proofs.Stepping.{stays, turn}
+use Rattle.blocks.proofs.EachKind.{speed_law}
+use Rattle.blocks.proofs.Standing.{Stands, moved, stayed, onward, emptied, unfilled_part}
+use Rattle.blocks.proofs.read_speed_blocks.Goals as goal
+
+pub returns-then-p-le1 : goal.returns-then-p-le1
+returns-then-p-le1 c =
+    let p = c.args.p.now in
+    let e = stays 1 p 6 1 true c.if-p-le1.true in
+    speed_law p _ (rw e (sym (and-false (eqb 1 (length p + 1))))) (rw e refl)
+
+pub loop-n-init : goal.loop-n-init
+loop-n-init c = (omega arith, refl, moved _ 1 (omega (arith, c.if-p-le1.false)), omega arith, omega arith)
+
+pub returns-then-entries-eq0 : goal.returns-then-entries-eq0
+returns-then-entries-eq0 c =
+    let l = c.loop-n in
+    let p = c.args.p.now in
+    let e : 6 - l.n ≡ suc (6 - (l.n + 1)) = omega (arith, c.loop-n-test.true) in
+    unfilled_part p _
+    (sym (ap (λ (d : Cut). d.full) l.invariant.1) ∙ rw e (emptied p _ _ l.invariant.2 (6 - (l.n + 1)) c.if-entries-eq0.true))
+    c.speed_blocks.ensures
+
+pub loop-n-preserved : goal.loop-n-preserved
+loop-n-preserved c =
+    let l = c.loop-n in
+    let p = c.args.p.now in
+    let w = c.wide.ensures in
+    let next = ap (λ (x : ℕ). l.at + 2 + 4 * x) w.0 in
+    let s = l.invariant.2 in
+    let pairs = c.if-entries-eq0.false in (
+      omega arith,
+      sym (turn 1 p 6 l.n _ _ c.loop-n-test.true (onward p _ _ s pairs _ next)) ∙ l.invariant.1,
+      ⊎_elim (λ v. rw v.1 (moved p _ v.0.taken)) (λ v. rw v.1 (stayed p _ _ s pairs _ next v.0.left)) c.if-end-p.branch,
+      ⊎_elim (λ v. omega (arith, v.1, w.1)) (λ v. omega (arith, v.1)) c.if-end-p.branch,
+      omega (arith, w.1),
+    )
+
+pub returns : goal.returns
+returns c =
+    let l = c.loop-n in
+    let p = c.args.p.now in
+    let e : 6 - l.n ≡ 0 = omega (arith, c.loop-n-test.false) in
+    let d = rw e at l.invariant.1 in
+    speed_law p _ (rw (← d) refl) (rw (← d) refl)
+
+pub bounds-p-at : goal.bounds-p-at
+bounds-p-at c = c.loop-n.invariant.2.there

@@ -1,0 +1,36 @@
+-- `fixed` meets its contract: it is taken, or it is what stops the pass.
+-- Assumes nothing.
+use native.Mathlib.Omega.{arith}
+use Rattle.closing.proofs.Pieces.{fixed_breaks, fixed_taken}
+use borrow.Author.Rules.{rules}
+use Rattle.closing.proofs.fixed.Goals as goal
+
+pub returns-then-r-ne0 : goal.returns-then-r-ne0
+returns-then-r-ne0 c =
+    let w = c.walk-r in
+    let b = c.broken.ensures in
+    record {
+      plain = record { low = rw b.4 w.ensures.low; none_held = b.2; none_cut = b.3; within = omega (arith, b.1) };
+      then =
+          λ d before head size small whole e k.
+          fixed_breaks _ _ _ _ _ _ _ _ _ w.ensures d before small e k whole c.if-r-ne0.true _ head _ _ b.0 b.1;
+    }
+
+pub overflow_sub-r : goal.overflow_sub-r
+overflow_sub-r c = c.walk-r.ensures.from
+
+pub name_all-requires : goal.name_all-requires
+name_all-requires c =
+    omega (arith, c.walk-r.ensures.from, c.walk-r.ensures.to, c.requires.0)
+
+pub returns : goal.returns
+returns c =
+    let w = c.walk-r in
+    let b = c.broken-2.ensures in
+    record {
+      plain = record { low = rw b.4 w.ensures.low; none_held = b.2; none_cut = b.3; within = omega (arith, b.1, w.ensures.to) };
+      then =
+          λ d before head size small whole e k.
+          fixed_taken _ _ _ _ _ _ _ _ _ w.ensures d before small e k whole c.if-r-ne0.false _ head _ _ size b.0 b.1 b.2 b.3
+          b.4 c.name_all.ensures;
+    }

@@ -1,0 +1,14 @@
+-- `waits` meets its contract: the header is not there, or the length that it gives is looked at.
+-- Assumes nothing.
+use mathlib.Core.Path.{refl, sym}
+use Rattle.stream.proofs.Running.{waits_header}
+use Rattle.closing.proofs.Pieces.{waits_is}
+use borrow.Author.Rules.{rules}
+use Rattle.closing.proofs.waits.Goals as goal
+
+pub returns-then-p-lt3 : goal.returns-then-p-lt3
+returns-then-p-lt3 c = sym (waits_header c.args.p.now c.if-p-lt3.true)
+
+pub returns : goal.returns
+returns c = waits_is c.args.p.now
+    (rw (c.wide.ensures.0, c.wide-2.ensures.0) refl) c.if-p-lt3.false

@@ -1,0 +1,41 @@
+-- `whole` meets its contract: what the walk took is named, and the pass goes on after it or is stopped.
+-- Assumes nothing.
+use native.Mathlib.Omega.{arith}
+use mathlib.Core.Path.{refl, sym, ◌∙◌}
+use Rattle.closing.proofs.Pieces.{other_stop, these_stops, whole_goes, whole_breaks}
+use borrow.Author.Rules.{rules}
+use Rattle.closing.proofs.whole.Goals as goal
+
+pub returns-then-r : goal.returns-then-r
+returns-then-r c =
+    let w = c.walk-r in
+    let b = c.broken.ensures in
+    let n = other_stop w.result.stop c.if-r.true in
+    record {
+      plain = record { low = rw b.4 w.ensures.low; none_held = b.2; none_cut = b.3; within = omega (arith, b.1, w.ensures.to) };
+      within = omega arith;
+      here = λ z. absurd (n.0 (sym b.0 ∙ z));
+      goes = λ z. absurd (n.0 (sym b.0 ∙ z));
+      breaks = λ _ d before small e k. rw (b.0, b.1) (whole_breaks _ _ _ _ _ _ _ _ _ w.ensures d before small e k n.0 n.1);
+    }
+
+pub overflow_sub-taken : goal.overflow_sub-taken
+overflow_sub-taken c = c.walk-r.ensures.from
+
+pub name_all-requires : goal.name_all-requires
+name_all-requires c =
+    omega (arith, c.walk-r.ensures.from, c.walk-r.ensures.to, c.requires.0)
+
+pub returns : goal.returns
+returns c =
+    let w = c.walk-r in
+    let b = c.broken-2.ensures in
+    let n = these_stops w.result.stop c.if-r.false in
+    record {
+      plain = record { low = rw b.4 w.ensures.low; none_held = b.2; none_cut = b.3; within = omega (arith, b.1, w.ensures.to) };
+      within = omega (arith, w.ensures.from, w.ensures.to);
+      here = λ _. omega (arith, b.1, w.ensures.from);
+      goes = λ _ d before small e k. whole_goes _ _ _ _ _ _ _ _ _ w.ensures d before small e k _ _ _ n refl b.1 b.4
+          c.name_all.ensures;
+      breaks = λ z. absurd (z b.0);
+    }

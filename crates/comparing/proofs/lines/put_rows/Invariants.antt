@@ -1,0 +1,13 @@
+-- `put_rows` meets its contract: a row a turn.
+-- Assumes nothing.
+use Prim.Native.Nat.{◌-◌}
+use native.Mathlib.Omega.{arith}
+use mathlib.Core.Path.{refl}
+use Rattle.comparing.proofs.Lined.{Rowed, rows_begun, rows_room, row_below, row_turned, rows_ended}
+use Rattle.comparing.proofs.lines.put_rows.Given as goal
+
+abbrev pub invariant-loop-i : goal.invariant-loop-i
+invariant-loop-i l = Rowed l.one l.two l.a l.b l.initial.out l.at l.from l.n l.to l.end l.out l.i
+
+abbrev pub decreases-loop-i : goal.decreases-loop-i
+decreases-loop-i l = l.to - l.i

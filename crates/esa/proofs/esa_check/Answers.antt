@@ -1,0 +1,13 @@
+-- `esa_check` meets its contract: no value is too large.
+-- Assumes nothing.
+use Rattle.reader.proofs.Bounds.{value_bound}
+use borrow.Author.Rules.{rules}
+use Rattle.esa.proofs.esa_check.Goals as goal
+
+pub answer-requires : goal.answer-requires
+answer-requires c = value_bound _ _ _ c.check.ensures
+
+pub returns : goal.returns
+returns c =
+    rw (← c.settings_of.ensures)
+    (record { answer = c.check.result; verdict = c.check.ensures; number = c.answer.ensures })

@@ -1,0 +1,13 @@
+-- `esa_diff` meets its contract: no number is too large.
+-- Assumes nothing.
+use borrow.Author.Rules.{rules}
+use Rattle.esa.proofs.Differences.{compares_fitted}
+use Rattle.esa.proofs.esa_diff.Goals as goal
+
+pub outcome-requires : goal.outcome-requires
+outcome-requires c = compares_fitted _ _ _ _ _ _ c.compare.ensures
+
+pub returns : goal.returns
+returns c =
+    rw (← c.chip_of.ensures)
+    (record { answer = c.compare.result; compares = c.compare.ensures; number = c.outcome.ensures })

@@ -1,0 +1,14 @@
+-- `esa_element` meets its contract: no place is too large.
+-- Assumes nothing.
+use Rattle.reader.proofs.Bounds.{place_bound}
+use borrow.Author.Rules.{rules}
+use Rattle.esa.proofs.esa_element.Goals as goal
+
+pub asked-requires : goal.asked-requires
+asked-requires c = place_bound _ _ _ _ _ c.element.ensures.gives
+
+pub returns : goal.returns
+returns c =
+    let g = c.element.ensures in
+    rw (← c.settings_of.ensures)
+    (record { answer = c.element.result; part = g.beside; gives = g.gives; number = c.asked.ensures })

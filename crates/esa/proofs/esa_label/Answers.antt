@@ -1,0 +1,13 @@
+-- `esa_label` meets its contract: no place is too large.
+-- Assumes nothing.
+use Rattle.esa.proofs.Labels.{label_fits}
+use borrow.Author.Rules.{rules}
+use Rattle.esa.proofs.esa_label.Goals as goal
+
+pub label-requires : goal.label-requires
+label-requires c = label_fits _ _ _ _ c.find.ensures
+
+pub returns : goal.returns
+returns c =
+    rw (← c.settings_of.ensures)
+    (record { answer = c.find.result; found = c.find.ensures; number = c.label.ensures })

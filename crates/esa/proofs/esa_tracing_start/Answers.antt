@@ -1,0 +1,13 @@
+-- `esa_tracing_start` meets its contract: no value is too large.
+-- Assumes nothing.
+use Rattle.esa.proofs.Traces.{start_bound}
+use borrow.Author.Rules.{rules}
+use Rattle.esa.proofs.esa_tracing_start.Goals as goal
+
+pub answer-requires : goal.answer-requires
+answer-requires c = start_bound _ _ _ _ _ _ _ _ _ c.start.ensures
+
+pub returns : goal.returns
+returns c =
+    rw (← c.chip_of.ensures)
+    (record { answer = c.start.result; started = c.start.ensures; number = c.answer.ensures })

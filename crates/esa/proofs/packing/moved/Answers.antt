@@ -1,0 +1,17 @@
+-- `packing::moved` meets its contract: each case has its number and value.
+-- Assumes nothing.
+use native.Mathlib.Omega.{arith}
+use borrow.Author.Rules.{rules}
+use Rattle.esa.proofs.packing.moved.Goals as goal
+
+pub pack-requires : goal.pack-requires
+pack-requires c = omega (arith, rw c.in-Length.is at c.requires)
+
+pub pack-requires-in-Refused : goal.pack-requires-in-Refused
+pack-requires-in-Refused c = omega (arith, rw c.in-Refused.is at c.requires)
+
+pub returns-in-Length : goal.returns-in-Length
+returns-in-Length c = rw c.in-Length.is c.pack.ensures
+
+pub returns-in-Refused : goal.returns-in-Refused
+returns-in-Refused c = rw c.in-Refused.is c.pack-in-Refused.ensures

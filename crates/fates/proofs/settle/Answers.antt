@@ -1,0 +1,24 @@
+-- `settle` meets its contract: by the fate.
+-- Assumes nothing.
+use native.Mathlib.Omega.{arith}
+use mathlib.Core.Path.{refl}
+use borrow.Author.Rules.{rules}
+use Rattle.fates.proofs.Noting.{stays_settles, leaves_settles, mends_settles}
+use Rattle.fates.proofs.settle.Goals as goal
+
+pub returns-in-Stays : goal.returns-in-Stays
+returns-in-Stays c =
+    stays_settles _ _ _ _ _ c.requires.0 c.requires.1 c.requires.2 _ c.in-Stays.is c.counted.ensures.0
+    c.counted.ensures.1
+
+pub returns-in-Leaves : goal.returns-in-Leaves
+returns-in-Leaves c =
+    let w = c.wide.ensures in
+    leaves_settles _ _ _ _ _ c.requires.0 c.requires.1 c.requires.2 _ _ _ c.in-Leaves.is (omega (arith, w))
+    (omega (arith, w.0))
+    c.counted-in-Leaves.ensures.0 c.counted-in-Leaves.ensures.1
+
+pub returns-in-Mends : goal.returns-in-Mends
+returns-in-Mends c =
+    mends_settles _ _ _ _ _ c.requires.0 c.requires.1 c.requires.2 _ _ _ c.in-Mends.is refl refl
+    c.counted-in-Mends.ensures.0 c.counted-in-Mends.ensures.1

@@ -1,0 +1,8 @@
+-- `fields::current` meets its contract, by what each call ensures of its result.
+-- Assumes nothing.
+use native.Mathlib.Omega.{arith}
+use Rattle.fields.proofs.current.Goals as goal
+
+pub returns : goal.returns
+returns c =
+    rw (c.placement.ensures, c.word.ensures, c.word-2.ensures)

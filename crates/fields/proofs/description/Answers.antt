@@ -1,0 +1,16 @@
+-- `fields::description` meets its contract: each wider byte is the byte, and each place is unused or a pin.
+-- Assumes nothing.
+use native.Mathlib.Omega.{arith}
+use borrow.Author.Rules.{rules}
+use Rattle.fields.proofs.description.Goals as goal
+
+pub returns : goal.returns
+returns c =
+    rw (
+      c.wide32.ensures.0,
+      c.wide32-2.ensures.0,
+      c.wide32-3.ensures.0,
+      c.optional.ensures,
+      c.optional-2.ensures,
+      c.optional-3.ensures,
+    )

@@ -1,0 +1,7 @@
+-- `fields::device` meets its contract, by what each call ensures of its result.
+-- Assumes nothing.
+use native.Mathlib.Omega.{arith}
+use Rattle.fields.proofs.device.Goals as goal
+
+pub returns : goal.returns
+returns c = rw (c.placement.ensures, c.address.ensures)

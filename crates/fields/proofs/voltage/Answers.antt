@@ -1,0 +1,7 @@
+-- `fields::voltage` meets its contract, by what each call ensures of its result.
+-- Assumes nothing.
+use native.Mathlib.Omega.{arith}
+use Rattle.fields.proofs.voltage.Goals as goal
+
+pub returns : goal.returns
+returns c = rw c.placement.ensures

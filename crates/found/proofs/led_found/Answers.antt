@@ -1,0 +1,19 @@
+-- `led_found` meets its contract: the length decides whether a record is there, and the record is judged.
+-- Assumes nothing.
+use mathlib.Core.Path.{refl}
+use borrow.Author.Rules.{rules}
+use Rattle.format.specs.Records.{led}
+use Rattle.format.specs.Decode.{decode, read_led}
+use Rattle.found.proofs.Judging.{wrong_length, right_length}
+use Rattle.found.proofs.led_found.Goals as goal
+
+pub returns-then-b-ne11 : goal.returns-then-b-ne11
+unfolding decode
+returns-then-b-ne11 c = wrong_length _ 4 _ _ led (read_led _) 11 refl c.if-b-ne11.true c.refused.ensures
+
+pub returns : goal.returns
+unfolding decode
+returns c =
+    right_length _ 4 _ _ led (read_led _) 11 refl _ c.if-b-ne11.false refl c.led-l.ensures
+    c.led_breaks.ensures c.led_claims.ensures c.no_fans.ensures
+    c.together.ensures

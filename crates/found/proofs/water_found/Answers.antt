@@ -1,0 +1,19 @@
+-- `water_found` meets its contract: the length decides whether a record is there, and the record is judged.
+-- Assumes nothing.
+use mathlib.Core.Path.{refl}
+use borrow.Author.Rules.{rules}
+use Rattle.format.specs.Records.{water}
+use Rattle.format.specs.Decode.{decode, read_water}
+use Rattle.found.proofs.Judging.{wrong_length, right_length}
+use Rattle.found.proofs.water_found.Goals as goal
+
+pub returns-then-b-ne12 : goal.returns-then-b-ne12
+unfolding decode
+returns-then-b-ne12 c = wrong_length _ 5 _ _ water (read_water _) 12 refl c.if-b-ne12.true c.refused.ensures
+
+pub returns : goal.returns
+unfolding decode
+returns c =
+    right_length _ 5 _ _ water (read_water _) 12 refl _ c.if-b-ne12.false refl c.water-w.ensures
+    c.water_breaks.ensures c.analogue_claims.ensures c.no_fans.ensures
+    c.together.ensures

@@ -1,0 +1,9 @@
+-- `pairs_part` meets its contract by the law of the cut where it ends.
+-- Assumes nothing.
+use mathlib.Core.Path.{refl}
+use Rattle.judging.proofs.Ended.{pairs_ended}
+use borrow.Author.Rules.{rules}
+use Rattle.judging.proofs.pairs_part.Goals as goal
+
+pub returns : goal.returns
+returns c = pairs_ended _ _ _ c.requires.1 refl refl

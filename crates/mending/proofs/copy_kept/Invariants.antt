@@ -1,0 +1,17 @@
+-- `copy_kept` meets its contract: run by run, what stands in the buffer is the bytes of those before.
+-- Assumes nothing.
+use Prim.Native.Nat.{◌-◌, ◌≤◌}
+use native.Mathlib.Omega.{arith}
+use mathlib.Core.Path.{◌≡◌, refl}
+use lib.ListN.{length, take}
+use Rattle.spelling.specs.Spelling.{Put}
+use Rattle.spelling.proofs.Putting.{put_none}
+use Rattle.mending.specs.Laid.{raws}
+use Rattle.mending.proofs.Copying.{run_room, run_put, copy_ends}
+use Rattle.mending.proofs.copy_kept.Given as goal
+
+abbrev pub invariant-loop-i : goal.invariant-loop-i
+invariant-loop-i l = (length l.out ≡ length l.initial.out) × (l.i ≤ l.n) × Put l.initial.out 16 (raws l.t (take l.i l.kept)) l.end l.out
+
+abbrev pub decreases-loop-i : goal.decreases-loop-i
+decreases-loop-i l = l.n - l.i

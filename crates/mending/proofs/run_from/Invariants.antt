@@ -1,0 +1,18 @@
+-- `run_from` meets its contract: the run so far is the bytes of those that it has passed.
+-- Assumes nothing.
+use Prim.Native.Nat.{ℕ, ◌-◌, ◌/◌, ◌<◌, ◌≤◌}
+use native.Mathlib.Omega.{arith}
+use mathlib.Core.Path.{ap}
+use lib.ListN.{length, drop, get_or}
+use Rattle.format.specs.Verdict.{stated}
+use Rattle.mending.proofs.Laying.{size_there, inside}
+use Rattle.mending.proofs.Listing.{keeps_at}
+use Rattle.mending.proofs.Copying.{Running, run_begun, run_on}
+use Rattle.mending.proofs.run_from.Given as goal
+
+abbrev pub invariant-loop-j : goal.invariant-loop-j
+invariant-loop-j l =
+    (l.i < l.j) × (l.j ≤ l.n) × (get_or l.kept l.i 0 / 2 ≤ l.to) × (l.to ≤ length l.t) × Running l.t l.kept l.i l.j l.to
+
+abbrev pub decreases-loop-j : goal.decreases-loop-j
+decreases-loop-j l = l.n - l.j

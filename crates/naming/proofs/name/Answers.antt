@@ -1,0 +1,35 @@
+-- `name` meets its contract, by the identifier.
+-- Assumes nothing.
+use native.Mathlib.Omega.{arith}
+use mathlib.Core.Path.{refl}
+use borrow.Author.Rules.{rules}
+use Rattle.naming.proofs.name.Goals as goal
+
+pub returns-then-id-eq12 : goal.returns-then-id-eq12
+returns-then-id-eq12 c =
+    record {
+      text = λ _. (refl, refl);
+      zoning = λ e. absurd (omega (arith, e, c.if-id-eq12.true));
+      placed = λ _ n. absurd (n c.if-id-eq12.true);
+    }
+
+pub returns-then-id-eq11 : goal.returns-then-id-eq11
+returns-then-id-eq11 c =
+    let i = c.if-id-eq11.true in
+    record {
+      text = λ e. absurd (omega (arith, e, i));
+      zoning = λ _. (refl, rw (← c.byte_at.ensures, ← c.narrow.ensures) c.note.ensures);
+      placed = λ n _. absurd (n i);
+    }
+
+pub returns : goal.returns
+returns c =
+    record {
+      text = λ e. absurd (c.if-id-eq12.false e);
+      zoning = λ e. absurd (c.if-id-eq11.false e);
+      placed =
+          λ _ _. (
+            rw (← c.byte_at-2.ensures, ← c.narrow-2.ensures) c.note-2.ensures,
+            rw (← c.byte_at-3.ensures, ← c.narrow-3.ensures) c.note-3.ensures,
+          );
+    }

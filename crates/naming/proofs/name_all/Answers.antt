@@ -1,0 +1,43 @@
+-- `name_all` meets its contract: some elements are noted, and the others are ahead.
+-- Assumes nothing.
+use native.Mathlib.Omega.{arith}
+use mathlib.Core.Path.{◌≡◌}
+use Prim.Native.Nat.{◌+◌, ◌-◌, ◌≤◌}
+use mathlib.Core.List.{List}
+use lib.ListN.{length, drop}
+use Rattle.format.specs.Slots.{Bytes}
+use Rattle.format.specs.Records.{Record}
+use Rattle.format.specs.Layout.{place_after}
+use Rattle.format.specs.ZonesAndStrings.{zone_named, string_named}
+use Rattle.format.specs.declared.settings.Settings.{Settings}
+use Rattle.pass.specs.Tracks.{Took}
+use Rattle.firsts.specs.Firsts.{Firsts}
+use Rattle.naming.proofs.Named.{Sofar, sofar_none, sofar_next, sofar_all}
+use Rattle.naming.proofs.name_all.Goals as goal
+
+pub loop-i-init : goal.loop-i-init
+loop-i-init c = (omega arith, λ σ before gone small t e k f g. sofar_none _ _ _ _ _ _ _ _ e k f g)
+
+pub name_one-i-requires : goal.name_one-i-requires
+name_one-i-requires c = omega (arith, c.loop-i-test.true, c.requires)
+
+pub overflow_add-i : goal.overflow_add-i
+overflow_add-i c = omega (arith, c.name_one-i.ensures.most, c.loop-i.invariant.0)
+
+pub loop-i-smaller : goal.loop-i-smaller
+loop-i-smaller c = omega (arith, c.name_one-i.ensures.least, c.loop-i-test.true)
+
+pub loop-i-preserved : goal.loop-i-preserved
+loop-i-preserved c =
+    let t = c.loop-i-test.true in (
+      omega (arith, c.name_one-i.ensures.most, t, c.requires),
+      λ σ before gone small k e w f g.
+          sofar_next _ _ _ _ _ _ _ _ _ _ _ small k t c.name_one-i.ensures.names (c.loop-i.invariant.1 σ before gone small k e w f g),
+    )
+
+pub returns : goal.returns
+returns c =
+    record {
+      all = λ σ before gone small t e k f g. sofar_all _ _ _ _ _ _ _ _ c.loop-i-test.false
+          (c.loop-i.invariant.1 σ before gone small t e k f g);
+    }

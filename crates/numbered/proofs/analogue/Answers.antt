@@ -1,0 +1,15 @@
+-- `into::analogue` meets its contract, by what each call ensures of its result.
+-- Assumes nothing.
+use borrow.Author.Rules.{rules}
+use Rattle.numbered.proofs.analogue.Goals as goal
+
+pub returns : goal.returns
+returns c =
+    rw (
+      c.pair_at.ensures,
+      c.pair_at-n-4.ensures,
+      c.pair_at-n-3.ensures,
+      c.pair_at-n-2.ensures,
+      c.pair_at-n.ensures,
+      c.placement-n.ensures,
+    )

@@ -1,0 +1,13 @@
+-- `into::bus_places` meets its contract, by what each call ensures of its result.
+-- Assumes nothing.
+use borrow.Author.Rules.{rules}
+use Rattle.numbered.proofs.bus_places.Goals as goal
+
+pub returns : goal.returns
+returns c =
+    rw (
+      c.three_at.ensures,
+      c.address.ensures,
+      c.kind.ensures,
+      c.placement.ensures,
+    )

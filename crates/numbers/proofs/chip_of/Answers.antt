@@ -1,0 +1,11 @@
+-- `from::chip_of` meets its contract: the branch taken tells the test.
+-- Assumes nothing.
+use borrow.Author.Tests.{eq-eqb, ne_eqb}
+use borrow.Author.Rules.{rules}
+use Rattle.numbers.proofs.chip_of.Goals as goal
+
+pub returns-then-n-eq0 : goal.returns-then-n-eq0
+returns-then-n-eq0 c = rw (eq-eqb _ _ c.if-n-eq0.true)
+
+pub returns-else-n-eq0 : goal.returns-else-n-eq0
+returns-else-n-eq0 c = rw (ne_eqb _ _ c.if-n-eq0.false)

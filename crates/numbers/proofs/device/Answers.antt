@@ -1,0 +1,12 @@
+-- `from::device` meets its contract, by what each call ensures of its result.
+-- Assumes nothing.
+use native.Mathlib.Omega.{arith}
+use borrow.Author.Rules.{rules}
+use Rattle.numbers.proofs.device.Goals as goal
+
+pub returns : goal.returns
+returns c =
+    rw (
+      c.placement.ensures,
+      c.address.ensures,
+    )

@@ -1,0 +1,8 @@
+-- `after_list` meets its contract, by what each call ensures of its result.
+-- Assumes nothing.
+use mathlib.Core.Path.{refl}
+use borrow.Author.Rules.{rules}
+use Rattle.parts.proofs.after_list.Goals as goal
+
+pub returns : goal.returns
+returns c = rw (c.past.ensures, c.size.ensures) refl

@@ -1,0 +1,20 @@
+-- `block_at` meets its contract: SPEED and the list after it.
+-- Assumes nothing.
+use mathlib.Core.Path.{sym, ◌∙◌}
+use Rattle.parts.specs.declared.MaybeEntries.TheVariants.{Entries, Nothing}
+use Rattle.parts.proofs.Reading.{with_speed_lem}
+use borrow.Author.Rules.{rules}
+use Rattle.parts.proofs.block_at.Goals as goal
+
+pub returns-in-Entries : goal.returns-in-Entries
+returns-in-Entries c =
+    let l = c.list_at-found in
+    let n = c.found-1.given in
+    with_speed_lem c.args.r.now c.past.result.now (Entries n.0.0) c.byte_at-speed.ensures
+    c.past.ensures
+    (sym n.1 ∙ l.ensures)
+
+pub returns-in-Nothing : goal.returns-in-Nothing
+returns-in-Nothing c =
+    with_speed_lem c.args.r.now c.past.result.now Nothing c.byte_at-speed.ensures c.past.ensures
+    (sym c.in-Nothing.is ∙ c.list_at-found.ensures)

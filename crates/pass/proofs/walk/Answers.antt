@@ -1,0 +1,90 @@
+-- `walk` meets its contract: some elements are taken, the state and the flags track them, and the loop is where the pass is.
+-- Assumes nothing.
+use Prim.Native.Nat.{◌-◌, ◌≤◌}
+use native.Mathlib.Omega.{arith}
+use mathlib.Core.Path.{◌≡◌, refl}
+use mathlib.Core.List.{List}
+use lib.ListN.{length}
+use Rattle.format.specs.Slots.{Bytes}
+use Rattle.format.specs.Records.{Record}
+use Rattle.format.specs.Layout.{place_after}
+use Rattle.format.specs.declared.records.Description.{Description}
+use Rattle.pass.specs.Tracks.{flags, Low, Tracks}
+use Rattle.pass.proofs.Walking.{Onward, begin, go_on, stopped, cut_short, finish}
+use Rattle.pass.proofs.walk.Goals as goal
+
+pub loop-at-init : goal.loop-at-init
+loop-at-init c = (omega arith, c.requires.1, λ d before small e k. begin _ _ _ _ _ _ _ e k)
+
+pub overflow_add-at : goal.overflow_add-at
+overflow_add-at c = omega (arith, c.loop-at.invariant.0, c.requires.0)
+
+pub one_step-r-requires : goal.one_step-r-requires
+one_step-r-requires c =
+    (omega (arith, c.loop-at-test.true), c.requires.0, c.loop-at.invariant.1)
+
+pub overflow_add-result : goal.overflow_add-result
+overflow_add-result c =
+    omega (arith, c.loop-at.invariant.0, c.requires.0)
+
+pub returns-then-r-ne0 : goal.returns-then-r-ne0
+returns-then-r-ne0 c =
+    let i = c.loop-at.invariant in
+    record {
+      from = omega arith;
+      to = omega (arith, i.0);
+      low = c.one_step-r.ensures.low;
+      walks =
+          λ e before small p k.
+          stopped _ _ _ _ _ _ _ _ (i.2 e before small p k) small c.one_step-r.result _
+          (omega (arith, c.loop-at-test.true)) c.one_step-r.ensures
+          c.if-r-ne0.true _ refl refl refl;
+    }
+
+pub overflow_add-at-in-loop-at : goal.overflow_add-at-in-loop-at
+overflow_add-at-in-loop-at c =
+    let g = c.one_step-r.ensures.fits c.if-r-ne0.false in
+    omega (arith, g.1, c.requires.0)
+
+pub loop-at-smaller : goal.loop-at-smaller
+loop-at-smaller c =
+    let g = c.one_step-r.ensures.fits c.if-r-ne0.false in
+    omega (arith, g.0, g.1)
+
+pub loop-at-preserved : goal.loop-at-preserved
+loop-at-preserved c =
+    let i = c.loop-at.invariant in
+    let g = c.one_step-r.ensures.fits c.if-r-ne0.false in (
+      g.1,
+      c.one_step-r.ensures.low,
+      λ e before small p k.
+          go_on _ _ _ _ _ _ _ _ (i.2 e before small p k) small c.one_step-r.result _
+          (omega (arith, c.loop-at-test.true)) c.one_step-r.ensures c.if-r-ne0.false,
+    )
+
+pub overflow_add-result-then-at-t : goal.overflow_add-result-then-at-t
+overflow_add-result-then-at-t c = omega (arith, c.loop-at.invariant.0, c.requires.0)
+
+pub returns-then-at-t : goal.returns-then-at-t
+returns-then-at-t c =
+    let i = c.loop-at.invariant in
+    record {
+      from = omega arith;
+      to = omega (arith, i.0);
+      low = i.1;
+      walks = λ e before small p k. cut_short _ _ _ _ _ _ _ _ (i.2 e before small p k) _ refl refl c.if-at-t.true
+          (omega (arith, c.loop-at-test.false)) refl;
+    }
+
+pub overflow_add-result-2 : goal.overflow_add-result-2
+overflow_add-result-2 c = omega (arith, c.loop-at.invariant.0, c.requires.0)
+
+pub returns : goal.returns
+returns c =
+    let i = c.loop-at.invariant in
+    record {
+      from = omega arith;
+      to = omega (arith, i.0);
+      low = i.1;
+      walks = λ e before small p k. finish _ _ _ _ _ _ _ _ (i.2 e before small p k) _ refl refl c.if-at-t.false refl;
+    }

@@ -1,0 +1,24 @@
+-- `walk` meets its contract: some elements are taken, the state and the flags track them, and the loop is where the pass is.
+-- Assumes nothing.
+use Prim.Native.Nat.{◌-◌, ◌≤◌}
+use native.Mathlib.Omega.{arith}
+use mathlib.Core.Path.{◌≡◌, refl}
+use mathlib.Core.List.{List}
+use lib.ListN.{length}
+use Rattle.format.specs.Slots.{Bytes}
+use Rattle.format.specs.Records.{Record}
+use Rattle.format.specs.Layout.{place_after}
+use Rattle.format.specs.declared.records.Description.{Description}
+use Rattle.pass.specs.Tracks.{flags, Low, Tracks}
+use Rattle.pass.proofs.Walking.{Onward, begin, go_on, stopped, cut_short, finish}
+use Rattle.pass.proofs.walk.Given as goal
+
+abbrev pub invariant-loop-at : goal.invariant-loop-at
+invariant-loop-at l =
+    (l.at ≤ length l.t)
+    × Low l.s
+    × ((d : Description) (before : List Record) → Bytes l.t → l.base ≡ place_after before → Tracks d l.initial.s (flags l.initial.zs l.initial.ss l.initial.zu l.initial.su) before
+    → Onward l.settings d l.t l.base before l.s (flags l.zs l.ss l.zu l.su) l.at)
+
+abbrev pub decreases-loop-at : goal.decreases-loop-at
+decreases-loop-at l = length l.t - l.at

@@ -1,0 +1,17 @@
+-- `unmarked` meets its contract: what is left to search ends where the whole ends.
+-- Assumes nothing.
+use Prim.Native.Nat.{◌-◌}
+use native.Mathlib.Omega.{arith}
+use lib.ListN.{length}
+use Rattle.format.specs.declared.settings.Settings.{Settings}
+use Rattle.flags.specs.Marks.{Marks}
+use Rattle.places.specs.Walks.{Walkable, names_of, nameable}
+use Rattle.places.proofs.Search.{Search, begin, some_role, room, go_on, found, finish}
+use Rattle.places.proofs.unmarked.Given as goal
+
+abbrev pub invariant-loop-at : goal.invariant-loop-at
+invariant-loop-at l =
+    (σ : Settings) (w : Walkable σ l.t) → Marks l.marks (nameable l.zone w.rs) → Search σ (names_of l.zone) (nameable l.zone) l.marks l.t l.at
+
+abbrev pub decreases-loop-at : goal.decreases-loop-at
+decreases-loop-at l = length l.t - l.at

@@ -1,0 +1,7 @@
+-- `piece` meets its contract: the number, wider.
+-- Assumes nothing.
+use borrow.Author.Rules.{rules}
+use Rattle.reports.proofs.piece.Goals as goal
+
+pub returns : goal.returns
+returns c = rw c.long.ensures c.piece.ensures

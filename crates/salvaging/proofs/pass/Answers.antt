@@ -1,0 +1,12 @@
+-- `pass` meets its contract: all flags are clear but that of the description's string index.
+-- Assumes nothing.
+use borrow.Author.Rules.{rules}
+use mathlib.Core.Path.{refl}
+use Rattle.reader.proofs.Reading.{at_start}
+use Rattle.salvaging.proofs.pass.Goals as goal
+
+pub scan-requires : goal.scan-requires
+scan-requires c =
+    let p = c.requires in
+    let w = c.wide-index in
+    (p.0, p.1, p.2, at_start _ _ w.result w.ensures.1 w.ensures.0 refl refl p.3 refl, p.4, p.5)

@@ -1,0 +1,8 @@
+-- `taken` meets its contract.
+-- Assumes nothing.
+use borrow.Author.Rules.{rules}
+use Rattle.salvaging.proofs.Salvaging.{all_taken}
+use Rattle.salvaging.proofs.taken.Goals as goal
+
+pub returns-then-file-le4096 : goal.returns-then-file-le4096
+returns-then-file-le4096 c = all_taken _ c.if-file-le4096.true

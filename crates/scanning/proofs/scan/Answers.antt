@@ -1,0 +1,109 @@
+-- `scan` meets its contract: what is left to do ends where the whole ends.
+-- Assumes nothing.
+use Prim.Native.Nat.{◌+◌, ◌-◌, ◌*◌, ◌≤◌}
+use native.Mathlib.Omega.{arith}
+use lib.ListN.{length}
+use lib.Seq.{length-slice}
+use borrow.Author.Rules.{rules}
+use Rattle.pass.specs.Tracks.{flags}
+use Rattle.pass.proofs.Moving.{unframed_short, unframed_small, unframed_long}
+use Rattle.scanning.proofs.Scanning.{Scanning, begun, low, ended, filled, turned}
+use Rattle.scanning.proofs.scan.Goals as goal
+
+-- pub record Known (e : tie.Else3 invariant-loop decreases-loop) : Type 0 where
+--   pub low : 3 ≤ e.before.before.before.before.length_at.result
+--   pub inside : e.before.before.before.before.before.before.loop.at + e.before.before.before.before.length_at.result ≤ length
+--       e.before.before.before.before.before.before.before.before.before.args.t.now
+--   pub top : length e.before.before.before.before.before.before.before.before.before.args.t.now ≤ 4096
+--   pub behind : e.before.before.before.before.before.before.loop.end ≤ e.before.before.before.before.before.before.loop.at
+--   pub lines : 3 * e.before.before.before.before.before.before.loop.n.lines + 16 ≤
+--       e.before.before.before.before.before.before.loop.at
+
+-- known : (e : tie.Else3 invariant-loop decreases-loop) → Known e
+-- known e =
+--     let l = e.before.before.before.before.before.before in
+--     record {
+--       low = e.before.before.before.if1.false;
+--       inside = omega (arith, e.before.before.if2.false, l.loop.invariant.0);
+--       top = l.before.before.before.requires.1;
+--       behind = l.loop.invariant.1.behind;
+--       lines = l.loop.invariant.1.few_lines;
+--     }
+
+pub loop-at-init : goal.loop-at-init
+loop-at-init c =
+    (c.requires.0, begun _ _ _ _ _ _ _ c.requires.4 c.requires.5 c.counted-n.ensures.0 c.counted-n.ensures.1 c.requires.3)
+
+pub overflow_add-at : goal.overflow_add-at
+overflow_add-at c = omega (arith, c.loop-at.invariant.0, c.requires.1)
+
+pub overflow_sub-left : goal.overflow_sub-left
+overflow_sub-left c = omega (arith, c.loop-at.invariant.0)
+
+pub returns-then-len-lt3 : goal.returns-then-len-lt3
+returns-then-len-lt3 c =
+    let i = c.loop-at.invariant in
+    let q = c.summed.ensures in
+    ended _ _ _ _ _ _ _ _ _ i.1 _ q.0 q.1 i.0 c.requires.1
+    (unframed_small c.args.t.now c.loop-at.at c.length_at-len.ensures
+    c.if-len-lt3.true)
+
+pub returns-then-left-len : goal.returns-then-left-len
+returns-then-left-len c =
+    let i = c.loop-at.invariant in
+    let q = c.summed-then-left-len.ensures in
+    ended _ _ _ _ _ _ _ _ _ i.1 _ q.0 q.1 i.0 c.requires.1
+    (unframed_long c.args.t.now c.loop-at.at c.length_at-len.ensures
+    c.if-left-len.true)
+
+pub returns-then-n-ge96 : goal.returns-then-n-ge96
+returns-then-n-ge96 c =
+    let i = c.loop-at.invariant in
+    let q = c.summed-then-n-ge96.ensures in
+    filled _ _ _ _ _ _ _ _ _ i.1 _ q.0 q.1 i.0 c.requires.1 c.if-n-ge96.true
+
+-- what is known of the element at a place, once no test has stopped the loop
+
+pub overflow_add-next : goal.overflow_add-next
+overflow_add-next c = omega (arith, known c)
+
+pub walk-r-requires : goal.walk-r-requires
+walk-r-requires c =
+    let n =
+    length-slice c.loop-at.at (c.loop-at.at + c.length_at-len.result)
+    c.args.t.now
+    (known c).inside in
+    (omega (arith, known c, n), low _ _ _ _ _ _ _ _ _ c.loop-at.invariant.1)
+
+pub settle-n-requires : goal.settle-n-requires
+settle-n-requires c =
+    omega (arith, known c, c.if-n-ge96.false)
+
+pub overflow_add-end : goal.overflow_add-end
+overflow_add-end c =
+    omega (arith, known c, c.grown-end.ensures.2)
+
+pub loop-at-smaller : goal.loop-at-smaller
+loop-at-smaller c =
+    omega (arith, known c)
+
+pub loop-at-preserved : goal.loop-at-preserved
+loop-at-preserved c =
+    let i = c.loop-at.invariant in
+    (
+      omega (arith, known c),
+      turned _ _ _ _ _ _ _ _ _ i.1 c.requires.2 _ c.length_at-len.ensures (known c).low
+          (omega (arith, known c)) i.0 (omega (arith, c.if-n-ge96.false)) c.walk-r.result _ c.walk-r.ensures _
+          c.fate_of.ensures
+          _ _ _ c.settle-n.ensures _ c.grown-end.ensures,
+    )
+
+pub returns : goal.returns
+returns c =
+    let i = c.loop-at.invariant in
+    let q = c.summed-2.ensures in
+    ended _ _ _ _ _ _ _ _ _ i.1 _ q.0 q.1 i.0 c.requires.1
+    (unframed_short c.args.t.now c.loop-at.at (omega (arith, c.loop-at-test.false)))
+
+pub slice_bounds-walk-end : goal.slice_bounds-walk-end
+slice_bounds-walk-end c = omega (arith, known c)

@@ -1,0 +1,18 @@
+-- `scan` meets its contract: what is left to do ends where the whole ends.
+-- Assumes nothing.
+use Prim.Native.Nat.{◌+◌, ◌-◌, ◌*◌, ◌≤◌}
+use native.Mathlib.Omega.{arith}
+use lib.ListN.{length}
+use lib.Seq.{length-slice}
+use borrow.Author.Rules.{rules}
+use Rattle.pass.specs.Tracks.{flags}
+use Rattle.pass.proofs.Moving.{unframed_short, unframed_small, unframed_long}
+use Rattle.scanning.proofs.Scanning.{Scanning, begun, low, ended, filled, turned}
+use Rattle.scanning.proofs.scan.Given as goal
+
+abbrev pub invariant-loop-at : goal.invariant-loop-at
+invariant-loop-at l =
+    (l.at ≤ length l.t) × Scanning l.settings.chip l.t l.kept l.log (flags l.zs l.ss l.zu l.su) l.n l.s l.end l.at
+
+abbrev pub decreases-loop-at : goal.decreases-loop-at
+decreases-loop-at l = length l.t - l.at

@@ -1,0 +1,7 @@
+-- `fan` meets its contract: the tachometer's byte is its place's.
+-- Assumes nothing.
+use borrow.Author.Rules.{rules}
+use Rattle.shown.proofs.fan.Goals as goal
+
+pub returns : goal.returns
+returns c = rw (← c.byte_of.ensures) c.placed.ensures

@@ -1,0 +1,48 @@
+-- `to_hex` meets its contract: refused, no room, or the data records and the end record put.
+-- Assumes nothing.
+use native.Mathlib.Omega.{arith}
+use lib.ListN.{length}
+use borrow.Author.Rules.{rules}
+use Rattle.spelling.proofs.Putting.{then}
+use Rattle.hextext.specs.Moved.{no_room, refused}
+use Rattle.hextext.specs.Text.{line_count, hex_of}
+use Rattle.hextext.proofs.Moving.{accepted_short, put_done}
+use Rattle.tohex.proofs.Lines.{lines_length, hex_length}
+use Rattle.tohex.proofs.to_hex.Goals as goal
+
+pub returns-in-Refused : goal.returns-in-Refused
+returns-in-Refused c = refused (rw c.in-Refused.is at c.check-answer.ensures)
+
+pub overflow_add-n-2 : goal.overflow_add-n-2
+overflow_add-n-2 c = omega (arith, accepted_short (rw c.in_default.is at c.check-answer.ensures))
+
+pub overflow_add-n-3 : goal.overflow_add-n-3
+overflow_add-n-3 c = omega (arith, accepted_short (rw c.in_default.is at c.check-answer.ensures))
+
+pub returns-then-out-n : goal.returns-then-out-n
+returns-then-out-n c =
+    let t = c.args.table.now in
+    no_room (rw c.in_default.is at c.check-answer.ensures) (omega (arith, c.if-out-n.true, hex_length t))
+
+pub put_lines-end-requires : goal.put_lines-end-requires
+put_lines-end-requires c =
+    (accepted_short (rw c.in_default.is at c.check-answer.ensures), omega (arith, c.if-out-n.false))
+
+pub put-requires : goal.put-requires
+put-requires c =
+    let t = c.args.table.now in
+    omega (
+      arith,
+      c.put_lines-end.ensures.ends,
+      c.put_lines-end.ensures.long,
+      lines_length t (line_count (length t)) (omega arith),
+      c.if-out-n.false,
+    )
+
+pub returns : goal.returns
+unfolding hex_of
+returns c =
+    let t = c.args.table.now in
+    put_done _ (rw c.in_default.is at c.check-answer.ensures)
+    (omega (arith, hex_length t, c.if-out-n.false))
+    (then c.put_lines-end.ensures c.put.ensures)

@@ -1,0 +1,48 @@
+-- `each` meets its contract: so many bytes of the piece are kept.
+-- Assumes nothing.
+use Prim.Native.Nat.{ℕ, ◌-◌, ◌≤◌}
+use native.Mathlib.Omega.{arith}
+use mathlib.Core.Path.{◌≡◌, refl}
+use Rattle.underway.specs.Under.{CopiedIs}
+use Rattle.underway.proofs.Eights.{copied_none, copied_next}
+use borrow.Author.Rules.{rules}
+use Rattle.underway.proofs.each.Goals as goal
+
+pub loop-j-init : goal.loop-j-init
+loop-j-init c = (omega arith, copied_none _ _ _ _)
+
+pub bounds-p-j : goal.bounds-p-j
+bounds-p-j c = omega (arith, c.loop-j-test.true, c.requires.0)
+
+pub overflow_add-head : goal.overflow_add-head
+overflow_add-head c =
+    let t = c.loop-j-test.true in
+    let l = c.requires.1 (omega arith) in
+    omega arith
+
+pub bounds-head-from : goal.bounds-head-from
+bounds-head-from c =
+    let t = c.loop-j-test.true in
+    let l = c.requires.1 (omega arith) in
+    omega arith
+
+pub overflow_add-j : goal.overflow_add-j
+overflow_add-j c =
+    let t = c.loop-j-test.true in
+    let l = c.requires.1 (omega arith) in
+    omega arith
+
+pub loop-j-smaller : goal.loop-j-smaller
+loop-j-smaller c = let t = c.loop-j-test.true in omega arith
+
+pub loop-j-preserved : goal.loop-j-preserved
+loop-j-preserved c =
+    let t = c.loop-j-test.true in
+    let l = c.requires.1 (omega arith) in
+    (omega arith, copied_next _ _ _ _ _ _ c.loop-j.invariant.1 refl (omega arith) (omega arith))
+
+pub returns : goal.returns
+returns c =
+    let i = c.loop-j.invariant in
+    let e : c.loop-j.j ≡ c.args.end = omega (arith, i.0, c.loop-j-test.false) in
+    rw (← e) i.1
