@@ -18,4 +18,4 @@ returns c =
     open_good _ _ _ _ _ c.description-d.ensures c.description_breaks-fault.ensures c.if-fault-ne0.false b.0 b.1 b.2
     b.3
     (ap (λ (s : State). s.count) s) (ap (λ (s : State). s.zones) s) (ap (λ (s : State). s.last) s)
-    (λ c h. rw s (c.first_claims.ensures c h))
+    (λ k h. rw s (c.first_claims.ensures k h))

@@ -3,7 +3,6 @@
 use Prim.Native.Nat.{ℕ, suc, ◌+◌, ◌*◌, ◌-◌, ◌≤◌}
 use native.Mathlib.Omega.{arith}
 use mathlib.Core.Path.{◌≡◌, refl, sym, ◌∙◌, ap}
-use mathlib.Core.Logic.{⊎_elim}
 use mathlib.Core.Bool.{true, and-false}
 use lib.Dec.{eqb}
 use lib.ListN.{length}
@@ -14,6 +13,7 @@ use Rattle.blocks.proofs.Stepping.{stays, turn}
 use Rattle.blocks.proofs.EachKind.{speed_law}
 use Rattle.blocks.proofs.Standing.{Stands, moved, stayed, onward, emptied, unfilled_part}
 use Rattle.blocks.proofs.read_speed_blocks.Goals as goal
+use Rattle.blocks.proofs.read_speed_blocks.Goals.{then-end-p, else-end-p}
 
 pub returns-then-p-le1 : goal.returns-then-p-le1
 returns-then-p-le1 c =
@@ -43,8 +43,11 @@ loop-n-preserved c =
     let pairs = c.if-entries-eq0.false in (
       omega arith,
       sym (turn 1 p 6 l.n _ _ c.loop-n-test.true (onward p _ _ s pairs _ next)) ∙ l.invariant.1,
-      ⊎_elim (λ v. rw v.1 (moved p _ v.0.taken)) (λ v. rw v.1 (stayed p _ _ s pairs _ next v.0.left)) c.if-end-p.branch,
-      ⊎_elim (λ v. omega (arith, v.1, w.1)) (λ v. omega (arith, v.1)) c.if-end-p.branch,
+      elim c.if-end-p.branch [
+        then-end-p v ↦ rw v.at-is (moved p _ v.if-end-p.true)
+      | else-end-p v ↦ rw v.at-is (stayed p _ _ s pairs _ next v.if-end-p.false)
+      ],
+      elim c.if-end-p.branch [ then-end-p v ↦ omega (arith, v.at-is, w.1) | else-end-p v ↦ omega (arith, v.at-is) ],
       omega (arith, w.1),
     )
 

@@ -54,7 +54,7 @@ returns-in-14 c = listed 14 c.in-14.is refl
 
 pub returns-in_default : goal.returns-in_default
 returns-in_default c =
-    let m = c.in-1.rest in
+    let m = c.in_default.in_default-own.rest in
     let n = not_known _
     m.0.0.0.0.0.0.0.0.0.0.0.0.0.1
     m.0.0.0.0.0.0.0.0.0.0.0.0.1

@@ -11,19 +11,6 @@ use Rattle.comparing.proofs.Going.{Agreed, agreed, refused_so, second_refused_le
 use Rattle.comparing.proofs.Going.{space, turned, nearer, whole}
 use Rattle.comparing.proofs.compare.Goals as goal
 
--- both :
---     (e : tie.After-enum-told3 invariant-loop decreases-loop)
---     → Agreed e.before.before.before.before.before.before.before.before.before.before.args.chip
---     e.before.before.before.before.before.before.before.before.before.before.args.one.now
---     e.before.before.before.before.before.before.before.before.before.before.args.two.now
--- both e =
---     let k = e.before.before in
---     let r = k.before in
---     let e₁ = r.before in
---     let k₁ = e₁.before.before in
---     agreed _ _ _ k₁.before.archived.ensures k₁.check.ensures e₁.enum_told.given.1 r.archived2.ensures
---     k.check2.ensures e.enum-told3.given.1
-
 pub returns-in_default : goal.returns-in_default
 returns-in_default c =
     first_refused (refused_so _ _ c.archived.ensures
@@ -37,7 +24,7 @@ returns-in_default-other c =
 
 pub put_rows-end-requires : goal.put_rows-end-requires
 put_rows-end-requires c =
-    let g = both c in
+    let g = agreed _ _ _ c.archived.ensures c.check-answer.ensures c.in-Accepted.is c.archived-2.ensures c.check-other.ensures c.in-Accepted-other.is in
     (omega (arith, enough _ _ _ g, c.put_rows-arg-1.given), omega arith, omega arith, omega arith)
 
 pub loop-a-init : goal.loop-a-init
@@ -45,7 +32,7 @@ loop-a-init c = λ k g. going_begun k _ _ g _ _
 
 pub put_next-end-requires : goal.put_next-end-requires
 put_next-end-requires c =
-    let g = both c in
+    let g = agreed _ _ _ c.archived.ensures c.check-answer.ensures c.in-Accepted.is c.archived-2.ensures c.check-other.ensures c.in-Accepted-other.is in
     let w = c.loop-a.invariant _ g in (
       _,
       x _ _ _ g w,
@@ -59,19 +46,19 @@ put_next-end-requires c =
 
 pub after-a-requires : goal.after-a-requires
 after-a-requires c =
-    let g = both c in
+    let g = agreed _ _ _ c.archived.ensures c.check-answer.ensures c.in-Accepted.is c.archived-2.ensures c.check-other.ensures c.in-Accepted-other.is in
     let w = c.loop-a.invariant _ g in
     (_, x _ _ _ g w, there _ _ _ g w)
 
 pub after-b-requires : goal.after-b-requires
 after-b-requires c =
-    let g = both c in
+    let g = agreed _ _ _ c.archived.ensures c.check-answer.ensures c.in-Accepted.is c.archived-2.ensures c.check-other.ensures c.in-Accepted-other.is in
     let w = c.loop-a.invariant _ g in
     (_, y _ _ _ g w, there' _ _ _ g w)
 
 pub loop-a-smaller : goal.loop-a-smaller
 loop-a-smaller c =
-    let g = both c in
+    let g = agreed _ _ _ c.archived.ensures c.check-answer.ensures c.in-Accepted.is c.archived-2.ensures c.check-other.ensures c.in-Accepted-other.is in
     let w = c.loop-a.invariant _ g in
     nearer _ _ _ g w c.loop-a-test.true (c.after-a.ensures _ (x _ _ _ g w) (there _ _ _ g w))
     (c.after-b.ensures _ (y _ _ _ g w) (there' _ _ _ g w))
@@ -85,5 +72,5 @@ loop-a-preserved c =
 
 pub returns : goal.returns
 returns c =
-    let g = both c in
+    let g = agreed _ _ _ c.archived.ensures c.check-answer.ensures c.in-Accepted.is c.archived-2.ensures c.check-other.ensures c.in-Accepted-other.is in
     whole _ _ _ g (c.loop-a.invariant _ g) c.loop-a-test.false c.put_rows-end.ensures

@@ -20,5 +20,5 @@ returns-in-13 c = rw c.in-13.is
 
 pub returns-in_default : goal.returns-in_default
 returns-in_default c =
-    let m = c.in-9.rest in
+    let m = c.in_default.in_default-own.rest in
     simp (ne_eqb _ 9 m.0.0.0.0.1, ne_eqb _ 10 m.0.0.0.1, ne_eqb _ 11 m.0.0.1, ne_eqb _ 12 m.0.1, ne_eqb _ 13 m.1)

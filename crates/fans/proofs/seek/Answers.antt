@@ -16,10 +16,6 @@ pub overflow_add-to : goal.overflow_add-to
 overflow_add-to c =
     omega (arith, c.length_at.ensures, room _ _ _ _ c.loop-at.invariant c.requires c.loop-at-test.true)
 
-pub slice-bounds-step-end : goal.slice-bounds-step-end
-slice-bounds-step-end c =
-    omega (arith, c.length_at.ensures, room _ _ _ _ c.loop-at.invariant c.requires c.loop-at-test.true)
-
 pub step-v-requires : goal.step-v-requires
 step-v-requires c =
     visitable _ _ _ _ c.loop-at.invariant c.requires c.loop-at-test.true c.length_at.ensures
@@ -40,3 +36,7 @@ loop-at-preserved c =
 
 pub returns : goal.returns
 returns c = not_there _ _ _ _ c.loop-at.invariant c.loop-at-test.false
+
+pub slice_bounds-step-end : goal.slice_bounds-step-end
+slice_bounds-step-end c =
+    omega (arith, c.length_at.ensures, room _ _ _ _ c.loop-at.invariant c.requires c.loop-at-test.true)

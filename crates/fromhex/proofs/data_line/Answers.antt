@@ -19,15 +19,15 @@ slice_bounds-sends-end-2 c = sym (length-take-le _ _ (omega arith))
 pub sends-requires : goal.sends-requires
 sends-requires c =
     let n = c.pair_at-n.result in
-    omega (arith, length-take-le n c.read_bytes_lem.new.1.1.0 (omega arith))
+    omega (arith, length-take-le n c.read_bytes.new.into (omega arith))
 
 pub returns-then-sends : goal.returns-then-sends
 returns-then-sends c =
     let same = rw c.if-sends.true at c.sends.ensures in
-    (judged _ _ _ (omega arith) c.read_bytes_lem.ensures (omega arith) (omega (arith, c.if-n-eq0.false)) (omega arith) same, omega arith)
+    (judged _ _ _ (omega arith) c.read_bytes.ensures (omega arith) (omega (arith, c.if-n-eq0.false)) (omega arith) same, omega arith)
 
 pub returns-else-sends : goal.returns-else-sends
 returns-else-sends c =
     let size = sym c.pair_at-n.ensures in
     let other = rw c.if-sends.false at c.sends.ensures in
-    (misjudged _ _ _ (omega arith) c.read_bytes_lem.ensures size other, omega arith)
+    (misjudged _ _ _ (omega arith) c.read_bytes.ensures size other, omega arith)

@@ -27,7 +27,7 @@ slice_bounds-keep-end c = sym (length-take-le _ _ (omega arith))
 pub keep-requires : goal.keep-requires
 keep-requires c =
     let d = c.data_line-n in
-    omega (arith, length-take-le d.result d.new.1.1.0 (omega arith))
+    omega (arith, length-take-le d.result d.new.into (omega arith))
 
 pub loop-into-smaller : goal.loop-into-smaller
 loop-into-smaller c =

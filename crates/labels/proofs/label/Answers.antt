@@ -8,9 +8,6 @@ use Rattle.labels.proofs.label.Goals as goal
 pub overflow_add-end : goal.overflow_add-end
 overflow_add-end c = omega (arith, found_room _ _ _ _ c.find.ensures c.in-Text.is)
 
-pub slice-bounds-result-end : goal.slice-bounds-result-end
-slice-bounds-result-end c = omega (arith, found_room _ _ _ _ c.find.ensures c.in-Text.is)
-
 pub returns-in-Text : goal.returns-in-Text
 returns-in-Text c = text_labelled _ _ _ _ c.find.ensures c.in-Text.is _
 
@@ -19,3 +16,6 @@ returns-in-Lent c = lent_labelled _ _ _ _ c.find.ensures c.in-Lent.is _
 
 pub returns-in-Refused : goal.returns-in-Refused
 returns-in-Refused c = none_labelled _ _ _ _ c.find.ensures c.in-Refused.is _
+
+pub slice_bounds-result-end : goal.slice_bounds-result-end
+slice_bounds-result-end c = omega (arith, found_room _ _ _ _ c.find.ensures c.in-Text.is)

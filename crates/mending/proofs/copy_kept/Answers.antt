@@ -25,12 +25,6 @@ run_from-run-requires c = (c.requires.list, c.loop-i-test.true)
 pub slice_bounds-copy_into-count : goal.slice_bounds-copy_into-count
 slice_bounds-copy_into-count c = omega (arith, c.run_from-run.ensures.low)
 
-pub slice-bounds-copy-into-start : goal.slice-bounds-copy-into-start
-slice-bounds-copy-into-start c = omega (arith, c.run_from-run.ensures.low, c.run_from-run.ensures.inside)
-
-pub slice-bounds-copy-into-end : goal.slice-bounds-copy-into-end
-slice-bounds-copy-into-end c = omega (arith, c.run_from-run.ensures.low, c.run_from-run.ensures.inside)
-
 pub copy_into-requires : goal.copy_into-requires
 copy_into-requires c =
     (run_room _ _ _ _ _ c.run_from-run.ensures _ _ _ c.loop-i.invariant.2 c.requires.room).0
@@ -50,7 +44,7 @@ loop-i-smaller c =
 pub loop-i-preserved : goal.loop-i-preserved
 loop-i-preserved c =
     (
-      omega (arith, c.out-1.given, c.loop-i.invariant.0),
+      omega (arith, c.loop-i.invariant.0),
       c.run_from-run.ensures.most,
       run_put _ _ _ _ _ c.run_from-run.ensures _ _ _ c.loop-i.invariant.2 c.requires.room _
           c.copy_into.ensures,

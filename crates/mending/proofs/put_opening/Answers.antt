@@ -14,9 +14,7 @@ pub shape_of-out-then-cleared : goal.shape_of-out-then-cleared
 shape_of-out-then-cleared c =
     omega (
       arith,
-      length-set c.put_length.new.0 4 0,
-      c.out-2-1.given,
-      c.out-1.given,
+      length-set c.put_length.new.buf 4 0,
     )
 
 pub returns-then-cleared : goal.returns-then-cleared

@@ -4,7 +4,7 @@ use borrow.Author.Rules.{rules}
 use Rattle.numbers.proofs.element.Goals as goal
 
 pub returns-then-id : goal.returns-then-id
-returns-then-id c = rw (c.if-id.true, c.of_kind_lem.ensures, c.chip_of.ensures)
+returns-then-id c = rw (c.if-id.true, c.of_kind.ensures, c.chip_of.ensures)
 
 pub returns : goal.returns
 returns c = rw c.if-id.false

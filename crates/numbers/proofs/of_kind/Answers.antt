@@ -45,7 +45,7 @@ returns-in-13 c = rw (c.in-13.is, c.external.ensures)
 
 pub returns-in_default : goal.returns-in_default
 returns-in_default c =
-    let m = c.in-1.rest in
+    let m = c.in_default.in_default-own.rest in
     simp (
       ne_eqb _ 1 m.0.0.0.0.0.0.0.0.0.0.0.0.1,
       ne_eqb _ 2 m.0.0.0.0.0.0.0.0.0.0.0.1,

@@ -9,10 +9,9 @@ use Rattle.parts.proofs.block_at.Goals as goal
 pub returns-in-Entries : goal.returns-in-Entries
 returns-in-Entries c =
     let l = c.list_at-found in
-    let n = c.found-1.given in
-    with_speed_lem c.args.r.now c.past.result.now (Entries n.0.0) c.byte_at-speed.ensures
+    with_speed_lem c.args.r.now c.past.result.now _ c.byte_at-speed.ensures
     c.past.ensures
-    (sym n.1 ∙ l.ensures)
+    (sym c.in-Entries.is ∙ l.ensures)
 
 pub returns-in-Nothing : goal.returns-in-Nothing
 returns-in-Nothing c =

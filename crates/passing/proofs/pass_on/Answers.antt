@@ -28,12 +28,6 @@ loop-way-init c =
 pub slice_bounds-turn-count : goal.slice_bounds-turn-count
 slice_bounds-turn-count c = omega (arith, c.loop-way.invariant.0.within)
 
-pub slice-bounds-turn-start : goal.slice-bounds-turn-start
-slice-bounds-turn-start c = omega (arith, c.loop-way.invariant.0.within)
-
-pub slice-bounds-turn-end : goal.slice-bounds-turn-end
-slice-bounds-turn-end c = omega (arith, c.loop-way.invariant.0.within)
-
 pub turn-r-requires : goal.turn-r-requires
 turn-r-requires c =
     let i = c.loop-way.invariant.0 in

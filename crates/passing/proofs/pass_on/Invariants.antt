@@ -20,11 +20,11 @@ use Rattle.passing.proofs.pass_on.Given as goal
 
 abbrev pub invariant-loop-way : goal.invariant-loop-way
 invariant-loop-way l =
-    Onto l.p (record { taken = l.from; l.way = l.way })
+    Onto l.p (record { taken = l.from; way = l.way })
     × ((d : Description) (before : List Record) (at : ℕ) (u : List ℕ)
     → Bytes l.p
     → On d l.initial.way l.initial.head (flags l.initial.zs l.initial.ss l.initial.zu l.initial.su) l.initial.zp l.initial.sp before at u
-    → Turned l.settings d (going before at u) l.p (record { taken = l.from; l.way = l.way }) l.head (flags l.zs l.ss l.zu l.su) l.zp l.sp)
+    → Turned l.settings d (going before at u) l.p (record { taken = l.from; way = l.way }) l.head (flags l.zs l.ss l.zu l.su) l.zp l.sp)
 
 abbrev pub decreases-loop-way : goal.decreases-loop-way
 decreases-loop-way l = length l.p - l.from

@@ -6,7 +6,7 @@ use Rattle.reader.proofs.plain.Goals as goal
 pub returns : goal.returns
 returns c =
     rw (
-      c.type-inv.ensures,
+      c.typed.ensures,
       c.powered.ensures,
       c.unused.ensures,
       c.unused-2.ensures,

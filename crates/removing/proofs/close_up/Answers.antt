@@ -14,7 +14,7 @@ use Rattle.removing.proofs.close_up.Goals as goal
 pub returns : goal.returns
 returns c =
     let b = c.args.t.now in
-    let u = c.move_down.new.0 in
+    let u = c.move_down.new.t in
     let l : length u - c.args.n ≡ length b - c.args.n = omega arith in (
       l,
       c.put_length.ensures

@@ -14,6 +14,6 @@ returns c =
       c.or_else.ensures,
       c.strapped.ensures,
       c.powered.ensures,
-      c.type-inv.ensures,
+      c.typed.ensures,
     )
     (simp numbering)

@@ -14,64 +14,53 @@ use Rattle.salvaging.proofs.Salvaging.{sound_there, taken_there, refused_24, no_
 use Rattle.salvaging.proofs.Lonely.{nothing, no_kept, no_log, alone_decided, alone_put, no_lines}
 use Rattle.salvaging.proofs.salvage.Goals as goal
 
--- small : (e : tie.Else1) → Bytes e.before.before.before.before.before.args.file.now
--- small e i = omega (arith, e.before.before.before.before.shared-slice-known.given i)
--- 
--- -- the description is sound
-
--- good : (e : tie.Else1) → salvageable e.before.before.before.before.before.args.chip e.before.before.taken.result.now ≡ true
--- good e = sym e.before.sound.ensures ∙ not-false _ e.if1.false
-
--- sound-is : (e : tie.Else1) → Salvageable e.before.before.before.before.before.args.chip e.before.before.taken.result.now
--- sound-is e = (salvageable_says _ _).0 (good e)
-
 pub returns-then-not-sound : goal.returns-then-not-sound
 returns-then-not-sound c =
     refused_24 _ _ _ _
     (sound_there _ c.args.file.now _ c.taken-t.ensures _ c.sound.ensures ∙ not-true _ c.if-not-sound.true-raw)
 
 pub alone-requires : goal.alone-requires
-alone-requires c = (sound-is c).long
+alone-requires c = ((salvageable_says c.args.chip c.taken-t.result.now).0 (sym c.sound.ensures ∙ not-false _ c.if-not-sound.false-raw)).long
 
 pub returns-then-out-lt16 : goal.returns-then-out-lt16
 returns-then-out-lt16 c =
-    no_room _ c.args.file.now _ _ c.args.lines.now c.taken-t.ensures (small c) (good c) nothing no_kept no_log
+    no_room _ c.args.file.now _ _ c.args.lines.now c.taken-t.ensures (λ i. omega (arith, c.type_inv.file i)) (sym c.sound.ensures ∙ not-false _ c.if-not-sound.false-raw) nothing no_kept no_log
     (alone_decided _ _ (c.alone.ensures c.if-alone.true)) c.if-out-lt16.true
 
 pub put_opening-requires : goal.put_opening-requires
 put_opening-requires c =
-    let t = taken_there c.args.chip c.args.file.now _ c.taken-t.ensures (small c) in
-    ((sound-is c).long, t.1, (sound-is c).revised, omega (arith, c.if-out-lt16.false), omega arith)
+    let t = taken_there c.args.chip c.args.file.now _ c.taken-t.ensures (λ i. omega (arith, c.type_inv.file i)) in
+    (((salvageable_says c.args.chip c.taken-t.result.now).0 (sym c.sound.ensures ∙ not-false _ c.if-not-sound.false-raw)).long, t.1, ((salvageable_says c.args.chip c.taken-t.result.now).0 (sym c.sound.ensures ∙ not-false _ c.if-not-sound.false-raw)).revised, omega (arith, c.if-out-lt16.false), omega arith)
 
 pub returns-then-alone : goal.returns-then-alone
 returns-then-alone c =
     let a = c.alone.ensures c.if-alone.true in
-    salvaged_there _ c.args.file.now _ _ c.args.lines.now c.taken-t.ensures (small c) (good c) nothing no_kept
+    salvaged_there _ c.args.file.now _ _ c.args.lines.now c.taken-t.ensures (λ i. omega (arith, c.type_inv.file i)) (sym c.sound.ensures ∙ not-false _ c.if-not-sound.false-raw) nothing no_kept
     no_log (alone_decided _ _ a) c.if-out-lt16.false (alone_put _ _ a c.put_opening.ensures)
     (no_lines _)
 
 pub decide-plan-requires : goal.decide-plan-requires
 decide-plan-requires c =
-    let t = taken_there c.args.chip c.args.file.now _ c.taken-t.ensures (small c) in
-    (t.0, t.1, good c, length-replicate {A = ℕ} 96 0, length-replicate {A = ℕ} 1649 0)
+    let t = taken_there c.args.chip c.args.file.now _ c.taken-t.ensures (λ i. omega (arith, c.type_inv.file i)) in
+    (t.0, t.1, (sym c.sound.ensures ∙ not-false _ c.if-not-sound.false-raw), length-replicate {A = ℕ} 96 0, length-replicate {A = ℕ} 1649 0)
 
 pub returns-then-out-plan : goal.returns-then-out-plan
 returns-then-out-plan c =
-    no_room _ c.args.file.now _ _ c.args.lines.now c.taken-t.ensures (small c) (good c) _ _ _
+    no_room _ c.args.file.now _ _ c.args.lines.now c.taken-t.ensures (λ i. omega (arith, c.type_inv.file i)) (sym c.sound.ensures ∙ not-false _ c.if-not-sound.false-raw) _ _ _
     c.decide-plan.ensures c.if-out-plan.true
 
 pub put_table-requires : goal.put_table-requires
 put_table-requires c =
-    room_there _ c.args.file.now _ _ c.args.lines.now c.taken-t.ensures (small c) (good c) _ _ _
+    room_there _ c.args.file.now _ _ c.args.lines.now c.taken-t.ensures (λ i. omega (arith, c.type_inv.file i)) (sym c.sound.ensures ∙ not-false _ c.if-not-sound.false-raw) _ _ _
     c.decide-plan.ensures c.if-out-plan.false
 
 pub put_lines-end-requires : goal.put_lines-end-requires
 put_lines-end-requires c =
-    lines_there _ c.args.file.now _ c.args.out.now c.args.lines.now c.taken-t.ensures (small c) (good c)
+    lines_there _ c.args.file.now _ c.args.out.now c.args.lines.now c.taken-t.ensures (λ i. omega (arith, c.type_inv.file i)) (sym c.sound.ensures ∙ not-false _ c.if-not-sound.false-raw)
     _ _ _ c.decide-plan.ensures
 
 pub returns : goal.returns
 returns c =
-    salvaged_there _ c.args.file.now _ _ c.args.lines.now c.taken-t.ensures (small c) (good c) _ _ _
+    salvaged_there _ c.args.file.now _ _ c.args.lines.now c.taken-t.ensures (λ i. omega (arith, c.type_inv.file i)) (sym c.sound.ensures ∙ not-false _ c.if-not-sound.false-raw) _ _ _
     c.decide-plan.ensures c.if-out-plan.false
     c.put_table.ensures c.put_lines-end.ensures

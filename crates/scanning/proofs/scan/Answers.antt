@@ -11,24 +11,6 @@ use Rattle.scanning.proofs.Scanning.{Scanning, begun, low, ended, filled, turned
 use Rattle.scanning.proofs.scan.Goals as goal
 
 -- pub record Known (e : tie.Else3 invariant-loop decreases-loop) : Type 0 where
---   pub low : 3 ≤ e.before.before.before.before.length_at.result
---   pub inside : e.before.before.before.before.before.before.loop.at + e.before.before.before.before.length_at.result ≤ length
---       e.before.before.before.before.before.before.before.before.before.args.t.now
---   pub top : length e.before.before.before.before.before.before.before.before.before.args.t.now ≤ 4096
---   pub behind : e.before.before.before.before.before.before.loop.end ≤ e.before.before.before.before.before.before.loop.at
---   pub lines : 3 * e.before.before.before.before.before.before.loop.n.lines + 16 ≤
---       e.before.before.before.before.before.before.loop.at
-
--- known : (e : tie.Else3 invariant-loop decreases-loop) → Known e
--- known e =
---     let l = e.before.before.before.before.before.before in
---     record {
---       low = e.before.before.before.if1.false;
---       inside = omega (arith, e.before.before.if2.false, l.loop.invariant.0);
---       top = l.before.before.before.requires.1;
---       behind = l.loop.invariant.1.behind;
---       lines = l.loop.invariant.1.few_lines;
---     }
 
 pub loop-at-init : goal.loop-at-init
 loop-at-init c =
@@ -62,38 +44,36 @@ returns-then-n-ge96 c =
     let q = c.summed-then-n-ge96.ensures in
     filled _ _ _ _ _ _ _ _ _ i.1 _ q.0 q.1 i.0 c.requires.1 c.if-n-ge96.true
 
--- what is known of the element at a place, once no test has stopped the loop
-
 pub overflow_add-next : goal.overflow_add-next
-overflow_add-next c = omega (arith, known c)
+overflow_add-next c = omega (arith, c.loop-at.invariant.1.behind, c.loop-at.invariant.1.few_lines, c.if-left-len.false, c.if-len-lt3.false)
 
 pub walk-r-requires : goal.walk-r-requires
 walk-r-requires c =
     let n =
     length-slice c.loop-at.at (c.loop-at.at + c.length_at-len.result)
     c.args.t.now
-    (known c).inside in
-    (omega (arith, known c, n), low _ _ _ _ _ _ _ _ _ c.loop-at.invariant.1)
+    (omega (arith, c.if-left-len.false, c.loop-at.invariant.0)) in
+    (omega (arith, c.loop-at.invariant.1.behind, c.loop-at.invariant.1.few_lines, c.if-left-len.false, c.if-len-lt3.false, n), low _ _ _ _ _ _ _ _ _ c.loop-at.invariant.1)
 
 pub settle-n-requires : goal.settle-n-requires
 settle-n-requires c =
-    omega (arith, known c, c.if-n-ge96.false)
+    omega (arith, c.loop-at.invariant.1.behind, c.loop-at.invariant.1.few_lines, c.if-left-len.false, c.if-len-lt3.false, c.if-n-ge96.false)
 
 pub overflow_add-end : goal.overflow_add-end
 overflow_add-end c =
-    omega (arith, known c, c.grown-end.ensures.2)
+    omega (arith, c.loop-at.invariant.1.behind, c.loop-at.invariant.1.few_lines, c.if-left-len.false, c.if-len-lt3.false, c.grown-end.ensures.2)
 
 pub loop-at-smaller : goal.loop-at-smaller
 loop-at-smaller c =
-    omega (arith, known c)
+    omega (arith, c.loop-at.invariant.1.behind, c.loop-at.invariant.1.few_lines, c.if-left-len.false, c.if-len-lt3.false)
 
 pub loop-at-preserved : goal.loop-at-preserved
 loop-at-preserved c =
     let i = c.loop-at.invariant in
     (
-      omega (arith, known c),
-      turned _ _ _ _ _ _ _ _ _ i.1 c.requires.2 _ c.length_at-len.ensures (known c).low
-          (omega (arith, known c)) i.0 (omega (arith, c.if-n-ge96.false)) c.walk-r.result _ c.walk-r.ensures _
+      omega (arith, c.loop-at.invariant.1.behind, c.loop-at.invariant.1.few_lines, c.if-left-len.false, c.if-len-lt3.false),
+      turned _ _ _ _ _ _ _ _ _ i.1 c.requires.2 _ c.length_at-len.ensures c.if-len-lt3.false
+          (omega (arith, c.loop-at.invariant.1.behind, c.loop-at.invariant.1.few_lines, c.if-left-len.false, c.if-len-lt3.false)) i.0 (omega (arith, c.if-n-ge96.false)) c.walk-r.result _ c.walk-r.ensures _
           c.fate_of.ensures
           _ _ _ c.settle-n.ensures _ c.grown-end.ensures,
     )
@@ -106,4 +86,4 @@ returns c =
     (unframed_short c.args.t.now c.loop-at.at (omega (arith, c.loop-at-test.false)))
 
 pub slice_bounds-walk-end : goal.slice_bounds-walk-end
-slice_bounds-walk-end c = omega (arith, known c)
+slice_bounds-walk-end c = omega (arith, c.loop-at.invariant.1.behind, c.loop-at.invariant.1.few_lines, c.if-left-len.false, c.if-len-lt3.false)

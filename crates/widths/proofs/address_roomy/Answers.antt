@@ -11,5 +11,5 @@ returns-in-Bus c = rw c.in-Bus.is (bus_roomy (ltb c.args.bus 16) (ltb c.in-Bus.n
 
 pub returns-in-Select : goal.returns-in-Select
 returns-in-Select c =
-    let g = rw c.in-Select.is at c.well-formed in
+    let g = rw c.in-Select.is at c.well_formed in
     rw c.in-Select.is (select_roomy (ltb c.args.bus 16) c.in-Select.field-0.0 (omega arith))

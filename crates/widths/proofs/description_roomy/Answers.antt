@@ -7,6 +7,6 @@ use Rattle.widths.proofs.description_roomy.Goals as goal
 
 pub returns : goal.returns
 returns c =
-    let g = c.well-formed in
+    let g = c.well_formed in
     description_roomy_lem c.args.d (omega arith) (omega arith) c.pin_roomy.ensures c.pin_roomy-2.ensures
     c.pin_roomy-3.ensures

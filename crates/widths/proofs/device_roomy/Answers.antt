@@ -7,5 +7,5 @@ use Rattle.widths.proofs.device_roomy.Goals as goal
 
 pub returns : goal.returns
 returns c =
-    let g = c.well-formed in
+    let g = c.well_formed in
     device_roomy_lem c.args.d _ (omega arith, omega arith, omega arith, omega arith, omega arith) c.address_roomy.ensures

@@ -7,7 +7,7 @@ use Rattle.widths.proofs.digital_roomy.Goals as goal
 
 pub returns : goal.returns
 returns c =
-    let f = c.well-formed.0.1.1 in
+    let f = c.well_formed.0.1.1 in
     digital_roomy_lem c.args.d _
     (omega (arith, f.0), omega (arith, f.0), omega (arith, f.0), omega (arith, f.0), omega (arith, f.0))
     (omega (arith, f.1.1.1.0)) (omega (arith, f.1.1.1.1.0)) (omega (arith, f.1.1.1.1.1.0))

@@ -19,7 +19,7 @@ returns-in-Led c = rw c.in-Led.is c.led_roomy.ensures
 
 pub returns-in-Water : goal.returns-in-Water
 returns-in-Water c =
-    let g = rw c.in-Water.is at c.well-formed in
+    let g = rw c.in-Water.is at c.well_formed in
     rw c.in-Water.is
     (water_roomy c.in-Water.field-0 (omega arith, omega arith, omega arith, omega arith, omega arith)
     (omega arith) (omega arith) (omega arith) (omega arith))
@@ -29,14 +29,14 @@ returns-in-Pump c = rw c.in-Pump.is c.fan_roomy-in-Pump.ensures.1
 
 pub returns-in-Voltage : goal.returns-in-Voltage
 returns-in-Voltage c =
-    let g = rw c.in-Voltage.is at c.well-formed in
+    let g = rw c.in-Voltage.is at c.well_formed in
     rw c.in-Voltage.is
     (voltage_roomy c.in-Voltage.field-0 (omega arith, omega arith, omega arith, omega arith, omega arith)
     (omega arith) (omega arith) (omega arith))
 
 pub returns-in-Current : goal.returns-in-Current
 returns-in-Current c =
-    let g = rw c.in-Current.is at c.well-formed in
+    let g = rw c.in-Current.is at c.well_formed in
     rw c.in-Current.is
     (current_roomy c.in-Current.field-0 (omega arith, omega arith, omega arith, omega arith, omega arith)
     (omega arith) (omega arith) (omega arith))
@@ -52,7 +52,7 @@ returns-in-External c = rw c.in-External.is c.external_roomy.ensures
 
 pub returns-in-Rgb : goal.returns-in-Rgb
 returns-in-Rgb c =
-    let g = rw c.in-Rgb.is at c.well-formed in
+    let g = rw c.in-Rgb.is at c.well_formed in
     rw c.in-Rgb.is
     (rgb_roomy c.in-Rgb.field-0 (omega arith, omega arith, omega arith, omega arith, omega arith)
     (omega arith) (omega arith) (omega arith))

@@ -7,7 +7,7 @@ use Rattle.widths.proofs.external_roomy.Goals as goal
 
 pub returns : goal.returns
 returns c =
-    let f = c.well-formed.0.1.1 in
+    let f = c.well_formed.0.1.1 in
     let p = f.0.1.1.0 in
     external_roomy_lem c.args.x _ (omega (arith, p), omega (arith, p), omega (arith, p), omega (arith, p), omega (arith, p))
     (omega (arith, f.1.0))

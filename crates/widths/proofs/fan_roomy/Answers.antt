@@ -7,7 +7,7 @@ use Rattle.widths.proofs.fan_roomy.Goals as goal
 
 pub returns : goal.returns
 returns c =
-    let f = c.well-formed.0.1.1 in
+    let f = c.well_formed.0.1.1 in
     fan_roomy_lem c.args.f (omega (arith, f.0), omega (arith, f.0), omega (arith, f.0), omega (arith, f.0), omega (arith, f.0))
     (omega (arith, f.1.0)) c.pin_roomy.ensures (omega (arith, f.1.1.1.0)) (omega (arith, f.1.1.1.1.0))
     (omega (arith, f.1.1.1.1.1.0)) (omega (arith, f.1.1.1.1.1.1.0))

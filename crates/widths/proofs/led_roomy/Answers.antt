@@ -7,6 +7,6 @@ use Rattle.widths.proofs.led_roomy.Goals as goal
 
 pub returns : goal.returns
 returns c =
-    let f = c.well-formed.0.1.1 in
+    let f = c.well_formed.0.1.1 in
     led_roomy_lem c.args.l (omega (arith, f.0), omega (arith, f.0), omega (arith, f.0), omega (arith, f.0), omega (arith, f.0))
     c.lamp_roomy.ensures c.lamp_roomy-2.ensures c.lamp_roomy-3.ensures

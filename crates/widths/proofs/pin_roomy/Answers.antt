@@ -11,5 +11,5 @@ returns-in-Unused c = rw c.in-Unused.is refl
 
 pub returns-in-Used : goal.returns-in-Used
 returns-in-Used c =
-    let g = rw c.in-Used.is at c.well-formed in
+    let g = rw c.in-Used.is at c.well_formed in
     rw c.in-Used.is (sym (lt-ltb c.in-Used.field-0.0 256 (omega arith)))

@@ -47,7 +47,8 @@ returns-in-7 c = (rw c.in-7.is, omega arith)
 pub returns-in_default : goal.returns-in_default
 unfolding reading
 returns-in_default c =
-    let m = c.in-0.rest in (
+    let m = c.in_default.in_default-own.rest in
+    (
       simp (
         ne_eqb _ 0 m.0.0.0.0.0.0.0.1,
         ne_eqb _ 1 m.0.0.0.0.0.0.1,
