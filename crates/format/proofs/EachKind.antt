@@ -9,7 +9,7 @@ use mathlib.Core.List.{List, [], ◌∷◌, ◌++◌, map}
 use lib.Dec.{eqb, leb}
 use borrow.Author.Tests.{eqb-true, not-true, leb-true, leb-false, le-leb, lt-leb}
 use Rattle.format.specs.Slots.{Slot, whole, bit, Holds, Fits}
-use Rattle.format.specs.Layout.{pin_slot, optional_pin_slot, address, device, placement, fixed, opening}
+use Rattle.format.specs.Layout.{pin_slot, optional_pin_slot, address, fixed, opening}
 use Rattle.format.specs.Pins.{same_chip, of_chip, standing}
 use Rattle.format.specs.Rules.{of_its_bus, of_its_device, of_its_kind, description_kind}
 use Rattle.format.specs.Records.{digital, analogue, fan, led, water, voltage, current, rgb}

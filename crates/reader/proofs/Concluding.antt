@@ -112,7 +112,7 @@ module _ (σ : Settings) (t : List ℕ) (s : State) (zs ss zu su : List Bool) (g
               → (c : Bool)
               → eqb i (byte t 4) ≡ c
               → among i (gathered string_named rs) ≡ true
-          other i h n y true x = 
+          other i h n y true x =
               let named_by : ℕ → Type 0 = λ m. among m (0 ∷ strings rs) ≡ true in
               absurd (false≢true (sym n ∙ subst named_by (sym (eqb-true i (byte t 4) x)) y))
           other i h n y false x = sym (ap (λ (c : Bool). c || among i (gathered string_named rs)) x) ∙ h

@@ -1,6 +1,6 @@
 -- What start, piece and end are to do, by the bytes that the state stands for.
 -- Assumes nothing.
-use Rattle.std.specs.Prelude.{ℕ, ◌+◌, ◌-◌, ◌<◌, ◌≤◌, ◌≡◌, List, [], ◌∷◌, ◌++◌, length, set, take, replicate}
+use Rattle.std.specs.Prelude.{ℕ, ◌-◌, ◌<◌, ◌≤◌, ◌≡◌, List, [], ◌∷◌, ◌++◌, length, set, take, replicate}
 use Rattle.format.specs.Slots.{byte, Bytes}
 use Rattle.format.specs.Answers.{value_of}
 use Rattle.format.specs.Decode.{read_description}

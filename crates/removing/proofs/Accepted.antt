@@ -1,7 +1,7 @@
 -- What the call's words say of the table that is left: it is accepted, with the other records in their order; the bytes past it are what
 -- they were; and a refusal alters nothing.
 -- Assumes nothing.
-use Prim.Native.Nat.{ℕ, suc, ◌-◌, ◌≤◌}
+use Prim.Native.Nat.{ℕ, suc, ◌≤◌}
 use native.Mathlib.Omega.{arith}
 use mathlib.Core.Path.{◌≡◌, refl, sym, ◌∙◌, ap, subst}
 use mathlib.Core.List.{List, ◌∷◌}

@@ -36,8 +36,8 @@ use Rattle.removal.proofs.Among.{not_so}
 use Rattle.removal.proofs.Claims.{part_uncontested}
 use Rattle.removal.proofs.Parts.{part_none}
 use Rattle.removal.proofs.Keeping.{opening_roomy}
-use Rattle.saving.specs.Saving.{At, Line, taken, is_none, sound, salvageable, Saved, saved, records, elements, passed, zoned}
-use Rattle.saving.specs.Saving.{string_indexes, mended_description, named, unclashed, in_zones, ending}
+use Rattle.saving.specs.Saving.{At, Line, taken, is_none, sound, salvageable, Saved, saved, records, passed, zoned}
+use Rattle.saving.specs.Saving.{string_indexes, mended_description, unclashed, in_zones, ending}
 use Rattle.saving.specs.Lines.{text_of, table_of, new_table, new_text, answer}
 use Rattle.saving.specs.declared.Salvaged.TheVariants.{Done, Refused}
 use Rattle.saving.proofs.Bounds.{table_short}

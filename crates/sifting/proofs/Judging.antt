@@ -17,7 +17,6 @@ use Rattle.places.proofs.Roles.{role_bytes}
 use Rattle.walking.specs.Walk.{Here}
 use Rattle.removal.proofs.Among.{In, in_one, within_all}
 use Rattle.saving.specs.Saving.{At, at_place, unindexed, by_zone, by_string}
-use Rattle.saving.specs.Saving as saving
 use Rattle.saving.proofs.Clearing.{Alike, alike_same, unindexed_alike, unindexed_named}
 use Rattle.fates.specs.Noted.{Keeps, as_kept, Tells}
 use Rattle.claims.specs.declared.Held.{Held}

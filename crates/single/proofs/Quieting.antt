@@ -26,7 +26,7 @@ use Rattle.passing.proofs.Resuming.{bytes_both}
 use Rattle.states.specs.Numbers.{number, way_of}
 use Rattle.advancing.specs.Advancing.{PlacedAt}
 use Rattle.advancing.specs.Quiet.{Plain, Plains, none_there, one_more, Quiet, QuietRun}
-use Rattle.single.specs.Single.{NextIs, QuietTo, LengthenIs, QuietNow, Longer}
+use Rattle.single.specs.Single.{NextIs, QuietTo, LengthenIs, QuietNow}
 use Rattle.single.proofs.Adding.{text_first, text_half, text_unit, marked_plain, beside, onward}
 
 abbrev even_so : ℕ → Under

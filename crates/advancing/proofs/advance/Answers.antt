@@ -1,7 +1,6 @@
 -- `advance` meets its contract, by whether there are bytes, the pass is stopped, and they are the first.
 -- Assumes nothing.
 use Rattle.advancing.proofs.Starting.{advance_none, advance_stopped, advance_after}
-use borrow.Author.Rules.{rules}
 use Rattle.advancing.proofs.advance.Goals as goal
 
 pub returns-then-q-eq0 : goal.returns-then-q-eq0

@@ -2,7 +2,6 @@
 -- Assumes nothing.
 use borrow.Author.Tests.{not-true, not-false}
 use Rattle.advancing.proofs.Placing.{goes_on, stands_still}
-use borrow.Author.Rules.{rules}
 use Rattle.advancing.proofs.go_on.Goals as goal
 
 pub returns-then-not-sound : goal.returns-then-not-sound

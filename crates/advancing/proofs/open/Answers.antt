@@ -3,7 +3,6 @@
 use mathlib.Core.Path.{ap}
 use Rattle.advancing.proofs.Starting.{open_bad, open_good}
 use Rattle.pass.specs.declared.State.{State}
-use borrow.Author.Rules.{rules}
 use Rattle.advancing.proofs.open.Goals as goal
 
 pub returns-then-fault-ne0 : goal.returns-then-fault-ne0

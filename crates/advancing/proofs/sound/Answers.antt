@@ -3,7 +3,6 @@
 use native.Mathlib.Omega.{arith}
 use mathlib.Core.Path.{refl}
 use Rattle.advancing.proofs.Starting.{sound_all, unsound}
-use borrow.Author.Rules.{rules}
 use Rattle.advancing.proofs.sound.Goals as goal
 
 pub returns-then-w-gt4097 : goal.returns-then-w-gt4097

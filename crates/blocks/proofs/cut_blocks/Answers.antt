@@ -1,11 +1,10 @@
 -- `cut_blocks` meets its contract. The loop's invariant: what is left of the steps leads from here to where all of them lead.
 -- Assumes nothing.
-use Prim.Native.Nat.{◌+◌, ◌*◌, ◌-◌, ◌≤◌}
+use Prim.Native.Nat.{◌-◌}
 use native.Mathlib.Omega.{arith}
 use mathlib.Core.Path.{◌≡◌, refl, sym, ◌∙◌}
 use mathlib.Core.Bool.{true}
 use borrow.Author.Rules.{rules}
-use Rattle.blocks.specs.Cutting.{cut_from}
 use Rattle.blocks.proofs.Stepping.{stays}
 use Rattle.blocks.proofs.Stepping.{turn}
 use Rattle.blocks.proofs.cut_blocks.Goals as goal

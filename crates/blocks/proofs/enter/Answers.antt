@@ -1,6 +1,5 @@
 -- `enter` meets its contract: by whether an ENTRIES byte is there.
 -- Assumes nothing.
-use borrow.Author.Rules.{rules}
 use Rattle.blocks.proofs.Stepping.{past, still}
 use Rattle.blocks.proofs.enter.Goals as goal
 use Rattle.blocks.proofs.enter.Goals.{then-there, else-there}
@@ -9,7 +8,7 @@ pub returns : goal.returns
 returns c =
     let a = c.args in
     elim c.if-there.branch [
-      then-there w ↦
+      | then-there w ↦
           past a.there a.lead a.c _ w.wide.result a.entries c.requires.0 w.if-there.true w.wide.ensures.0 w.wide.ensures.1 w.next-is
-    | else-there w ↦ still a.there a.lead a.c _ a.entries w.if-there.false w.next-is
+      | else-there w ↦ still a.there a.lead a.c _ a.entries w.if-there.false w.next-is
     ]

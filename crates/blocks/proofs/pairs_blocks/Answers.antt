@@ -4,7 +4,6 @@ use native.Mathlib.Omega.{arith}
 use mathlib.Core.Path.{refl, ◌∙◌, ap}
 use lib.Dec.{eqb}
 use lib.ListN.{length}
-use borrow.Author.Rules.{rules}
 use Rattle.blocks.specs.declared.Cut.{Cut}
 use Rattle.blocks.proofs.EachKind.{pairs_begun, pairs_short}
 use Rattle.blocks.proofs.pairs_blocks.Goals as goal

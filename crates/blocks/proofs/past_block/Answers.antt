@@ -1,11 +1,8 @@
 -- `past_block` meets its contract: where there is a block more its ENTRIES byte is looked at, and else some byte.
 -- Assumes nothing.
 use native.Mathlib.Omega.{arith}
-use mathlib.Core.Path.{sym, ◌∙◌}
-use mathlib.Core.Bool.{false≢true}
-use lib.ListN.{length}
+use mathlib.Core.Path.{◌∙◌}
 use borrow.Author.Tests.{ltb-true}
-use borrow.Author.Rules.{rules}
 use Rattle.blocks.proofs.Stepping.{looked}
 use Rattle.blocks.proofs.past_block.Goals as goal
 use Rattle.blocks.proofs.past_block.Goals.{then-more, else-more}
@@ -14,8 +11,8 @@ pub bounds-p-i : goal.bounds-p-i
 bounds-p-i c =
     let a = c.args in
     elim c.if-more.branch [
-      then-more w ↦ omega (arith, w.i-is, w.if-more.true)
-    | else-more w ↦ omega (arith, w.i-is)
+      | then-more w ↦ omega (arith, w.i-is, w.if-more.true)
+      | else-more w ↦ omega (arith, w.i-is)
     ]
 
 pub returns : goal.returns

@@ -1,17 +1,15 @@
 -- `read_speed_blocks` meets its contract. The loop's invariant: it stands on a block, and the cut leads from `end` to where all of
 -- it leads. Assumes nothing.
-use Prim.Native.Nat.{ℕ, suc, ◌+◌, ◌*◌, ◌-◌, ◌≤◌}
+use Prim.Native.Nat.{ℕ, suc, ◌+◌, ◌*◌, ◌-◌}
 use native.Mathlib.Omega.{arith}
 use mathlib.Core.Path.{◌≡◌, refl, sym, ◌∙◌, ap}
 use mathlib.Core.Bool.{true, and-false}
 use lib.Dec.{eqb}
 use lib.ListN.{length}
-use borrow.Author.Rules.{rules}
-use Rattle.blocks.specs.Cutting.{cut, cut_from, cut_of}
 use Rattle.blocks.specs.declared.Cut.{Cut}
 use Rattle.blocks.proofs.Stepping.{stays, turn}
 use Rattle.blocks.proofs.EachKind.{speed_law}
-use Rattle.blocks.proofs.Standing.{Stands, moved, stayed, onward, emptied, unfilled_part}
+use Rattle.blocks.proofs.Standing.{moved, stayed, onward, emptied, unfilled_part}
 use Rattle.blocks.proofs.read_speed_blocks.Goals as goal
 use Rattle.blocks.proofs.read_speed_blocks.Goals.{then-end-p, else-end-p}
 
@@ -44,8 +42,8 @@ loop-n-preserved c =
       omega arith,
       sym (turn 1 p 6 l.n _ _ c.loop-n-test.true (onward p _ _ s pairs _ next)) ∙ l.invariant.1,
       elim c.if-end-p.branch [
-        then-end-p v ↦ rw v.at-is (moved p _ v.if-end-p.true)
-      | else-end-p v ↦ rw v.at-is (stayed p _ _ s pairs _ next v.if-end-p.false)
+        | then-end-p v ↦ rw v.at-is (moved p _ v.if-end-p.true)
+        | else-end-p v ↦ rw v.at-is (stayed p _ _ s pairs _ next v.if-end-p.false)
       ],
       elim c.if-end-p.branch [ then-end-p v ↦ omega (arith, v.at-is, w.1) | else-end-p v ↦ omega (arith, v.at-is) ],
       omega (arith, w.1),

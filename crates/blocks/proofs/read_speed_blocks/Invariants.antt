@@ -1,18 +1,10 @@
 -- `read_speed_blocks` meets its contract. The loop's invariant: it stands on a block, and the cut leads from `end` to where all of
 -- it leads. Assumes nothing.
-use Prim.Native.Nat.{ℕ, suc, ◌+◌, ◌*◌, ◌-◌, ◌≤◌}
-use native.Mathlib.Omega.{arith}
-use mathlib.Core.Path.{◌≡◌, refl, sym, ◌∙◌, ap}
-use mathlib.Core.Logic.{⊎_elim}
-use mathlib.Core.Bool.{true, and-false}
-use lib.Dec.{eqb}
-use lib.ListN.{length}
-use borrow.Author.Rules.{rules}
+use Prim.Native.Nat.{◌+◌, ◌*◌, ◌-◌, ◌≤◌}
+use mathlib.Core.Path.{◌≡◌}
+use mathlib.Core.Bool.{true}
 use Rattle.blocks.specs.Cutting.{cut, cut_from, cut_of}
-use Rattle.blocks.specs.declared.Cut.{Cut}
-use Rattle.blocks.proofs.Stepping.{stays, turn}
-use Rattle.blocks.proofs.EachKind.{speed_law}
-use Rattle.blocks.proofs.Standing.{Stands, moved, stayed, onward, emptied, unfilled_part}
+use Rattle.blocks.proofs.Standing.{Stands}
 use Rattle.blocks.proofs.read_speed_blocks.Given as goal
 
 abbrev pub invariant-loop-n : goal.invariant-loop-n

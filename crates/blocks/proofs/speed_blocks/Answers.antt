@@ -2,7 +2,6 @@
 -- Assumes nothing.
 use native.Mathlib.Omega.{arith}
 use mathlib.Core.Path.{refl}
-use borrow.Author.Rules.{rules}
 use Rattle.blocks.proofs.EachKind.{speed_law}
 use Rattle.blocks.proofs.speed_blocks.Goals as goal
 

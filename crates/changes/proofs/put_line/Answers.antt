@@ -1,6 +1,5 @@
 -- `put_line` meets its contract: its parts, one behind another.
 -- Assumes nothing.
-use borrow.Author.Rules.{rules}
 use Rattle.changes.proofs.Lining.{line_put}
 use Rattle.changes.proofs.put_line.Goals as goal
 

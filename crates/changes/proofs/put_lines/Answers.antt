@@ -1,12 +1,7 @@
 -- `put_lines` meets its contract: at each turn the line of one change.
 -- Assumes nothing.
-use Prim.Native.Nat.{◌-◌, ◌≤◌}
 use native.Mathlib.Omega.{arith}
-use mathlib.Core.List.{List}
-use lib.ListN.{take}
-use Rattle.saving.specs.Saving.{Line}
-use Rattle.fates.specs.Noted.{Each, Codes}
-use Rattle.changes.proofs.Lining.{Lining, begun, turned, ended}
+use Rattle.changes.proofs.Lining.{begun, turned, ended}
 use Rattle.changes.proofs.put_lines.Goals as goal
 
 pub loop-i-init : goal.loop-i-init

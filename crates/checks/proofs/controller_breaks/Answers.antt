@@ -1,6 +1,5 @@
 -- `controller_breaks` meets its contract: fixed fields and part are judged apart, and joined.
 -- Assumes nothing.
-use borrow.Author.Rules.{rules}
 use Rattle.checks.proofs.Parting.{speeds}
 use Rattle.checks.proofs.controller_breaks.Goals as goal
 

@@ -1,6 +1,5 @@
 -- `external_breaks` meets its contract: fixed fields, chip and part are judged apart, and joined.
 -- Assumes nothing.
-use borrow.Author.Rules.{rules}
 use Rattle.checks.proofs.Parting.{three_lists}
 use Rattle.checks.proofs.external_breaks.Goals as goal
 

@@ -1,7 +1,6 @@
 -- `part_breaks` meets its contract, by the arm that was taken.
 -- Assumes nothing.
 use mathlib.Core.Path.{refl}
-use borrow.Author.Rules.{rules}
 use Rattle.format.specs.Writing.{part_breaks}
 use Rattle.checks.proofs.Parting.{of_kind_lem, alone}
 use Rattle.checks.proofs.part_breaks.Goals as goal

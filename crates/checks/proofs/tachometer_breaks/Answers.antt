@@ -1,6 +1,5 @@
 -- `tachometer_breaks` meets its contract: fixed fields and part are judged apart, and joined.
 -- Assumes nothing.
-use borrow.Author.Rules.{rules}
 use Rattle.checks.proofs.Parting.{two_lists}
 use Rattle.checks.proofs.tachometer_breaks.Goals as goal
 

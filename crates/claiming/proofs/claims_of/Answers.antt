@@ -1,6 +1,5 @@
 -- `claims_of` meets its contract: by the kind.
 -- Assumes nothing.
-use borrow.Author.Rules.{rules}
 use Rattle.claiming.proofs.Bare.{by_kind}
 use Rattle.claiming.proofs.claims_of.Goals as goal
 

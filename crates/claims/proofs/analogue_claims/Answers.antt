@@ -2,7 +2,6 @@
 -- Assumes nothing.
 use Rattle.format.specs.declared.pins.Use.TheVariants.{AnaloguePin}
 use Rattle.claims.proofs.Elements.{allowed_listed, on_reference}
-use borrow.Author.Rules.{rules}
 use Rattle.claims.proofs.analogue_claims.Goals as goal
 
 pub returns : goal.returns

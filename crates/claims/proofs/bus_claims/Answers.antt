@@ -2,7 +2,6 @@
 -- Assumes nothing.
 use Rattle.format.specs.declared.pins.Use.TheVariants.{ChipSelect}
 use Rattle.claims.proofs.Elements.{allowed_listed, on_bus_lem, on_select}
-use borrow.Author.Rules.{rules}
 use Rattle.claims.proofs.bus_claims.Goals as goal
 
 pub returns-in-Bus : goal.returns-in-Bus

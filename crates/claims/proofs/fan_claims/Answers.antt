@@ -11,7 +11,6 @@ use Rattle.claims.proofs.Tests.{both}
 use Rattle.claims.proofs.Sets.{one_pin, union}
 use Rattle.claims.proofs.Elements.{allowed_pin, or_unused, used_within, two_distinct}
 use Rattle.claims.proofs.Lone.{claims_alone, lone_used}
-use borrow.Author.Rules.{rules}
 use Rattle.claims.proofs.fan_claims.Goals as goal
 
 pub returns : goal.returns

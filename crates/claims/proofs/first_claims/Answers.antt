@@ -6,7 +6,6 @@ use Rattle.format.specs.Claims.{alone, claim, made_at}
 use Rattle.claims.specs.Taken.{own_three}
 use Rattle.format.specs.declared.pins.Use.TheVariants.{HardwareRevision}
 use Rattle.claims.proofs.Elements.{three_pins}
-use borrow.Author.Rules.{rules}
 use Rattle.claims.proofs.first_claims.Goals as goal
 
 pub returns : goal.returns

@@ -2,7 +2,6 @@
 -- Assumes nothing.
 use Rattle.format.specs.declared.pins.Use.TheVariants.{StatusLed}
 use Rattle.claims.proofs.Elements.{three_pins}
-use borrow.Author.Rules.{rules}
 use Rattle.claims.proofs.led_claims.Goals as goal
 
 pub returns : goal.returns

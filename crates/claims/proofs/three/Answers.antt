@@ -5,7 +5,6 @@ use Rattle.claims.specs.Taken.{on_pin}
 use Rattle.pinsets.proofs.Table.{and_left, and_right}
 use Rattle.claims.proofs.Elements.{used_within}
 use Rattle.claims.proofs.Lone.{claims_three}
-use borrow.Author.Rules.{rules}
 use Rattle.claims.proofs.three.Goals as goal
 
 pub returns : goal.returns

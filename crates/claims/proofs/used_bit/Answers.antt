@@ -1,7 +1,6 @@
 -- An unused place has no pin, and a pin its bit.
 -- Assumes nothing.
 use Rattle.claims.proofs.Sets.{empty, one_pin}
-use borrow.Author.Rules.{rules}
 use Rattle.claims.proofs.used_bit.Goals as goal
 
 pub returns-in-Unused : goal.returns-in-Unused

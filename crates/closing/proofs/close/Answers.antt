@@ -5,7 +5,6 @@ use native.Mathlib.Omega.{arith}
 use mathlib.Core.Path.{◌≡◌, refl, ◌∙◌}
 use mathlib.Core.Logic.{inl, inr}
 use Rattle.closing.proofs.Closed.{first_kept, judged_as, plain_fixed, closed_11, closed_long, closed_fixed}
-use borrow.Author.Rules.{rules}
 use Rattle.closing.proofs.close.Goals as goal
 
 pub returns-then-s-ge96 : goal.returns-then-s-ge96

@@ -2,7 +2,6 @@
 -- Assumes nothing.
 use native.Mathlib.Omega.{arith}
 use Rattle.closing.proofs.Pieces.{fixed_breaks, fixed_taken}
-use borrow.Author.Rules.{rules}
 use Rattle.closing.proofs.fixed.Goals as goal
 
 pub returns-then-r-ne0 : goal.returns-then-r-ne0

@@ -3,7 +3,6 @@
 use native.Mathlib.Omega.{arith}
 use mathlib.Core.Path.{refl, sym, ◌∙◌}
 use Rattle.closing.proofs.Pieces.{front_none}
-use borrow.Author.Rules.{rules}
 use Rattle.closing.proofs.front.Goals as goal
 
 pub returns-then-waits : goal.returns-then-waits

@@ -3,7 +3,6 @@
 use native.Mathlib.Omega.{arith}
 use mathlib.Core.Path.{sym, ◌∙◌}
 use Rattle.closing.proofs.Parts.{text_closes}
-use borrow.Author.Rules.{rules}
 use Rattle.closing.proofs.text.Goals as goal
 
 pub returns-then-r-ne0 : goal.returns-then-r-ne0

@@ -3,7 +3,6 @@
 use mathlib.Core.Path.{refl, sym}
 use Rattle.stream.proofs.Running.{waits_header}
 use Rattle.closing.proofs.Pieces.{waits_is}
-use borrow.Author.Rules.{rules}
 use Rattle.closing.proofs.waits.Goals as goal
 
 pub returns-then-p-lt3 : goal.returns-then-p-lt3

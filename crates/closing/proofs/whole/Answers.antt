@@ -3,7 +3,6 @@
 use native.Mathlib.Omega.{arith}
 use mathlib.Core.Path.{refl, sym, ◌∙◌}
 use Rattle.closing.proofs.Pieces.{other_stop, these_stops, whole_goes, whole_breaks}
-use borrow.Author.Rules.{rules}
 use Rattle.closing.proofs.whole.Goals as goal
 
 pub returns-then-r : goal.returns-then-r

@@ -1,13 +1,9 @@
 -- `compare` meets its contract: the descriptions' lines, and a pair of elements a turn. The loop's invariant is `Going`.
 -- Assumes nothing.
-use Prim.Native.Nat.{◌+◌, ◌-◌}
 use native.Mathlib.Omega.{arith}
-use lib.ListN.{length}
-use borrow.Author.Rules.{rules}
-use Rattle.format.specs.declared.pins.Chip.{Chip}
 use Rattle.reader.proofs.Asking.{handed}
 use Rattle.comparing.specs.Lines.{first_refused}
-use Rattle.comparing.proofs.Going.{Agreed, agreed, refused_so, second_refused_lem, Going, going_begun, enough, x, y, there, there'}
+use Rattle.comparing.proofs.Going.{agreed, refused_so, second_refused_lem, going_begun, enough, x, y, there, there'}
 use Rattle.comparing.proofs.Going.{space, turned, nearer, whole}
 use Rattle.comparing.proofs.compare.Goals as goal
 

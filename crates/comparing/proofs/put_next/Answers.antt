@@ -2,7 +2,6 @@
 -- Assumes nothing.
 use native.Mathlib.Omega.{arith}
 use lib.ListN.{length}
-use borrow.Author.Rules.{rules}
 use Rattle.comparing.proofs.Pairing.{pair_there, both_there, first_there, second_there, none_there}
 use Rattle.comparing.proofs.put_next.Goals as goal
 

@@ -2,7 +2,6 @@
 -- Assumes nothing.
 use native.Mathlib.Omega.{arith}
 use lib.ListN.{length}
-use borrow.Author.Rules.{rules}
 use Rattle.format.specs.Slots.{written}
 use Rattle.format.specs.Layout.{part}
 use Rattle.comparing.proofs.Pairing.{inside, kind_here, kind_small, of_two_kinds, fields_room, part_room, pair_put}

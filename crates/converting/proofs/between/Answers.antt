@@ -1,9 +1,8 @@
 -- `between` meets its contract: an end weighed by at most 1023 fits, and the division gives the nearest.
 -- Assumes nothing.
-use Prim.Native.Nat.{ℕ, ◌+◌, ◌*◌, ◌-◌, ◌/◌, ◌≤◌, ◌<◌, ◌^◌}
+use Prim.Native.Nat.{ℕ, ◌+◌, ◌*◌, ◌/◌, ◌≤◌, ◌<◌, ◌^◌}
 use native.Mathlib.Omega.{arith}
 use lib.Dec.{lit<}
-use borrow.Author.Rules.{rules}
 use Rattle.converting.specs.Rounding.{Nearest}
 use Rattle.converting.specs.Conversions.{weighed}
 use Rattle.converting.proofs.Rounding.{divided, down_up, weighed_most, within}

@@ -2,7 +2,6 @@
 -- Assumes nothing.
 use mathlib.Core.Path.{sym, ◌∙◌}
 use mathlib.Core.Bool.{true, false}
-use borrow.Author.Rules.{rules}
 use Rattle.converting.proofs.Walking.{course_only}
 use Rattle.converting.proofs.Meant.{meant_bent}
 use Rattle.converting.proofs.coded.Goals as goal

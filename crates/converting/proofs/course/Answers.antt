@@ -1,8 +1,6 @@
 -- `course` meets its contract: the points that the count comes after lead to its interval.
 -- Assumes nothing.
-use native.Mathlib.Omega.{arith}
 use mathlib.Core.Path.{refl, sym, ◌∙◌, ap}
-use borrow.Author.Rules.{rules}
 use Rattle.converting.specs.Outcomes.{tenths}
 use Rattle.converting.specs.Conversions.{points}
 use Rattle.converting.specs.Formula.{meant}

@@ -1,6 +1,5 @@
 -- `current` meets its contract: by its two cases.
 -- Assumes nothing.
-use borrow.Author.Rules.{rules}
 use Rattle.converting.specs.Conversions.Linear.{past, read}
 use Rattle.converting.proofs.current.Goals as goal
 

@@ -3,8 +3,6 @@
 use borrow.Author.Rules.{rules}
 use Rattle.converting.specs.Conversions.Speed.{many, none, read}
 use Rattle.converting.proofs.Rounding.{divided}
-use Rattle.converting.proofs.speed.Reads as reads
-use Rattle.converting.proofs.speed.Lts as lts
 use Rattle.converting.proofs.speed.Goals as goal
 
 pub returns-then-pulses-gt65535 : goal.returns-then-pulses-gt65535

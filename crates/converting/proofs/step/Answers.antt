@@ -3,7 +3,6 @@
 use Prim.Native.Nat.{◌+◌, ◌*◌}
 use native.Mathlib.Omega.{arith}
 use native.Mathlib.Nat.{div-le_self}
-use borrow.Author.Rules.{rules}
 use Rattle.converting.specs.Formula.{step}
 use Rattle.converting.proofs.Rounding.{up_most}
 use Rattle.converting.proofs.step.Goals as goal
@@ -19,4 +18,4 @@ unfolding step
 returns c = (
   rw (← c.apart-d.ensures.0, ← c.apart.ensures.0),
   omega (arith, up_most c.apart.result c.apart-d.result (omega arith) (omega arith)),
-  )
+)

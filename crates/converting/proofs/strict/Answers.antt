@@ -2,7 +2,6 @@
 -- Assumes nothing.
 use mathlib.Core.Path.{◌≡◌, refl}
 use mathlib.Core.Bool.{Bool, true, false, ◌&&◌}
-use borrow.Author.Rules.{rules}
 use Rattle.converting.proofs.strict.Goals as goal
 
 and-true : (x : Bool) → x ≡ x && true

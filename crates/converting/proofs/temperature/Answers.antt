@@ -1,6 +1,5 @@
 -- `temperature` meets its contract: a count over 1023, or what the formula's number means.
 -- Assumes nothing.
-use borrow.Author.Rules.{rules}
 use Rattle.converting.specs.Conversions.Temperature.{past}
 use Rattle.converting.proofs.Meant.{meant_meets}
 use Rattle.converting.proofs.temperature.Goals as goal

@@ -1,6 +1,5 @@
 -- `told` meets its contract: by the cases of the answer.
 -- Assumes nothing.
-use borrow.Author.Rules.{rules}
 use Rattle.converting.proofs.told.Goals as goal
 
 pub returns-in-Temperature : goal.returns-in-Temperature

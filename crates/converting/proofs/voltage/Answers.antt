@@ -1,7 +1,6 @@
 -- `voltage` meets its contract: by its two cases, and what is between two bytes is one.
 -- Assumes nothing.
 use native.Mathlib.Omega.{arith}
-use borrow.Author.Rules.{rules}
 use Rattle.converting.specs.Conversions.Linear.{past, read}
 use Rattle.converting.proofs.Rounding.{within}
 use Rattle.converting.proofs.voltage.Goals as goal

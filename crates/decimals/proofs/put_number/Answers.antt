@@ -1,6 +1,5 @@
 -- `put_number` meets its contract: eight digits by their powers of ten, more as the last bytes.
 -- Assumes nothing.
-use borrow.Author.Rules.{rules}
 use Rattle.decimals.proofs.Spelling.{put_last}
 use Rattle.decimals.proofs.Eight.{put_eight}
 use Rattle.decimals.proofs.put_number.Goals as goal

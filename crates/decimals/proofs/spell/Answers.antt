@@ -3,8 +3,7 @@
 use native.Mathlib.Omega.{arith}
 use mathlib.Core.Path.{refl}
 use lib.ListN.{replicate}
-use borrow.Author.Rules.{rules}
-use Rattle.decimals.proofs.Spelling.{Spelling, first_digit, more_room, next_digit, all_digits_lem}
+use Rattle.decimals.proofs.Spelling.{first_digit, more_room, next_digit, all_digits_lem}
 use Rattle.decimals.proofs.spell.Goals as goal
 
 pub loop-m-init : goal.loop-m-init

@@ -3,7 +3,6 @@
 use mathlib.Core.Path.{refl}
 use borrow.Author.Tests.{not-true, not-false}
 use Rattle.ending.proofs.Over.{over_13, over_14_description, over_14, over_15, over_0}
-use borrow.Author.Rules.{rules}
 use Rattle.ending.proofs.concluded.Goals as goal
 
 pub returns-then-z-ne0 : goal.returns-then-z-ne0

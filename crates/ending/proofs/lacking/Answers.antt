@@ -1,7 +1,6 @@
 -- `lacking` meets its contract: the least place, or none lacks.
 -- Assumes nothing.
 use Rattle.ending.proofs.Over.{lacking_none}
-use borrow.Author.Rules.{rules}
 use Rattle.ending.proofs.lacking.Goals as goal
 
 pub returns : goal.returns

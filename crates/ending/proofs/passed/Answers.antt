@@ -2,7 +2,6 @@
 -- Assumes nothing.
 use mathlib.Core.Path.{refl}
 use Rattle.ending.proofs.Answering.{passed_stop, passed_alone, passed_6, passed_over}
-use borrow.Author.Rules.{rules}
 use Rattle.ending.proofs.passed.Goals as goal
 
 pub returns-then-w-ne0 : goal.returns-then-w-ne0

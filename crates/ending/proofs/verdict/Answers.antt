@@ -2,7 +2,6 @@
 -- Assumes nothing.
 use mathlib.Core.Path.{refl}
 use Rattle.ending.proofs.Answering.{verdict_1, verdict_2, verdict_3, verdict_3_over, verdict_on}
-use borrow.Author.Rules.{rules}
 use Rattle.ending.proofs.verdict.Goals as goal
 
 pub returns-then-count-lt16 : goal.returns-then-count-lt16

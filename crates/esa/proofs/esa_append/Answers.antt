@@ -1,7 +1,6 @@
 -- `esa_append` meets its contract: the element is the one in the numbers, or none, and no value is too large.
 -- Assumes nothing.
 use Rattle.esa.proofs.Joining.{append_bound, appended_for, unknown_for}
-use borrow.Author.Rules.{rules}
 use Rattle.esa.proofs.esa_append.Goals as goal
 
 pub written-requires : goal.written-requires

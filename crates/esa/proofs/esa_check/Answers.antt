@@ -1,7 +1,6 @@
 -- `esa_check` meets its contract: no value is too large.
 -- Assumes nothing.
 use Rattle.reader.proofs.Bounds.{value_bound}
-use borrow.Author.Rules.{rules}
 use Rattle.esa.proofs.esa_check.Goals as goal
 
 pub answer-requires : goal.answer-requires

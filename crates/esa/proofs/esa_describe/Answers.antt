@@ -3,7 +3,6 @@
 use native.Mathlib.Omega.{arith}
 use mathlib.Core.Path.{refl}
 use Rattle.esa.proofs.Reading.{described_bound, described_for}
-use borrow.Author.Rules.{rules}
 use Rattle.esa.proofs.esa_describe.Goals as goal
 
 pub pack-requires : goal.pack-requires

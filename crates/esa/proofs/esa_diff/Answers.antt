@@ -1,6 +1,5 @@
 -- `esa_diff` meets its contract: no number is too large.
 -- Assumes nothing.
-use borrow.Author.Rules.{rules}
 use Rattle.esa.proofs.Differences.{compares_fitted}
 use Rattle.esa.proofs.esa_diff.Goals as goal
 

@@ -1,7 +1,6 @@
 -- `esa_element` meets its contract: no place is too large.
 -- Assumes nothing.
 use Rattle.reader.proofs.Bounds.{place_bound}
-use borrow.Author.Rules.{rules}
 use Rattle.esa.proofs.esa_element.Goals as goal
 
 pub asked-requires : goal.asked-requires

@@ -1,7 +1,6 @@
 -- `esa_fan` meets its contract: no number is too large.
 -- Assumes nothing.
 use Rattle.esa.proofs.Fans.{zones_bounded}
-use borrow.Author.Rules.{rules}
 use Rattle.esa.proofs.esa_fan.Goals as goal
 
 pub zoned-requires : goal.zoned-requires

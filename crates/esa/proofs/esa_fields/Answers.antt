@@ -3,7 +3,6 @@
 use native.Mathlib.Omega.{arith}
 use mathlib.Core.Path.{refl}
 use Rattle.esa.proofs.Reading.{gives_as, asked_bound, gives_beside, fields_for}
-use borrow.Author.Rules.{rules}
 use Rattle.esa.proofs.esa_fields.Goals as goal
 
 pub pack-requires-in-Refused : goal.pack-requires-in-Refused

@@ -1,7 +1,6 @@
 -- `esa_hex` meets its contract: no value is too large.
 -- Assumes nothing.
 use Rattle.esa.proofs.Hex.{hex_bound}
-use borrow.Author.Rules.{rules}
 use Rattle.esa.proofs.esa_hex.Goals as goal
 
 pub moved-requires : goal.moved-requires

@@ -1,7 +1,6 @@
 -- `esa_label` meets its contract: no place is too large.
 -- Assumes nothing.
 use Rattle.esa.proofs.Labels.{label_fits}
-use borrow.Author.Rules.{rules}
 use Rattle.esa.proofs.esa_label.Goals as goal
 
 pub label-requires : goal.label-requires

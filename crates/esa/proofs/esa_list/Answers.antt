@@ -1,6 +1,5 @@
 -- `esa_list` meets its contract: the settings are those in the number.
 -- Assumes nothing.
-use borrow.Author.Rules.{rules}
 use Rattle.esa.proofs.esa_list.Goals as goal
 
 pub returns : goal.returns

@@ -1,7 +1,6 @@
 -- `esa_pair` meets its contract, by what each call ensures of its result.
 -- Assumes nothing.
 use mathlib.Core.Path.{refl}
-use borrow.Author.Rules.{rules}
 use Rattle.esa.proofs.esa_pair.Goals as goal
 
 pub returns : goal.returns

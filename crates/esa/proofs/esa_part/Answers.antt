@@ -2,7 +2,6 @@
 -- Assumes nothing.
 use native.Mathlib.Omega.{arith}
 use Rattle.esa.proofs.Reading.{placed_for, at_bound, refused_bound}
-use borrow.Author.Rules.{rules}
 use Rattle.esa.proofs.esa_part.Goals as goal
 
 pub span-requires : goal.span-requires

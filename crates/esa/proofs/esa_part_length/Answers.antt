@@ -1,7 +1,6 @@
 -- `esa_part_length` meets its contract, by what `part` ensures.
 -- Assumes nothing.
 use mathlib.Core.Path.{refl}
-use borrow.Author.Rules.{rules}
 use Rattle.esa.proofs.esa_part_length.Goals as goal
 
 pub returns : goal.returns

@@ -1,6 +1,5 @@
 -- `esa_reading` meets its contract: that of `packed_reading`, under the settings in the number.
 -- Assumes nothing.
-use borrow.Author.Rules.{rules}
 use Rattle.esa.proofs.esa_reading.Goals as goal
 
 pub returns : goal.returns

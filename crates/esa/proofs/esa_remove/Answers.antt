@@ -1,7 +1,6 @@
 -- `esa_remove` meets its contract: no value is too large.
 -- Assumes nothing.
 use Rattle.removing.proofs.Accepted.{remove_bound}
-use borrow.Author.Rules.{rules}
 use Rattle.esa.proofs.esa_remove.Goals as goal
 
 pub written-requires : goal.written-requires

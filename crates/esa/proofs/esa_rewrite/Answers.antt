@@ -1,7 +1,6 @@
 -- `esa_rewrite` meets its contract: no value is too large.
 -- Assumes nothing.
 use Rattle.esa.proofs.Joining.{rewrite_bound}
-use borrow.Author.Rules.{rules}
 use Rattle.esa.proofs.esa_rewrite.Goals as goal
 
 pub written-requires : goal.written-requires

@@ -1,7 +1,6 @@
 -- `esa_salvage` meets its contract: no length is too large.
 -- Assumes nothing.
 use native.Mathlib.Omega.{arith}
-use borrow.Author.Rules.{rules}
 use Rattle.esa.proofs.Salvage.{salvage_fits}
 use Rattle.esa.proofs.esa_salvage.Goals as goal
 

@@ -1,6 +1,5 @@
 -- `esa_sheet` meets its contract: no value is too large.
 -- Assumes nothing.
-use borrow.Author.Rules.{rules}
 use Rattle.pinsheet.specs.Sheet.{sheet}
 use Rattle.esa.proofs.Sheets.{leaves_bound, sheet_for}
 use Rattle.esa.proofs.esa_sheet.Goals as goal

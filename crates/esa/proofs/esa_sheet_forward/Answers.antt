@@ -1,6 +1,5 @@
 -- `esa_sheet_forward` meets its contract: no value is too large.
 -- Assumes nothing.
-use borrow.Author.Rules.{rules}
 use Rattle.pinsheet.specs.Sheet.{forward}
 use Rattle.sheets.specs.Lines.{read}
 use Rattle.esa.proofs.Sheets.{leaves_bound, sheet_for}

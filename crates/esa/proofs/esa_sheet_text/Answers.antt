@@ -1,6 +1,5 @@
 -- `esa_sheet_text` meets its contract: the chip is the one in the number.
 -- Assumes nothing.
-use borrow.Author.Rules.{rules}
 use Rattle.esa.proofs.esa_sheet_text.Goals as goal
 
 pub returns : goal.returns

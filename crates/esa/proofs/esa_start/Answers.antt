@@ -1,7 +1,6 @@
 -- `esa_start` meets its contract: the description is the one in the numbers, and no value is too large.
 -- Assumes nothing.
 use Rattle.esa.proofs.Joining.{start_bound, started_for}
-use borrow.Author.Rules.{rules}
 use Rattle.esa.proofs.esa_start.Goals as goal
 
 pub written-requires : goal.written-requires

@@ -2,7 +2,6 @@
 -- Assumes nothing.
 use native.Mathlib.Omega.{arith}
 use Rattle.esa.proofs.Reading.{asked_bound, text_for, string_for, not_string_for}
-use borrow.Author.Rules.{rules}
 use Rattle.esa.proofs.esa_text.Goals as goal
 
 pub returns-then-id_of-ne12 : goal.returns-then-id_of-ne12

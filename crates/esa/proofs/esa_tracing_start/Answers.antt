@@ -1,7 +1,6 @@
 -- `esa_tracing_start` meets its contract: no value is too large.
 -- Assumes nothing.
 use Rattle.esa.proofs.Traces.{start_bound}
-use borrow.Author.Rules.{rules}
 use Rattle.esa.proofs.esa_tracing_start.Goals as goal
 
 pub answer-requires : goal.answer-requires

@@ -1,7 +1,6 @@
 -- `esa_unhex` meets its contract: no value is too large.
 -- Assumes nothing.
 use Rattle.esa.proofs.Hex.{unhex_bound}
-use borrow.Author.Rules.{rules}
 use Rattle.esa.proofs.esa_unhex.Goals as goal
 
 pub moved-requires : goal.moved-requires

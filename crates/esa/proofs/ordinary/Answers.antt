@@ -1,6 +1,5 @@
 -- `ordinary` meets its contract: the chip that the number says.
 -- Assumes nothing.
-use borrow.Author.Rules.{rules}
 use Rattle.esa.proofs.ordinary.Goals as goal
 
 pub returns : goal.returns

@@ -1,6 +1,5 @@
 -- `settings_of` meets its contract: the chip and the rules that the number says.
 -- Assumes nothing.
-use borrow.Author.Rules.{rules}
 use Rattle.esa.proofs.settings_of.Goals as goal
 
 pub returns : goal.returns

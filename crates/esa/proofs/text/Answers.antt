@@ -4,7 +4,6 @@ use native.Mathlib.Omega.{arith}
 use mathlib.Core.Path.{refl, ap}
 use lib.ListN.{length, length-drop}
 use Rattle.esa.proofs.Reading.{text_placed, at_bound, refused_bound, refused_text, length_bound}
-use borrow.Author.Rules.{rules}
 use Rattle.esa.proofs.text.Goals as goal
 
 pub overflow_add-p : goal.overflow_add-p

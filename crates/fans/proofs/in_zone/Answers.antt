@@ -3,7 +3,6 @@
 use Rattle.reader.proofs.Asking.{handed}
 use Rattle.fans.specs.InZone.{refused}
 use Rattle.fans.proofs.Seeking.{shown, zoned}
-use borrow.Author.Rules.{rules}
 use Rattle.fans.proofs.in_zone.Goals as goal
 
 pub returns-in_default : goal.returns-in_default

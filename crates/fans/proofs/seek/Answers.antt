@@ -1,9 +1,7 @@
 -- `seek` meets its contract: what is left to seek ends where the whole ends, and is shorter at each turn.
 -- Assumes nothing.
-use Prim.Native.Nat.{◌-◌}
 use native.Mathlib.Omega.{arith}
-use lib.ListN.{length}
-use Rattle.fans.proofs.Seeking.{Seeking, begun, room, visitable, hit, turned, not_there}
+use Rattle.fans.proofs.Seeking.{begun, room, visitable, hit, turned, not_there}
 use Rattle.fans.proofs.seek.Goals as goal
 
 pub loop-at-init : goal.loop-at-init

@@ -1,9 +1,8 @@
 -- `seek` meets its contract: what is left to seek ends where the whole ends, and is shorter at each turn.
 -- Assumes nothing.
 use Prim.Native.Nat.{◌-◌}
-use native.Mathlib.Omega.{arith}
 use lib.ListN.{length}
-use Rattle.fans.proofs.Seeking.{Seeking, begun, room, visitable, hit, turned, not_there}
+use Rattle.fans.proofs.Seeking.{Seeking}
 use Rattle.fans.proofs.seek.Given as goal
 
 abbrev pub invariant-loop-at : goal.invariant-loop-at

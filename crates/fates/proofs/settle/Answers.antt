@@ -2,7 +2,6 @@
 -- Assumes nothing.
 use native.Mathlib.Omega.{arith}
 use mathlib.Core.Path.{refl}
-use borrow.Author.Rules.{rules}
 use Rattle.fates.proofs.Noting.{stays_settles, leaves_settles, mends_settles}
 use Rattle.fates.proofs.settle.Goals as goal
 

@@ -1,6 +1,5 @@
 -- `fields::current` meets its contract, by what each call ensures of its result.
 -- Assumes nothing.
-use native.Mathlib.Omega.{arith}
 use Rattle.fields.proofs.current.Goals as goal
 
 pub returns : goal.returns

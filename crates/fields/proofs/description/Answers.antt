@@ -1,7 +1,5 @@
 -- `fields::description` meets its contract: each wider byte is the byte, and each place is unused or a pin.
 -- Assumes nothing.
-use native.Mathlib.Omega.{arith}
-use borrow.Author.Rules.{rules}
 use Rattle.fields.proofs.description.Goals as goal
 
 pub returns : goal.returns

@@ -1,6 +1,5 @@
 -- `fields::digital` meets its contract, by what each call ensures of its result.
 -- Assumes nothing.
-use native.Mathlib.Omega.{arith}
 use Rattle.fields.proofs.digital.Goals as goal
 
 pub returns : goal.returns

@@ -1,7 +1,5 @@
 -- `fields::fan` meets its contract, by what each call ensures of its result.
 -- Assumes nothing.
-use native.Mathlib.Omega.{arith}
-use borrow.Author.Rules.{rules}
 use Rattle.fields.proofs.fan.Goals as goal
 
 pub returns : goal.returns

@@ -1,8 +1,6 @@
 -- `fields::lamp` meets its contract: the code's `i + 1` is the definition's `suc i`.
 -- Assumes nothing.
 use native.Mathlib.Numerals.{add-one}
-use native.Mathlib.Omega.{arith}
-use borrow.Author.Rules.{rules}
 use Rattle.fields.proofs.lamp.Goals as goal
 
 pub returns : goal.returns

@@ -1,6 +1,5 @@
 -- `fields::led` meets its contract, by what each call ensures of its result.
 -- Assumes nothing.
-use native.Mathlib.Omega.{arith}
 use Rattle.fields.proofs.led.Goals as goal
 
 pub returns : goal.returns

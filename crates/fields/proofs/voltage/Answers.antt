@@ -1,6 +1,5 @@
 -- `fields::voltage` meets its contract, by what each call ensures of its result.
 -- Assumes nothing.
-use native.Mathlib.Omega.{arith}
 use Rattle.fields.proofs.voltage.Goals as goal
 
 pub returns : goal.returns

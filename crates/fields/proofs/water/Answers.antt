@@ -1,6 +1,5 @@
 -- `fields::water` meets its contract, by what each call ensures of its result.
 -- Assumes nothing.
-use native.Mathlib.Omega.{arith}
 use Rattle.fields.proofs.water.Goals as goal
 
 pub returns : goal.returns

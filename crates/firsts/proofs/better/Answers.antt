@@ -1,8 +1,6 @@
 -- `better` meets its contract.
 -- Assumes nothing.
 use mathlib.Core.Path.{◌∙◌, refl, sym}
-use Rattle.firsts.specs.Firsts.{lesser}
-use borrow.Author.Rules.{rules}
 use Rattle.firsts.proofs.better.Goals as goal
 
 pub returns-then-seen : goal.returns-then-seen

@@ -1,7 +1,6 @@
 -- `note` meets its contract: the first place stays.
 -- Assumes nothing.
 use Rattle.firsts.proofs.Naming.{note_none, note_some}
-use borrow.Author.Rules.{rules}
 use Rattle.firsts.proofs.note.Goals as goal
 
 pub returns-then-l-i-eq0 : goal.returns-then-l-i-eq0

@@ -2,10 +2,6 @@
 -- Assumes nothing.
 use mathlib.Core.Path.{sym, ◌∙◌}
 use Rattle.flags.proofs.Owed.{none_owed, one_owed}
-use borrow.Author.Rules.{rules}
-use Rattle.flags.proofs.lacks.Reads as reads
-use Rattle.flags.proofs.lacks.Lts as lts
-use Rattle.flags.proofs.lacks_one.Reads as lacks-one-reads
 use Rattle.flags.proofs.lacks.Goals as goal
 
 pub returns : goal.returns

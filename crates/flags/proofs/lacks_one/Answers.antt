@@ -1,13 +1,9 @@
 -- `lacks_one` meets its contract: below `i` the flags were searched.
 -- Assumes nothing.
 use native.Mathlib.Omega.{arith}
-use Prim.Native.Nat.{◌≤◌, ◌-◌}
 use mathlib.Core.Path.{◌≡◌, refl}
 use borrow.Author.Rules.{rules}
-use Rattle.flags.specs.Marks.{lacks_to}
 use Rattle.flags.proofs.Owed.{lacks_turn}
-use Rattle.flags.proofs.lacks_one.Reads as reads
-use Rattle.flags.proofs.lacks_one.Lts as lts
 use Rattle.flags.proofs.lacks_one.Goals as goal
 
 pub loop-i-init : goal.loop-i-init

@@ -1,6 +1,5 @@
 -- `controller_found` meets its contract: fixed bytes and part are judged apart, and joined.
 -- Assumes nothing.
-use borrow.Author.Rules.{rules}
 use Rattle.found.proofs.Judging.{rest, controller_short, controller_judged}
 use Rattle.found.proofs.controller_found.Goals as goal
 

@@ -1,7 +1,6 @@
 -- `current_found` meets its contract: the length decides whether a record is there, and the record is judged.
 -- Assumes nothing.
 use mathlib.Core.Path.{refl}
-use borrow.Author.Rules.{rules}
 use Rattle.format.specs.Records.{current}
 use Rattle.format.specs.Decode.{decode, read_current}
 use Rattle.found.proofs.Judging.{wrong_length, right_length}

@@ -1,6 +1,5 @@
 -- `device_found` meets its contract: 8 or 9 by the part, or what the fixed fields say.
 -- Assumes nothing.
-use borrow.Author.Rules.{rules}
 use borrow.Author.Tests.{not-true, not-false}
 use Rattle.found.proofs.Judging.{found_8, found_9, found_whole}
 use Rattle.found.proofs.device_found.Goals as goal

@@ -1,7 +1,6 @@
 -- `digital_found` meets its contract: the length decides whether a record is there, and the record is judged.
 -- Assumes nothing.
 use mathlib.Core.Path.{refl}
-use borrow.Author.Rules.{rules}
 use Rattle.format.specs.Records.{digital}
 use Rattle.format.specs.Decode.{decode, read_digital}
 use Rattle.found.proofs.Judging.{wrong_length, right_length}

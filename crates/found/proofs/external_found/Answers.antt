@@ -1,6 +1,5 @@
 -- `external_found` meets its contract: fixed bytes, chip and part are judged apart, and joined.
 -- Assumes nothing.
-use borrow.Author.Rules.{rules}
 use Rattle.found.proofs.Judging.{rest, external_short, external_judged}
 use Rattle.found.proofs.external_found.Goals as goal
 

@@ -1,6 +1,5 @@
 -- `fan_fans` meets its contract, by whether there is a tachometer.
 -- Assumes nothing.
-use borrow.Author.Rules.{rules}
 use Rattle.found.proofs.fan_fans.Goals as goal
 
 pub returns-in-Unused : goal.returns-in-Unused

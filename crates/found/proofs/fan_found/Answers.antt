@@ -1,7 +1,6 @@
 -- `fan_found` meets its contract: the length decides whether a record is there, and the record is judged.
 -- Assumes nothing.
 use mathlib.Core.Path.{refl}
-use borrow.Author.Rules.{rules}
 use Rattle.format.specs.Records.{fan, pump}
 use Rattle.format.specs.Decode.{decode, read_fan}
 use Rattle.found.proofs.Judging.{wrong_length, right_length}
@@ -12,7 +11,7 @@ unfolding decode
 returns-then-b-ne13 c = (
   wrong_length _ 3 _ _ fan (read_fan _) 13 refl c.if-b-ne13.true c.refused.ensures,
   wrong_length _ 6 _ _ pump (read_fan _) 13 refl c.if-b-ne13.true c.refused.ensures,
-  )
+)
 
 pub returns : goal.returns
 unfolding decode

@@ -1,7 +1,6 @@
 -- `led_found` meets its contract: the length decides whether a record is there, and the record is judged.
 -- Assumes nothing.
 use mathlib.Core.Path.{refl}
-use borrow.Author.Rules.{rules}
 use Rattle.format.specs.Records.{led}
 use Rattle.format.specs.Decode.{decode, read_led}
 use Rattle.found.proofs.Judging.{wrong_length, right_length}

@@ -1,6 +1,5 @@
 -- `tachometer_found` meets its contract: fixed bytes and part are judged apart, and joined.
 -- Assumes nothing.
-use borrow.Author.Rules.{rules}
 use Rattle.found.proofs.Judging.{rest, tachometer_short, tachometer_judged}
 use Rattle.found.proofs.tachometer_found.Goals as goal
 

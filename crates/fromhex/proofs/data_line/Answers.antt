@@ -3,7 +3,6 @@
 use native.Mathlib.Omega.{arith}
 use mathlib.Core.Path.{sym, ◌∙◌}
 use lib.Seq.{length-take-le}
-use borrow.Author.Rules.{rules}
 use Rattle.fromhex.proofs.Judging.{far, empty, judged, misjudged}
 use Rattle.fromhex.proofs.data_line.Goals as goal
 

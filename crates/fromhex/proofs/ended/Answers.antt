@@ -1,6 +1,5 @@
 -- `ended` meets its contract: the end record alone, with more behind it, or none.
 -- Assumes nothing.
-use borrow.Author.Rules.{rules}
 use Rattle.fromhex.specs.Reading.{sends, fails}
 use Rattle.fromhex.proofs.Walking.{ends_whole, ends_after, ends_bad}
 use Rattle.fromhex.proofs.ended.Goals as goal

@@ -1,6 +1,5 @@
 -- `from_hex` meets its contract: by what the walk said.
 -- Assumes nothing.
-use borrow.Author.Rules.{rules}
 use Rattle.fromhex.specs.FromHex.{malformed, sent}
 use Rattle.fromhex.proofs.Ending.{said_bytes, said_bad}
 use Rattle.fromhex.proofs.from_hex.Goals as goal

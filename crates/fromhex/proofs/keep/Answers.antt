@@ -1,7 +1,6 @@
 -- `keep` meets its contract: by its two cases.
 -- Assumes nothing.
 use native.Mathlib.Omega.{arith}
-use borrow.Author.Rules.{rules}
 use Rattle.fromhex.proofs.Walking.{kept_all, kept_first}
 use Rattle.fromhex.proofs.keep.Goals as goal
 

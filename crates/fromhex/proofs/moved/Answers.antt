@@ -1,6 +1,5 @@
 -- `moved` meets its contract: refused, no room, or put.
 -- Assumes nothing.
-use borrow.Author.Rules.{rules}
 use Rattle.hextext.specs.Moved.{no_room, refused}
 use Rattle.hextext.proofs.Moving.{put_done}
 use Rattle.fromhex.proofs.moved.Goals as goal

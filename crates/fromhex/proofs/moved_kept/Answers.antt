@@ -5,7 +5,6 @@ use native.Mathlib.Omega.{arith}
 use mathlib.Core.Path.{◌≡◌, sym, ◌∙◌}
 use lib.ListN.{length, take}
 use lib.Seq.{length-take-le}
-use borrow.Author.Rules.{rules}
 use Rattle.hextext.specs.Moved.{refused}
 use Rattle.fromhex.proofs.Walking.{kept_head, kept_whole}
 use Rattle.fromhex.proofs.Ending.{long_unrevised, long_missized}

@@ -1,6 +1,5 @@
 -- `pair_at` meets its contract.
 -- Assumes nothing.
-use borrow.Author.Rules.{rules}
 use Rattle.hextext.specs.Digits.{pair_at}
 use Rattle.fromhex.proofs.pair_at.Goals as goal
 

@@ -1,14 +1,11 @@
 -- `read_bytes` meets its contract.
 -- Assumes nothing.
-use Prim.Native.Nat.{ℕ, ◌+◌, ◌*◌, ◌-◌, ◌≤◌, ◌<◌}
 use native.Mathlib.Omega.{arith}
 use mathlib.Core.Path.{◌≡◌, refl, ◌∙◌}
-use lib.ListN.{length, set, length-set}
+use lib.ListN.{set, length-set}
 use lib.Seq.{get_or-set_same, get_or-set_other}
 use borrow.Author.Count.{below_more}
-use borrow.Author.Rules.{rules}
 use Rattle.format.specs.Slots.{byte}
-use Rattle.hextext.specs.Digits.{pair_at}
 use Rattle.fromhex.proofs.read_bytes.Goals as goal
 
 pub loop-k-init : goal.loop-k-init

@@ -3,7 +3,6 @@
 use native.Mathlib.Omega.{arith}
 use mathlib.Core.Path.{ap}
 use lib.ListN.{length}
-use borrow.Author.Rules.{rules}
 use Rattle.fromhex.proofs.sends.Goals as goal
 
 pub slice_bounds-starts-end : goal.slice_bounds-starts-end

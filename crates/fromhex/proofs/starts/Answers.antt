@@ -1,10 +1,8 @@
 -- `starts` meets its contract. The loop's invariant: the two agree as far as it came.
 -- Assumes nothing.
-use Prim.Native.Nat.{◌-◌, ◌≤◌}
 use native.Mathlib.Omega.{arith}
 use mathlib.Core.Path.{◌≡◌, refl}
-use lib.ListN.{length, take}
-use borrow.Author.Rules.{rules}
+use lib.ListN.{length}
 use Rattle.fromhex.proofs.Judging.{too_short, differs, agrees, agreed}
 use Rattle.fromhex.proofs.starts.Goals as goal
 

@@ -1,15 +1,9 @@
 -- `walk` meets its contract. The loop's invariant: good lines so far, and their bytes kept.
 -- Assumes nothing.
 use Prim.Native.Nat.{◌-◌}
-use native.Mathlib.Omega.{arith}
-use mathlib.Core.Path.{◌≡◌, refl, sym}
-use mathlib.Core.List.{[]}
+use mathlib.Core.Path.{◌≡◌}
 use lib.ListN.{length}
-use lib.Seq.{length-take-le}
-use borrow.Author.Rules.{rules}
-use Rattle.hextext.specs.Meaning.{none}
-use Rattle.fromhex.specs.Reading.{Midway, kept}
-use Rattle.fromhex.proofs.Walking.{rest_is, advances, finished, turned}
+use Rattle.fromhex.specs.Reading.{Midway}
 use Rattle.fromhex.proofs.walk.Given as goal
 
 abbrev pub invariant-loop-into : goal.invariant-loop-into

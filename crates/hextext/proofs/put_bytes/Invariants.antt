@@ -1,14 +1,9 @@
 -- `put_bytes` meets its contract. The loop's invariant: the text of the bytes passed is put.
 -- Assumes nothing.
 use Prim.Native.Nat.{◌≤◌, ◌-◌}
-use native.Mathlib.Omega.{arith}
 use lib.ListN.{length, take}
-use lib.Seq.{take_all, length-take-le}
-use borrow.Author.Rules.{rules}
 use Rattle.spelling.specs.Spelling.{Put}
-use Rattle.spelling.proofs.Putting.{put_none, then}
 use Rattle.hextext.specs.Text.{hex_text}
-use Rattle.hextext.proofs.Spelled.{text_next, text_length}
 use Rattle.hextext.proofs.put_bytes.Given as goal
 
 abbrev pub invariant-loop-i : goal.invariant-loop-i

@@ -5,7 +5,6 @@ use native.Mathlib.Omega.{arith}
 use mathlib.Core.Path.{◌≡◌, ◌∙◌, ap}
 use mathlib.Core.List.{◌∷◌}
 use lib.ListN.{length}
-use borrow.Author.Rules.{rules}
 use Rattle.spelling.proofs.Putting.{then}
 use Rattle.hextext.specs.Text.{checksum, data_line}
 use Rattle.hextext.proofs.put_data.Goals as goal

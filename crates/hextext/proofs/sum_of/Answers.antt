@@ -1,11 +1,8 @@
 -- `sum_of` meets its contract. The loop's invariant: the sum of the bytes passed, each at most 255.
 -- Assumes nothing.
-use Prim.Native.Nat.{◌≤◌, ◌*◌, ◌-◌}
 use native.Mathlib.Omega.{arith}
-use mathlib.Core.Path.{◌≡◌, ◌∙◌, ap}
-use lib.ListN.{length, take}
+use mathlib.Core.Path.{◌∙◌, ap}
 use lib.Seq.{take_all}
-use borrow.Author.Rules.{rules}
 use Rattle.hextext.specs.Text.{sum}
 use Rattle.hextext.proofs.Spelled.{sum_next}
 use Rattle.hextext.proofs.sum_of.Goals as goal

@@ -1,13 +1,9 @@
 -- `sum_of` meets its contract. The loop's invariant: the sum of the bytes passed, each at most 255.
 -- Assumes nothing.
 use Prim.Native.Nat.{◌≤◌, ◌*◌, ◌-◌}
-use native.Mathlib.Omega.{arith}
-use mathlib.Core.Path.{◌≡◌, ◌∙◌, ap}
+use mathlib.Core.Path.{◌≡◌}
 use lib.ListN.{length, take}
-use lib.Seq.{take_all}
-use borrow.Author.Rules.{rules}
 use Rattle.hextext.specs.Text.{sum}
-use Rattle.hextext.proofs.Spelled.{sum_next}
 use Rattle.hextext.proofs.sum_of.Given as goal
 
 abbrev pub invariant-loop-i : goal.invariant-loop-i

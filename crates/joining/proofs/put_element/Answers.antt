@@ -1,7 +1,6 @@
 -- `put_element` meets its contract: header, fixed fields and part are laid out side by side, each where the one before ends.
 -- Assumes nothing.
 use native.Mathlib.Omega.{arith}
-use borrow.Author.Rules.{rules}
 use Rattle.laying.proofs.Laws.{element_length, overwritten_element}
 use Rattle.joining.proofs.put_element.Goals as goal
 

@@ -1,7 +1,6 @@
 -- `controller` meets its contract: fixed bytes and part are judged apart, and joined.
 -- Assumes nothing.
 use Rattle.judging.proofs.Fixed.{controller_is}
-use borrow.Author.Rules.{rules}
 use Rattle.judging.proofs.controller.Goals as goal
 
 pub returns : goal.returns

@@ -2,7 +2,6 @@
 -- Assumes nothing.
 use mathlib.Core.Path.{refl}
 use Rattle.judging.proofs.Fixed.{external_is}
-use borrow.Author.Rules.{rules}
 use Rattle.judging.proofs.external.Goals as goal
 
 pub returns : goal.returns

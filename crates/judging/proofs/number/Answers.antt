@@ -7,7 +7,6 @@ use mathlib.Core.List.{List}
 use lib.ListN.{drop_of_length-le}
 use lib.Seq.{get_or-drop}
 use Rattle.format.specs.Slots.{byte}
-use borrow.Author.Rules.{rules}
 use Rattle.judging.proofs.number.Goals as goal
 
 pub returns-then-u-lt4 : goal.returns-then-u-lt4

@@ -2,7 +2,6 @@
 -- Assumes nothing.
 use mathlib.Core.Path.{refl}
 use Rattle.judging.proofs.Ended.{pairs_ended}
-use borrow.Author.Rules.{rules}
 use Rattle.judging.proofs.pairs_part.Goals as goal
 
 pub returns : goal.returns

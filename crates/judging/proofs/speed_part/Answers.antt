@@ -2,7 +2,6 @@
 -- Assumes nothing.
 use mathlib.Core.Path.{refl}
 use Rattle.judging.proofs.Ended.{speed_ended}
-use borrow.Author.Rules.{rules}
 use Rattle.judging.proofs.speed_part.Goals as goal
 
 pub returns : goal.returns

@@ -1,7 +1,6 @@
 -- `tachometer` meets its contract: fixed bytes and part are judged apart, and joined.
 -- Assumes nothing.
 use Rattle.judging.proofs.Fixed.{tachometer_is}
-use borrow.Author.Rules.{rules}
 use Rattle.judging.proofs.tachometer.Goals as goal
 
 pub returns : goal.returns

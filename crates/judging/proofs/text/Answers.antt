@@ -6,7 +6,6 @@ use lib.ListN.{drop, length-drop}
 use lib.Seq.{get_or-drop}
 use Rattle.rules.proofs.Contents.{text_short}
 use Rattle.judging.proofs.Fixed.{text_ended}
-use borrow.Author.Rules.{rules}
 use Rattle.judging.proofs.text.Goals as goal
 
 pub returns-then-u-lt6 : goal.returns-then-u-lt6

@@ -5,7 +5,6 @@ use Rattle.format.specs.ZonesAndStrings.{role}
 use Rattle.reader.proofs.Asking.{handed}
 use Rattle.labels.specs.Called.{refused, untitled}
 use Rattle.labels.proofs.Standing.{located_roled, found_there, past_last}
-use borrow.Author.Rules.{rules}
 use Rattle.labels.proofs.find.Goals as goal
 
 pub returns-in_default : goal.returns-in_default

@@ -3,7 +3,6 @@
 use native.Mathlib.Omega.{arith}
 use Rattle.places.proofs.Roles.{role_long, zone_long, placed_long}
 use Rattle.labels.proofs.Telling.{zone_index, placed_index}
-use borrow.Author.Rules.{rules}
 use Rattle.labels.proofs.index_at.Goals as goal
 
 pub bounds-t-at : goal.bounds-t-at

@@ -3,7 +3,6 @@
 use native.Mathlib.Omega.{arith}
 use Rattle.places.proofs.Roles.{role_long}
 use Rattle.labels.proofs.Telling.{string_length, is_number, is_none}
-use borrow.Author.Rules.{rules}
 use Rattle.labels.proofs.is_string.Goals as goal
 
 pub bounds-t-at : goal.bounds-t-at

@@ -2,7 +2,6 @@
 -- Assumes nothing.
 use native.Mathlib.Omega.{arith}
 use Rattle.labels.proofs.Giving.{found_room, text_labelled, lent_labelled, none_labelled}
-use borrow.Author.Rules.{rules}
 use Rattle.labels.proofs.label.Goals as goal
 
 pub overflow_add-end : goal.overflow_add-end

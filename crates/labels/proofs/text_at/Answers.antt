@@ -5,7 +5,6 @@ use native.Mathlib.Omega.{arith}
 use mathlib.Core.Path.{ap}
 use Rattle.labels.specs.declared.Source.TheVariants.{Text}
 use Rattle.labels.proofs.Telling.{string_length}
-use borrow.Author.Rules.{rules}
 use Rattle.labels.proofs.text_at.Goals as goal
 
 pub length_at-requires : goal.length_at-requires

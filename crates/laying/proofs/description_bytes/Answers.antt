@@ -2,7 +2,6 @@
 -- its place's.
 -- Assumes nothing.
 use Prim.Native.Nat.{◌/◌}
-use borrow.Author.Rules.{rules}
 use borrow.Author.Tests.{ltb-true}
 use Rattle.format.specs.Layout.{opening}
 use Rattle.laying.proofs.Laws.{roomy_at}

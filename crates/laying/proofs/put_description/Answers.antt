@@ -1,6 +1,5 @@
 -- `laying::put_description` meets its contract: what is copied is what `description_bytes` gives.
 -- Assumes nothing.
-use borrow.Author.Rules.{rules}
 use Rattle.laying.proofs.put_description.Goals as goal
 
 pub returns : goal.returns

@@ -1,7 +1,6 @@
 -- `laying::put_fixed` meets its contract: the arm that was taken is the element's kind, whose function lays its bytes; a zone
 -- descriptor and a string have none.
 -- Assumes nothing.
-use borrow.Author.Rules.{rules}
 use mathlib.Core.Path.{refl}
 use Rattle.laying.proofs.OfKind.{roomed, laid, bare, as_fan}
 use Rattle.laying.proofs.put_fixed.Goals as goal

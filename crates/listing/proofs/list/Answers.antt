@@ -1,13 +1,9 @@
 -- `list` meets its contract. The loop's invariant: the lines of the elements behind the place stand in the buffer.
 -- Assumes nothing.
-use Prim.Native.Nat.{◌-◌}
 use native.Mathlib.Omega.{arith}
-use lib.ListN.{length}
-use borrow.Author.Rules.{rules}
 use Rattle.reader.proofs.Asking.{handed, long}
-use Rattle.walking.specs.Walk.{Walk}
 use Rattle.walking.proofs.Left.{top, here}
-use Rattle.listing.proofs.Turn.{Lined, refusal, begun, room, unpinned, turned, whole}
+use Rattle.listing.proofs.Turn.{refusal, begun, room, unpinned, turned, whole}
 use Rattle.listing.proofs.list.Goals as goal
 
 pub returns-in_default : goal.returns-in_default
@@ -32,15 +28,14 @@ part_at-requires c =
     (_, h.0, h.1)
 
 pub put_element-end-requires : goal.put_element-end-requires
-put_element-end-requires c =
-    (
-      omega (
-        arith,
-        room _ _ _ _ _ _ _ c.loop-at.invariant c.loop-at-test.true c.put_table-end.ensures.1,
-        c.put_element-arg-1.given,
-      ),
-      unpinned _ _ _ _ _ _ _ c.loop-at.invariant _ c.loop-at-test.true c.element_at-e.ensures,
-    )
+put_element-end-requires c = (
+  omega (
+    arith,
+    room _ _ _ _ _ _ _ c.loop-at.invariant c.loop-at-test.true c.put_table-end.ensures.1,
+    c.put_element-arg-1.given,
+  ),
+  unpinned _ _ _ _ _ _ _ c.loop-at.invariant _ c.loop-at-test.true c.element_at-e.ensures,
+)
 
 pub length_at-at-requires : goal.length_at-at-requires
 length_at-at-requires c =

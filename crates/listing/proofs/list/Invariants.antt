@@ -1,13 +1,9 @@
 -- `list` meets its contract. The loop's invariant: the lines of the elements behind the place stand in the buffer.
 -- Assumes nothing.
 use Prim.Native.Nat.{◌-◌}
-use native.Mathlib.Omega.{arith}
 use lib.ListN.{length}
-use borrow.Author.Rules.{rules}
-use Rattle.reader.proofs.Asking.{handed, long}
 use Rattle.walking.specs.Walk.{Walk}
-use Rattle.walking.proofs.Left.{top, here}
-use Rattle.listing.proofs.Turn.{Lined, refusal, begun, room, unpinned, turned, whole}
+use Rattle.listing.proofs.Turn.{Lined}
 use Rattle.listing.proofs.list.Given as goal
 
 abbrev pub invariant-loop-at : goal.invariant-loop-at

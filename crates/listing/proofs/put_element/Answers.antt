@@ -18,26 +18,25 @@ put_own-requires c =
 
 pub returns : goal.returns
 unfolding element_line
-returns c =
-    (
-      then
-          c.put-a.ensures
-          (then
-          c.put_number-b.ensures.0
-          (then
-          (rw c.id_of.ensures at c.put_id-c.ensures.0)
-          (then
-          (rw c.shown-w.ensures.0 at c.put_zone-d.ensures.0)
-          (subst (λ (u : Bool). Put c.put_zone-d.new.out c.put_zone-d.result (line (pins_text (own_pins c.args.e) ∷ last_field u)) c.put_own.result c.put_own.new.out)
-          c.shown-w.ensures.2
-          (subst (λ (p : OwnPins). Put c.put_zone-d.new.out c.put_zone-d.result (line (pins_text p ∷ last_field c.shown-w.result.used)) c.put_own.result c.put_own.new.out)
-          c.shown-w.ensures.1 c.put_own.ensures.0))))),
-      omega (
-        arith,
-        c.put-a.ensures.ends,
-        c.put_number-b.ensures.1,
-        c.put_id-c.ensures.1,
-        c.put_zone-d.ensures.1,
-        c.put_own.ensures.1,
-      ),
-    )
+returns c = (
+  then
+      c.put-a.ensures
+      (then
+      c.put_number-b.ensures.0
+      (then
+      (rw c.id_of.ensures at c.put_id-c.ensures.0)
+      (then
+      (rw c.shown-w.ensures.0 at c.put_zone-d.ensures.0)
+      (subst (λ (u : Bool). Put c.put_zone-d.new.out c.put_zone-d.result (line (pins_text (own_pins c.args.e) ∷ last_field u)) c.put_own.result c.put_own.new.out)
+      c.shown-w.ensures.2
+      (subst (λ (p : OwnPins). Put c.put_zone-d.new.out c.put_zone-d.result (line (pins_text p ∷ last_field c.shown-w.result.used)) c.put_own.result c.put_own.new.out)
+      c.shown-w.ensures.1 c.put_own.ensures.0))))),
+  omega (
+    arith,
+    c.put-a.ensures.ends,
+    c.put_number-b.ensures.1,
+    c.put_id-c.ensures.1,
+    c.put_zone-d.ensures.1,
+    c.put_own.ensures.1,
+  ),
+)

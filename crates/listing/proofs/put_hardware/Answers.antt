@@ -2,15 +2,13 @@
 -- Assumes nothing.
 use native.Mathlib.Omega.{arith}
 use Rattle.spelling.proofs.Putting.{then}
-use borrow.Author.Rules.{rules}
 use Rattle.listing.proofs.put_hardware.Goals as goal
 
 pub returns : goal.returns
-returns c =
-    (
-      then
-          (rw c.byte_of.ensures at c.put_pin-a.ensures.0)
-          (then (rw c.byte_of-2.ensures at c.put_pin-b.ensures.0)
-          (rw c.byte_of-3.ensures at c.put_pin.ensures.0)),
-      omega (arith, c.put_pin-a.ensures.1, c.put_pin-b.ensures.1, c.put_pin.ensures.1),
-    )
+returns c = (
+  then
+      (rw c.byte_of.ensures at c.put_pin-a.ensures.0)
+      (then (rw c.byte_of-2.ensures at c.put_pin-b.ensures.0)
+      (rw c.byte_of-3.ensures at c.put_pin.ensures.0)),
+  omega (arith, c.put_pin-a.ensures.1, c.put_pin-b.ensures.1, c.put_pin.ensures.1),
+)

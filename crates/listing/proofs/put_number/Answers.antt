@@ -2,7 +2,6 @@
 -- Assumes nothing.
 use native.Mathlib.Omega.{arith}
 use Rattle.spelling.proofs.Putting.{then}
-use borrow.Author.Rules.{rules}
 use Rattle.listing.proofs.put_number.Goals as goal
 
 pub returns : goal.returns

@@ -2,7 +2,6 @@
 -- Assumes nothing.
 use Rattle.spelling.proofs.Putting.{then}
 use Rattle.listing.specs.Lines.{refused_line}
-use borrow.Author.Rules.{rules}
 use Rattle.listing.proofs.put_refused.Goals as goal
 
 pub returns : goal.returns

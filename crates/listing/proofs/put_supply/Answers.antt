@@ -1,7 +1,6 @@
 -- `put_supply` meets its contract: by its two cases.
 -- Assumes nothing.
 use native.Mathlib.Omega.{arith}
-use borrow.Author.Rules.{rules}
 use Rattle.listing.proofs.put_supply.Goals as goal
 
 pub returns-then-d : goal.returns-then-d

@@ -2,7 +2,6 @@
 -- Assumes nothing.
 use native.Mathlib.Omega.{arith}
 use borrow.Author.Tests.{eq-eqb, ne_eqb}
-use borrow.Author.Rules.{rules}
 use Rattle.listing.proofs.put_zone.Goals as goal
 
 pub returns-then-z-eq256 : goal.returns-then-z-eq256

@@ -1,6 +1,5 @@
 -- `clear_index` meets its contract: by the identifier.
 -- Assumes nothing.
-use borrow.Author.Rules.{rules}
 use mathlib.Core.Path.{refl}
 use borrow.Author.Tests.{eq-eqb, ne_eqb}
 use Rattle.mending.proofs.clear_index.Goals as goal

@@ -1,12 +1,8 @@
 -- `copy_kept` meets its contract: run by run, what stands in the buffer is the bytes of those before.
 -- Assumes nothing.
-use Prim.Native.Nat.{◌-◌, ◌≤◌}
 use native.Mathlib.Omega.{arith}
-use mathlib.Core.Path.{◌≡◌, refl}
-use lib.ListN.{length, take}
-use Rattle.spelling.specs.Spelling.{Put}
+use mathlib.Core.Path.{refl}
 use Rattle.spelling.proofs.Putting.{put_none}
-use Rattle.mending.specs.Laid.{raws}
 use Rattle.mending.proofs.Copying.{run_room, run_put, copy_ends}
 use Rattle.mending.proofs.copy_kept.Goals as goal
 
@@ -42,13 +38,12 @@ loop-i-smaller c =
     omega (arith, c.run_from-run.ensures.on, c.run_from-run.ensures.most)
 
 pub loop-i-preserved : goal.loop-i-preserved
-loop-i-preserved c =
-    (
-      omega (arith, c.loop-i.invariant.0),
-      c.run_from-run.ensures.most,
-      run_put _ _ _ _ _ c.run_from-run.ensures _ _ _ c.loop-i.invariant.2 c.requires.room _
-          c.copy_into.ensures,
-    )
+loop-i-preserved c = (
+  omega (arith, c.loop-i.invariant.0),
+  c.run_from-run.ensures.most,
+  run_put _ _ _ _ _ c.run_from-run.ensures _ _ _ c.loop-i.invariant.2 c.requires.room _
+      c.copy_into.ensures,
+)
 
 pub shape_of-out : goal.shape_of-out
 shape_of-out c = omega (arith, c.loop-i.invariant.0)

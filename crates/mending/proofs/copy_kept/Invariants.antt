@@ -1,13 +1,10 @@
 -- `copy_kept` meets its contract: run by run, what stands in the buffer is the bytes of those before.
 -- Assumes nothing.
 use Prim.Native.Nat.{◌-◌, ◌≤◌}
-use native.Mathlib.Omega.{arith}
-use mathlib.Core.Path.{◌≡◌, refl}
+use mathlib.Core.Path.{◌≡◌}
 use lib.ListN.{length, take}
 use Rattle.spelling.specs.Spelling.{Put}
-use Rattle.spelling.proofs.Putting.{put_none}
 use Rattle.mending.specs.Laid.{raws}
-use Rattle.mending.proofs.Copying.{run_room, run_put, copy_ends}
 use Rattle.mending.proofs.copy_kept.Given as goal
 
 abbrev pub invariant-loop-i : goal.invariant-loop-i

@@ -1,6 +1,5 @@
 -- `mend_index` meets its contract: cleared or not.
 -- Assumes nothing.
-use borrow.Author.Rules.{rules}
 use Rattle.mending.proofs.mend_index.Goals as goal
 
 pub returns-then-cleared : goal.returns-then-cleared

@@ -1,10 +1,9 @@
 -- `new_length` meets its contract: so far, and what is left, are the whole.
 -- Assumes nothing.
-use Prim.Native.Nat.{◌+◌, ◌-◌, ◌*◌, ◌≤◌}
 use native.Mathlib.Omega.{arith}
 use mathlib.Core.Path.{refl}
 use Rattle.mending.proofs.Laying.{size_there, inside}
-use Rattle.mending.proofs.Listing.{keeps_at, Summing, sum_on, sum_ends}
+use Rattle.mending.proofs.Listing.{keeps_at, sum_on, sum_ends}
 use Rattle.mending.proofs.new_length.Goals as goal
 
 pub loop-i-init : goal.loop-i-init

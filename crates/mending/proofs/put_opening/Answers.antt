@@ -1,6 +1,5 @@
 -- `put_opening` meets its contract: the description of a table of 16 bytes, its length mended and its index cleared or not.
 -- Assumes nothing.
-use borrow.Author.Rules.{rules}
 use native.Mathlib.Omega.{arith}
 use lib.ListN.{length-set}
 use Rattle.mending.proofs.Laying.{read_roomy, opened_as_it_is, opened_cleared}

@@ -1,13 +1,13 @@
 -- `run_from` meets its contract: the run so far is the bytes of those that it has passed.
 -- Assumes nothing.
-use Prim.Native.Nat.{ℕ, ◌-◌, ◌/◌, ◌<◌, ◌≤◌}
+use Prim.Native.Nat.{ℕ}
 use native.Mathlib.Omega.{arith}
 use mathlib.Core.Path.{ap}
-use lib.ListN.{length, drop, get_or}
+use lib.ListN.{drop}
 use Rattle.format.specs.Verdict.{stated}
 use Rattle.mending.proofs.Laying.{size_there, inside}
 use Rattle.mending.proofs.Listing.{keeps_at}
-use Rattle.mending.proofs.Copying.{Running, run_begun, run_on}
+use Rattle.mending.proofs.Copying.{run_begun, run_on}
 use Rattle.mending.proofs.run_from.Goals as goal
 
 pub offset_bounds-kept-i : goal.offset_bounds-kept-i

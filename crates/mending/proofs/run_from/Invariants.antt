@@ -1,13 +1,8 @@
 -- `run_from` meets its contract: the run so far is the bytes of those that it has passed.
 -- Assumes nothing.
-use Prim.Native.Nat.{ℕ, ◌-◌, ◌/◌, ◌<◌, ◌≤◌}
-use native.Mathlib.Omega.{arith}
-use mathlib.Core.Path.{ap}
-use lib.ListN.{length, drop, get_or}
-use Rattle.format.specs.Verdict.{stated}
-use Rattle.mending.proofs.Laying.{size_there, inside}
-use Rattle.mending.proofs.Listing.{keeps_at}
-use Rattle.mending.proofs.Copying.{Running, run_begun, run_on}
+use Prim.Native.Nat.{◌-◌, ◌/◌, ◌<◌, ◌≤◌}
+use lib.ListN.{length, get_or}
+use Rattle.mending.proofs.Copying.{Running}
 use Rattle.mending.proofs.run_from.Given as goal
 
 abbrev pub invariant-loop-j : goal.invariant-loop-j

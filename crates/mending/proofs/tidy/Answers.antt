@@ -1,6 +1,5 @@
 -- `tidy` meets its contract: reserved places first, then the index.
 -- Assumes nothing.
-use borrow.Author.Rules.{rules}
 use mathlib.Core.Path.{refl, ◌∙◌}
 use Rattle.mending.proofs.tidy.Goals as goal
 

@@ -1,18 +1,10 @@
 -- `tidy_kept` meets its contract: what it has passed is written as its records are, the rest stands as it did.
 -- Assumes nothing.
-use Prim.Native.Nat.{ℕ, ◌+◌, ◌-◌, ◌*◌, ◌≤◌}
 use native.Mathlib.Omega.{arith}
-use mathlib.Core.Path.{◌≡◌, refl}
-use mathlib.Core.List.{List, ◌++◌}
-use lib.ListN.{length, take}
-use Rattle.format.specs.Records.{Record}
-use Rattle.format.specs.declared.pins.Chip.{Chip}
-use Rattle.saving.specs.Saving.{At}
-use Rattle.fates.specs.Noted.{Each, Keeps}
-use Rattle.mending.specs.Laid.{raws}
+use mathlib.Core.Path.{refl}
 use Rattle.mending.proofs.Laying.{size_there, inside}
-use Rattle.mending.proofs.Listing.{keeps_at, Summing, sum_on}
-use Rattle.mending.proofs.Tidying.{Tidying, tidy_begun, tidy_room, tidy_on, tidy_ends}
+use Rattle.mending.proofs.Listing.{keeps_at, sum_on}
+use Rattle.mending.proofs.Tidying.{tidy_begun, tidy_room, tidy_on, tidy_ends}
 use Rattle.mending.proofs.tidy_kept.Goals as goal
 
 pub loop-i-init : goal.loop-i-init

@@ -1,6 +1,5 @@
 -- `at_zero` meets its contract: by the cases of the outcome.
 -- Assumes nothing.
-use borrow.Author.Rules.{rules}
 use Rattle.metering.proofs.at_zero.Goals as goal
 
 pub returns-in-Reading : goal.returns-in-Reading

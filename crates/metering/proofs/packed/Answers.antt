@@ -1,7 +1,6 @@
 -- `packed` meets its contract: by the cases of the answer.
 -- Assumes nothing.
 use native.Mathlib.Omega.{arith}
-use borrow.Author.Rules.{rules}
 use Rattle.metering.proofs.packed.Goals as goal
 
 pub overflow_mul-result-in-Refused : goal.overflow_mul-result-in-Refused

@@ -1,7 +1,6 @@
 -- `packed_own` meets its contract: our own thermistor's answer to the shortened count.
 -- Assumes nothing.
 use native.Mathlib.Omega.{arith}
-use borrow.Author.Rules.{rules}
 use Rattle.sensing.specs.declared.Sensor.TheVariants.{Points}
 use Rattle.thermistor.specs.Ready.{ours}
 use Rattle.metering.proofs.Shortening.{unshortened}

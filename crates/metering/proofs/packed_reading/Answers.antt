@@ -1,7 +1,6 @@
 -- `packed_reading` meets its contract: no place is too large.
 -- Assumes nothing.
 use Rattle.metering.proofs.Placing.{placed}
-use borrow.Author.Rules.{rules}
 use Rattle.metering.proofs.packed_reading.Goals as goal
 
 pub packed-requires : goal.packed-requires

@@ -2,7 +2,6 @@
 -- Assumes nothing.
 use Rattle.metering.specs.Meters.{given, ungiven}
 use Rattle.metering.proofs.Shortening.{unshortened}
-use borrow.Author.Rules.{rules}
 use Rattle.metering.proofs.reading.Goals as goal
 
 pub returns-in-Element : goal.returns-in-Element

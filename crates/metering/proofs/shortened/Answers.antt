@@ -1,7 +1,6 @@
 -- `shortened` meets its contract: by its two cases.
 -- Assumes nothing.
 use Rattle.metering.specs.Meters.{whole, cut}
-use borrow.Author.Rules.{rules}
 use Rattle.metering.proofs.shortened.Goals as goal
 
 pub returns-then-count-lt65536 : goal.returns-then-count-lt65536

@@ -6,7 +6,6 @@ use Prim.Native.Nat.{ℕ, zero, suc, ◌≤◌}
 use mathlib.Core.List.{List, [], ◌∷◌}
 use lib.ListN.{length}
 use Rattle.format.specs.Slots.{byte}
-use borrow.Author.Rules.{rules}
 use Rattle.naming.proofs.byte_at.Goals as goal
 
 past_end : (p : List ℕ) (i : ℕ) → length p ≤ i → 0 ≡ byte p i

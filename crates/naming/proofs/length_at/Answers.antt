@@ -3,7 +3,6 @@
 use native.Mathlib.Omega.{arith}
 use mathlib.Core.Path.{◌∙◌}
 use Rattle.pass.proofs.Moving.{stated_at}
-use borrow.Author.Rules.{rules}
 use Rattle.naming.proofs.length_at.Goals as goal
 
 pub returns-then-len-lt3 : goal.returns-then-len-lt3

@@ -2,7 +2,6 @@
 -- Assumes nothing.
 use native.Mathlib.Omega.{arith}
 use mathlib.Core.Path.{refl}
-use borrow.Author.Rules.{rules}
 use Rattle.naming.proofs.name.Goals as goal
 
 pub returns-then-id-eq12 : goal.returns-then-id-eq12

@@ -1,18 +1,7 @@
 -- `name_all` meets its contract: some elements are noted, and the others are ahead.
 -- Assumes nothing.
 use native.Mathlib.Omega.{arith}
-use mathlib.Core.Path.{◌≡◌}
-use Prim.Native.Nat.{◌+◌, ◌-◌, ◌≤◌}
-use mathlib.Core.List.{List}
-use lib.ListN.{length, drop}
-use Rattle.format.specs.Slots.{Bytes}
-use Rattle.format.specs.Records.{Record}
-use Rattle.format.specs.Layout.{place_after}
-use Rattle.format.specs.ZonesAndStrings.{zone_named, string_named}
-use Rattle.format.specs.declared.settings.Settings.{Settings}
-use Rattle.pass.specs.Tracks.{Took}
-use Rattle.firsts.specs.Firsts.{Firsts}
-use Rattle.naming.proofs.Named.{Sofar, sofar_none, sofar_next, sofar_all}
+use Rattle.naming.proofs.Named.{sofar_none, sofar_next, sofar_all}
 use Rattle.naming.proofs.name_all.Goals as goal
 
 pub loop-i-init : goal.loop-i-init

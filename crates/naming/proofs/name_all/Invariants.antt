@@ -1,6 +1,5 @@
 -- `name_all` meets its contract: some elements are noted, and the others are ahead.
 -- Assumes nothing.
-use native.Mathlib.Omega.{arith}
 use mathlib.Core.Path.{◌≡◌}
 use Prim.Native.Nat.{◌+◌, ◌-◌, ◌≤◌}
 use mathlib.Core.List.{List}
@@ -12,7 +11,7 @@ use Rattle.format.specs.ZonesAndStrings.{zone_named, string_named}
 use Rattle.format.specs.declared.settings.Settings.{Settings}
 use Rattle.pass.specs.Tracks.{Took}
 use Rattle.firsts.specs.Firsts.{Firsts}
-use Rattle.naming.proofs.Named.{Sofar, sofar_none, sofar_next, sofar_all}
+use Rattle.naming.proofs.Named.{Sofar}
 use Rattle.naming.proofs.name_all.Given as goal
 
 abbrev pub invariant-loop-i : goal.invariant-loop-i

@@ -2,7 +2,6 @@
 -- Assumes nothing.
 use native.Mathlib.Omega.{arith}
 use Rattle.pass.proofs.Moving.{content_at}
-use borrow.Author.Rules.{rules}
 use Rattle.naming.proofs.name_one.Goals as goal
 
 pub returns-then-p-to : goal.returns-then-p-to

@@ -1,6 +1,5 @@
 -- `into::bus_places` meets its contract, by what each call ensures of its result.
 -- Assumes nothing.
-use borrow.Author.Rules.{rules}
 use Rattle.numbered.proofs.bus_places.Goals as goal
 
 pub returns : goal.returns

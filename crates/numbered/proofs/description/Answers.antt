@@ -3,7 +3,6 @@
 use Prim.Native.Nat.{ℕ, ◌%◌, ◌/◌}
 use native.Mathlib.Omega.{arith}
 use mathlib.Core.Path.{◌≡◌}
-use borrow.Author.Rules.{rules}
 use Rattle.numbered.proofs.description.Goals as goal
 
 first : (s : ℕ) → s % 65536 % 256 ≡ s % 256

@@ -1,6 +1,5 @@
 -- `into::digital` meets its contract, by what each call ensures of its result.
 -- Assumes nothing.
-use borrow.Author.Rules.{rules}
 use Rattle.numbered.proofs.digital.Goals as goal
 
 pub returns : goal.returns

@@ -1,7 +1,6 @@
 -- `into::element` meets its contract: the arm that was taken is the element's kind.
 -- Assumes nothing.
 use mathlib.Core.Path.{refl}
-use borrow.Author.Rules.{rules}
 use Rattle.numbered.proofs.element.Goals as goal
 
 pub returns-in-Digital : goal.returns-in-Digital

@@ -1,6 +1,5 @@
 -- `into::external` meets its contract, by what `device` ensures of its result.
 -- Assumes nothing.
-use borrow.Author.Rules.{rules}
 use Rattle.numbered.proofs.external.Goals as goal
 
 pub returns : goal.returns

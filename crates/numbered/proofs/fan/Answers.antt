@@ -1,6 +1,5 @@
 -- `into::fan` meets its contract, by what each call ensures of its result.
 -- Assumes nothing.
-use borrow.Author.Rules.{rules}
 use Rattle.numbered.proofs.fan.Goals as goal
 
 pub returns : goal.returns

@@ -1,6 +1,5 @@
 -- `into::lamp_at` meets its contract, by what each call ensures of its result.
 -- Assumes nothing.
-use borrow.Author.Rules.{rules}
 use Rattle.numbered.proofs.lamp_at.Goals as goal
 
 pub returns : goal.returns

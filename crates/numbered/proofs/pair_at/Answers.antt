@@ -3,7 +3,6 @@
 use Prim.Native.Nat.{suc, ◌+◌}
 use mathlib.Core.Path.{◌≡◌}
 use native.Mathlib.Omega.{arith}
-use borrow.Author.Rules.{rules}
 use Rattle.numbered.proofs.pair_at.Goals as goal
 
 pub returns : goal.returns

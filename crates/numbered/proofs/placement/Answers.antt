@@ -1,6 +1,5 @@
 -- `into::placement` meets its contract, by what the one call ensures of its result.
 -- Assumes nothing.
-use borrow.Author.Rules.{rules}
 use Rattle.numbered.proofs.placement.Goals as goal
 
 pub returns : goal.returns

@@ -1,6 +1,5 @@
 -- `from::analogue` meets its contract, by what each call ensures of its result.
 -- Assumes nothing.
-use native.Mathlib.Omega.{arith}
 use Rattle.numbers.proofs.analogue.Goals as goal
 
 pub returns : goal.returns

@@ -1,7 +1,6 @@
 -- `from::chip_of` meets its contract: the branch taken tells the test.
 -- Assumes nothing.
 use borrow.Author.Tests.{eq-eqb, ne_eqb}
-use borrow.Author.Rules.{rules}
 use Rattle.numbers.proofs.chip_of.Goals as goal
 
 pub returns-then-n-eq0 : goal.returns-then-n-eq0

@@ -1,7 +1,5 @@
 -- `from::current` meets its contract, by what each call ensures of its result.
 -- Assumes nothing.
-use native.Mathlib.Omega.{arith}
-use borrow.Author.Rules.{rules}
 use Rattle.numbers.proofs.current.Goals as goal
 
 pub returns : goal.returns

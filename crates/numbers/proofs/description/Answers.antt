@@ -1,6 +1,5 @@
 -- `from::description` meets its contract, by what each call ensures of its result.
 -- Assumes nothing.
-use borrow.Author.Rules.{rules}
 use Rattle.numbers.proofs.description.Goals as goal
 
 pub returns : goal.returns

@@ -1,7 +1,5 @@
 -- `from::device` meets its contract, by what each call ensures of its result.
 -- Assumes nothing.
-use native.Mathlib.Omega.{arith}
-use borrow.Author.Rules.{rules}
 use Rattle.numbers.proofs.device.Goals as goal
 
 pub returns : goal.returns

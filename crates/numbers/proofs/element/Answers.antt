@@ -1,6 +1,5 @@
 -- `element` meets its contract: the branch taken tells whether the identifier is one of the fourteen.
 -- Assumes nothing.
-use borrow.Author.Rules.{rules}
 use Rattle.numbers.proofs.element.Goals as goal
 
 pub returns-then-id : goal.returns-then-id

@@ -1,7 +1,5 @@
 -- `from::external` meets its contract, by what `device` ensures of its result.
 -- Assumes nothing.
-use native.Mathlib.Omega.{arith}
-use borrow.Author.Rules.{rules}
 use Rattle.numbers.proofs.external.Goals as goal
 
 pub returns : goal.returns

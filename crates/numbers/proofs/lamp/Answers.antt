@@ -1,6 +1,5 @@
 -- `from::lamp` meets its contract, by what the one call ensures of its result.
 -- Assumes nothing.
-use borrow.Author.Rules.{rules}
 use Rattle.numbers.proofs.lamp.Goals as goal
 
 pub returns : goal.returns

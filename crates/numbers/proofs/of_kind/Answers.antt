@@ -1,7 +1,6 @@
 -- `of_kind` meets its contract: the arm that was taken is the identifier's.
 -- Assumes nothing.
 use borrow.Author.Tests.{ne_eqb}
-use borrow.Author.Rules.{rules}
 use Rattle.numbers.proofs.of_kind.Goals as goal
 
 pub returns-in-1 : goal.returns-in-1

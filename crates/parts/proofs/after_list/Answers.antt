@@ -1,7 +1,6 @@
 -- `after_list` meets its contract, by what each call ensures of its result.
 -- Assumes nothing.
 use mathlib.Core.Path.{refl}
-use borrow.Author.Rules.{rules}
 use Rattle.parts.proofs.after_list.Goals as goal
 
 pub returns : goal.returns

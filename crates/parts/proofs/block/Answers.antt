@@ -1,7 +1,6 @@
 -- `block` meets its contract: the bytes from its block on, and what stands at their head.
 -- Assumes nothing.
 use mathlib.Core.Path.{refl}
-use borrow.Author.Rules.{rules}
 use Rattle.parts.proofs.block.Goals as goal
 
 pub returns : goal.returns

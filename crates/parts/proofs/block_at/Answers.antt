@@ -1,9 +1,8 @@
 -- `block_at` meets its contract: SPEED and the list after it.
 -- Assumes nothing.
 use mathlib.Core.Path.{sym, ◌∙◌}
-use Rattle.parts.specs.declared.MaybeEntries.TheVariants.{Entries, Nothing}
+use Rattle.parts.specs.declared.MaybeEntries.TheVariants.{Nothing}
 use Rattle.parts.proofs.Reading.{with_speed_lem}
-use borrow.Author.Rules.{rules}
 use Rattle.parts.proofs.block_at.Goals as goal
 
 pub returns-in-Entries : goal.returns-in-Entries

@@ -1,10 +1,7 @@
 -- `blocks_from` meets its contract: what is left to pass is the invariant, and each turn passes one block.
 -- Assumes nothing.
-use native.Mathlib.Omega.{arith}
-use mathlib.Core.Path.{◌≡◌, refl, ◌∙◌}
+use mathlib.Core.Path.{◌≡◌}
 use Rattle.parts.specs.Inside.{blocks_from}
-use Rattle.parts.proofs.Reading.{none_left, turn}
-use borrow.Author.Rules.{rules}
 use Rattle.parts.proofs.blocks_from.Given as goal
 
 abbrev pub invariant-loop-left : goal.invariant-loop-left

@@ -1,7 +1,6 @@
 -- `list_at` meets its contract: by whether the list is whole.
 -- Assumes nothing.
 use mathlib.Core.Path.{refl, sym, ◌∙◌}
-use borrow.Author.Rules.{rules}
 use Rattle.parts.proofs.list_at.Goals as goal
 
 pub returns-then-whole : goal.returns-then-whole

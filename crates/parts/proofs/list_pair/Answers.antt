@@ -1,7 +1,6 @@
 -- `list_pair` meets its contract: the bytes from its block on, and what stands at their head.
 -- Assumes nothing.
 use mathlib.Core.Path.{refl}
-use borrow.Author.Rules.{rules}
 use Rattle.parts.proofs.list_pair.Goals as goal
 
 pub returns : goal.returns

@@ -4,9 +4,7 @@ use Prim.Native.Nat.{◌+◌, ◌-◌}
 use native.Mathlib.Omega.{arith}
 use mathlib.Core.Path.{◌≡◌, refl, ◌∙◌}
 use lib.Seq.{drop-length}
-use Rattle.parts.specs.Inside.{lists_from}
 use Rattle.parts.proofs.Reading.{no_more, here, list_turn}
-use borrow.Author.Rules.{rules}
 use Rattle.parts.proofs.lists_from.Goals as goal
 
 pub returns-then-blocks-w : goal.returns-then-blocks-w

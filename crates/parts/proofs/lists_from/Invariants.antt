@@ -1,12 +1,8 @@
 -- `lists_from` meets its contract: what is left to pass is the invariant, and each turn passes one block.
 -- Assumes nothing.
 use Prim.Native.Nat.{◌+◌, ◌-◌}
-use native.Mathlib.Omega.{arith}
-use mathlib.Core.Path.{◌≡◌, refl, ◌∙◌}
-use lib.Seq.{drop-length}
+use mathlib.Core.Path.{◌≡◌}
 use Rattle.parts.specs.Inside.{lists_from}
-use Rattle.parts.proofs.Reading.{no_more, here, list_turn}
-use borrow.Author.Rules.{rules}
 use Rattle.parts.proofs.lists_from.Given as goal
 
 abbrev pub invariant-loop-left : goal.invariant-loop-left

@@ -1,7 +1,6 @@
 -- `pair` meets its contract: the bytes from its block on, without SPEED, and the pair in them.
 -- Assumes nothing.
 use mathlib.Core.Path.{refl}
-use borrow.Author.Rules.{rules}
 use Rattle.parts.proofs.pair.Goals as goal
 
 pub returns : goal.returns

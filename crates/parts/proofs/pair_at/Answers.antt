@@ -4,7 +4,6 @@ use mathlib.Core.Path.{◌∙◌}
 use native.Mathlib.Omega.{arith}
 use borrow.Author.Tests.{not-true, not-false}
 use Rattle.parts.proofs.Reading.{whole_long, pair_broken, pair_past, pair_here}
-use borrow.Author.Rules.{rules}
 use Rattle.parts.proofs.pair_at.Goals as goal
 
 pub returns-then-not-whole : goal.returns-then-not-whole

@@ -1,7 +1,6 @@
 -- `past` meets its contract: the rest of the bytes, or none.
 -- Assumes nothing.
 use Rattle.parts.proofs.Reading.{rest, past_end}
-use borrow.Author.Rules.{rules}
 use Rattle.parts.proofs.past.Goals as goal
 
 pub returns-then-end-n : goal.returns-then-end-n

@@ -1,7 +1,6 @@
 -- `whole` meets its contract, by what the call ensures of its result.
 -- Assumes nothing.
 use mathlib.Core.Path.{refl}
-use borrow.Author.Rules.{rules}
 use Rattle.parts.proofs.whole.Goals as goal
 
 pub returns : goal.returns

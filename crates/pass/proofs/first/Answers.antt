@@ -6,7 +6,6 @@ use mathlib.Core.Path.{◌≡◌, refl}
 use mathlib.Core.List.{List, [], ◌∷◌}
 use lib.ListN.{length}
 use Rattle.format.specs.Slots.{byte}
-use borrow.Author.Rules.{rules}
 use Rattle.pass.proofs.first.Goals as goal
 
 no-first : (b : List ℕ) → length b ≡ 0 → 0 ≡ byte b 0

@@ -1,7 +1,6 @@
 -- `follows` meets its contract, by whether there is any pin.
 -- Assumes nothing.
 use Rattle.pass.proofs.Following.{in_order_lem}
-use borrow.Author.Rules.{rules}
 use Rattle.pass.proofs.follows.Goals as goal
 
 pub returns : goal.returns

@@ -2,7 +2,6 @@
 -- Assumes nothing.
 use mathlib.Core.Path.{◌∙◌}
 use Rattle.pass.proofs.Following.{last_of_some, last_of_none}
-use borrow.Author.Rules.{rules}
 use Rattle.pass.proofs.last_of.Goals as goal
 
 pub returns-then-fans : goal.returns-then-fans

@@ -4,7 +4,6 @@ use mathlib.Core.Path.{refl}
 use native.Mathlib.Omega.{arith}
 use Rattle.pass.proofs.Stepped.{low_kept}
 use Rattle.pass.proofs.Moving.{stated_at, unframed_small, unframed_long, framed_good, content_at, move_6, move_11, move_on}
-use borrow.Author.Rules.{rules}
 use Rattle.pass.proofs.one_step.Goals as goal
 
 pub returns-then-len-lt3 : goal.returns-then-len-lt3

@@ -5,7 +5,6 @@ use mathlib.Core.Path.{refl}
 use borrow.Author.Tests.{not-true, not-false}
 use Rattle.pass.proofs.Stepped.{low_kept}
 use Rattle.pass.proofs.Taking.{placed_fault, placed_late, placed_good}
-use borrow.Author.Rules.{rules}
 use Rattle.pass.proofs.placed_step.Goals as goal
 
 pub returns-then-f-ne0 : goal.returns-then-f-ne0

@@ -4,7 +4,6 @@ use mathlib.Core.Path.{refl}
 use native.Mathlib.Omega.{arith}
 use Rattle.pass.proofs.Stepped.{low_kept}
 use Rattle.pass.proofs.Taking.{take_zone, take_text, take_placed, not_known, take_unknown}
-use borrow.Author.Rules.{rules}
 use Rattle.pass.proofs.take.Goals as goal
 
 pub returns-in-11 : goal.returns-in-11

@@ -4,7 +4,6 @@ use native.Mathlib.Omega.{arith}
 use mathlib.Core.Path.{refl, ◌∙◌}
 use Rattle.pass.proofs.Stepped.{low_kept, own_fault_lem}
 use Rattle.pass.proofs.Taking.{text_fault, text_good}
-use borrow.Author.Rules.{rules}
 use Rattle.pass.proofs.text_judged.Goals as goal
 
 pub returns-then-own-ne0 : goal.returns-then-own-ne0

@@ -1,16 +1,8 @@
 -- `walk` meets its contract: some elements are taken, the state and the flags track them, and the loop is where the pass is.
 -- Assumes nothing.
-use Prim.Native.Nat.{◌-◌, ◌≤◌}
 use native.Mathlib.Omega.{arith}
-use mathlib.Core.Path.{◌≡◌, refl}
-use mathlib.Core.List.{List}
-use lib.ListN.{length}
-use Rattle.format.specs.Slots.{Bytes}
-use Rattle.format.specs.Records.{Record}
-use Rattle.format.specs.Layout.{place_after}
-use Rattle.format.specs.declared.records.Description.{Description}
-use Rattle.pass.specs.Tracks.{flags, Low, Tracks}
-use Rattle.pass.proofs.Walking.{Onward, begin, go_on, stopped, cut_short, finish}
+use mathlib.Core.Path.{refl}
+use Rattle.pass.proofs.Walking.{begin, go_on, stopped, cut_short, finish}
 use Rattle.pass.proofs.walk.Goals as goal
 
 pub loop-at-init : goal.loop-at-init

@@ -4,7 +4,6 @@ use native.Mathlib.Omega.{arith}
 use mathlib.Core.Path.{refl}
 use Rattle.pass.proofs.Stepped.{low_kept, own_fault_lem}
 use Rattle.pass.proofs.Taking.{zone_long, zone_room, zone_fault, zone_good}
-use borrow.Author.Rules.{rules}
 use Rattle.pass.proofs.zone_step.Goals as goal
 
 pub returns-then-own-ne0 : goal.returns-then-own-ne0
@@ -13,7 +12,7 @@ returns-then-own-ne0 c = (
       own_fault_lem σ _ at _ _ _ _ (c.zone_breaks-own.ensures σ) c.if-own-ne0.true c.stopped.ensures.0
       c.stopped.ensures.1 refl,
   low_kept _ _ (omega arith) (omega arith) c.stopped.ensures.1,
-  )
+)
 
 pub bounds-b-0 : goal.bounds-b-0
 bounds-b-0 c = omega (arith, zone_long _ c.zone_breaks-own.ensures c.if-own-ne0.false)
@@ -26,7 +25,7 @@ returns-then-against-ne0 c = (
       c.zone_against-against.ensures
       c.if-against-ne0.true c.stopped-then-against-ne0.ensures.0 c.stopped-then-against-ne0.ensures.1,
   low_kept _ _ (omega arith) (omega arith) c.stopped-then-against-ne0.ensures.1,
-  )
+)
 
 pub bounds-b-1 : goal.bounds-b-1
 bounds-b-1 c =

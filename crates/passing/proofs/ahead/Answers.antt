@@ -19,7 +19,7 @@ front-requires c = let q = c.requires in (
   omega
       (arith, q.0),
   q.2,
-  )
+)
 
 pub returns : goal.returns
 returns c =

@@ -2,7 +2,6 @@
 -- Assumes nothing.
 use native.Mathlib.Omega.{arith}
 use Rattle.passing.proofs.Sharing.{kept_byte, piece_byte}
-use borrow.Author.Rules.{rules}
 use Rattle.passing.proofs.byte_of.Goals as goal
 
 pub returns-then-k-had : goal.returns-then-k-had

@@ -3,7 +3,6 @@
 use native.Mathlib.Omega.{arith}
 use mathlib.Core.Path.{refl}
 use Rattle.passing.proofs.Sharing.{all_short, all_wait, due_whole, due_late}
-use borrow.Author.Rules.{rules}
 use Rattle.passing.proofs.due.Goals as goal
 
 pub returns-then-all-lt3 : goal.returns-then-all-lt3

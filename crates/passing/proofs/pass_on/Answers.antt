@@ -2,19 +2,12 @@
 -- Assumes nothing.
 use native.Mathlib.Omega.{arith}
 use mathlib.Core.Path.{refl}
-use Prim.Native.Nat.{ℕ, ◌-◌}
-use mathlib.Core.List.{List}
+use Prim.Native.Nat.{◌-◌}
 use lib.ListN.{length, drop, length-drop}
 use lib.Seq.{length-take-le}
-use Rattle.format.specs.Slots.{Bytes}
-use Rattle.format.specs.Records.{Record}
-use Rattle.format.specs.declared.records.Description.{Description}
 use Rattle.format.proofs.Slots.{bytes_drop, bytes_take}
-use Rattle.pass.specs.Tracks.{flags}
 use Rattle.found.proofs.Judging.{rest}
 use Rattle.stream.specs.Running.{going}
-use Rattle.closing.specs.Ways.{On}
-use Rattle.passing.specs.Going.{Onto, Turned}
 use Rattle.passing.proofs.Resuming.{then_on, ended, turn_test, turn_both}
 use Rattle.passing.proofs.pass_on.Goals as goal
 

@@ -3,11 +3,9 @@
 use native.Mathlib.Omega.{arith}
 use mathlib.Core.Path.{◌≡◌, refl, ap}
 use Prim.Native.Nat.{◌-◌}
-use lib.ListN.{take}
 use lib.Seq.{length-take-le}
 use Rattle.underway.specs.declared.Under.{Under}
 use Rattle.passing.proofs.Resuming.{resume_low, resume_waits, resume_whole}
-use borrow.Author.Rules.{rules}
 use Rattle.passing.proofs.resume.Goals as goal
 
 pub returns-then-mine-lt3 : goal.returns-then-mine-lt3

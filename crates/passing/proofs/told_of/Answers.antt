@@ -3,7 +3,6 @@
 use native.Mathlib.Omega.{arith}
 use mathlib.Core.Path.{◌∙◌, sym}
 use Rattle.passing.proofs.Sharing.{told_is, kept_byte, piece_byte}
-use borrow.Author.Rules.{rules}
 use Rattle.passing.proofs.told_of.Goals as goal
 
 pub returns-then-had-eq0 : goal.returns-then-had-eq0

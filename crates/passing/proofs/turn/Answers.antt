@@ -8,7 +8,6 @@ use lib.Seq.{length-take-le}
 use Rattle.format.proofs.Slots.{bytes_drop, bytes_take}
 use Rattle.found.proofs.Judging.{rest}
 use Rattle.passing.proofs.Resuming.{stopped_turn, then_on, resumed_on}
-use borrow.Author.Rules.{rules}
 use Rattle.passing.proofs.turn.Goals as goal
 
 pub returns-then-way-ne0 : goal.returns-then-way-ne0

@@ -2,7 +2,6 @@
 -- Assumes nothing.
 use native.Mathlib.Omega.{arith}
 use borrow.Author.Tests.{eq-eqb, ne_eqb}
-use borrow.Author.Rules.{rules}
 use Rattle.pinlines.proofs.Lining.{decimal_short}
 use Rattle.pinlines.proofs.put_entry.Goals as goal
 

@@ -3,7 +3,6 @@
 use native.Mathlib.Omega.{arith}
 use mathlib.Core.Path.{sym, ◌∙◌}
 use borrow.Author.Tests.{not-true, not-false}
-use borrow.Author.Rules.{rules}
 use Rattle.pinlines.proofs.Lining.{sized, put_there, put_nothing}
 use Rattle.pinlines.proofs.put_on_chip.Goals as goal
 

@@ -1,10 +1,8 @@
 -- `text` meets its contract: at each turn the line of one pin.
 -- Assumes nothing.
-use Prim.Native.Nat.{◌-◌}
 use native.Mathlib.Omega.{arith}
 use mathlib.Core.Path.{refl}
-use borrow.Author.Rules.{rules}
-use Rattle.pinlines.proofs.Lining.{Lining, begun, room, turned, whole}
+use Rattle.pinlines.proofs.Lining.{begun, room, turned, whole}
 use Rattle.pinlines.proofs.text.Goals as goal
 
 pub loop-i-init : goal.loop-i-init

@@ -1,10 +1,7 @@
 -- `text` meets its contract: at each turn the line of one pin.
 -- Assumes nothing.
 use Prim.Native.Nat.{◌-◌}
-use native.Mathlib.Omega.{arith}
-use mathlib.Core.Path.{refl}
-use borrow.Author.Rules.{rules}
-use Rattle.pinlines.proofs.Lining.{Lining, begun, room, turned, whole}
+use Rattle.pinlines.proofs.Lining.{Lining}
 use Rattle.pinlines.proofs.text.Given as goal
 
 abbrev pub invariant-loop-i : goal.invariant-loop-i

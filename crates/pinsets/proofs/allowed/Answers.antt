@@ -5,7 +5,6 @@ use mathlib.Core.Path.{ap}
 use mathlib.Core.Bool.{Bool, ◌&&◌}
 use Rattle.format.specs.Pins.{same_chip}
 use Rattle.pinsets.proofs.Rows.{row_permits}
-use borrow.Author.Rules.{rules}
 use Rattle.pinsets.proofs.allowed.Goals as goal
 
 pub returns : goal.returns

@@ -1,6 +1,5 @@
 -- An unused place is allowed, and a pin where the pin is.
 -- Assumes nothing.
-use borrow.Author.Rules.{rules}
 use Rattle.pinsets.proofs.allowed_or_unused.Goals as goal
 
 pub returns-in-Used : goal.returns-in-Used

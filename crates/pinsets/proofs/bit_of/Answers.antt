@@ -3,7 +3,6 @@
 use mathlib.Core.Path.{refl}
 use Rattle.pinsets.specs.Sets.{pin_bit}
 use Rattle.pinsets.proofs.Rows.{shifted}
-use borrow.Author.Rules.{rules}
 use Rattle.pinsets.proofs.bit_of.Goals as goal
 
 pub returns : goal.returns

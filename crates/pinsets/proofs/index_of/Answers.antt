@@ -8,7 +8,6 @@ use lib.Dec.{ltb}
 use Rattle.pinsets.specs.Sets.{pin_index, pick}
 use Rattle.pinsets.proofs.Table.{picked, picked_not}
 use Rattle.pinsets.proofs.Rows.{index_small}
-use borrow.Author.Rules.{rules}
 use Rattle.pinsets.proofs.index_of.Goals as goal
 use Rattle.pinsets.proofs.index_of.Goals.{then-b, else-b}
 
@@ -19,6 +18,6 @@ returns c =
     let t = ltb (b % 16) 8 && ltb b 49 in
     let d = c.if-b.c in
     let f : d ≡ pick t b 55 =
-        elim c.if-b.branch [ then-b w ↦ picked t b 55 w.if-b.true w.c-is | else-b w ↦ picked_not t b 55 w.if-b.false w.c-is ] in
+    elim c.if-b.branch [ then-b w ↦ picked t b 55 w.if-b.true w.c-is | else-b w ↦ picked_not t b 55 w.if-b.false w.c-is ] in
     let r : d / 16 * 8 + d % 8 ≡ pin_index b = rw f refl in
     (r, rw r (index_small b (omega arith)))

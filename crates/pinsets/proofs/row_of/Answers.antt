@@ -2,7 +2,6 @@
 -- Assumes nothing.
 use mathlib.Core.Path.{refl}
 use Rattle.pinsets.specs.Sets.{row_of}
-use borrow.Author.Rules.{rules}
 use Rattle.pinsets.proofs.row_of.Goals as goal
 
 pub returns-in-FanPin : goal.returns-in-FanPin

@@ -1,7 +1,6 @@
 -- Two chips are the same where their numbers are.
 -- Assumes nothing.
 use Rattle.pinsets.proofs.Rows.{same_number}
-use borrow.Author.Rules.{rules}
 use Rattle.pinsets.proofs.same_chip.Goals as goal
 
 pub returns : goal.returns

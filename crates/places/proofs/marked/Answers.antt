@@ -1,6 +1,5 @@
 -- `marked` meets its contract: by the question that is asked.
 -- Assumes nothing.
-use borrow.Author.Rules.{rules}
 use Rattle.places.proofs.marked.Goals as goal
 
 pub returns-then-zone : goal.returns-then-zone

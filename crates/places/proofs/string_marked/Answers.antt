@@ -2,7 +2,6 @@
 -- Assumes nothing.
 use native.Mathlib.Omega.{arith}
 use Rattle.places.proofs.Roles.{role_long, placed_long, zone_long, string_none, string_of_zone, string_read}
-use borrow.Author.Rules.{rules}
 use Rattle.places.proofs.string_marked.Goals as goal
 
 pub bounds-t-at : goal.bounds-t-at
@@ -10,7 +9,7 @@ bounds-t-at c = omega (
   arith,
   role_long c.args.t.now c.args.at
       c.requires.0 c.requires.1,
-  )
+)
 
 pub returns-then-id-eq12 : goal.returns-then-id-eq12
 returns-then-id-eq12 c = λ x ns h m. string_none c.args.t.now c.args.at _ x ns h m
@@ -21,7 +20,7 @@ overflow_add-at c = omega (
   arith,
   zone_long c.args.t.now c.args.at
       c.requires.0 c.requires.1 c.if-id-eq11.true,
-  )
+)
 
 pub bounds-t-at-then-id-eq11 : goal.bounds-t-at-then-id-eq11
 bounds-t-at-then-id-eq11 c = omega (
@@ -29,7 +28,7 @@ bounds-t-at-then-id-eq11 c = omega (
   zone_long c.args.t.now
       c.args.at c.requires.0
       c.requires.1 c.if-id-eq11.true,
-  )
+)
 
 pub returns-then-id-eq11 : goal.returns-then-id-eq11
 returns-then-id-eq11 c = λ x ns h m. string_of_zone c.args.t.now
@@ -41,7 +40,7 @@ overflow_add-at-2 c = omega (
   arith,
   role_long c.args.t.now c.args.at
       c.requires.0 c.requires.1,
-  )
+)
 
 pub bounds-t-at-2 : goal.bounds-t-at-2
 bounds-t-at-2 c = omega (
@@ -49,7 +48,7 @@ bounds-t-at-2 c = omega (
   placed_long c.args.t.now
       c.args.at c.requires.0
       c.requires.1 c.if-id-eq11.false c.if-id-eq12.false,
-  )
+)
 
 pub returns : goal.returns
 returns c = λ x ns h m. string_read c.args.t.now

@@ -1,12 +1,11 @@
 -- `unmarked` meets its contract: what is left to search ends where the whole ends.
 -- Assumes nothing.
 use Prim.Native.Nat.{◌-◌}
-use native.Mathlib.Omega.{arith}
 use lib.ListN.{length}
 use Rattle.format.specs.declared.settings.Settings.{Settings}
 use Rattle.flags.specs.Marks.{Marks}
 use Rattle.places.specs.Walks.{Walkable, names_of, nameable}
-use Rattle.places.proofs.Search.{Search, begin, some_role, room, go_on, found, finish}
+use Rattle.places.proofs.Search.{Search}
 use Rattle.places.proofs.unmarked.Given as goal
 
 abbrev pub invariant-loop-at : goal.invariant-loop-at

@@ -3,7 +3,6 @@
 use native.Mathlib.Omega.{arith}
 use mathlib.Core.Logic.{inl, inr}
 use Rattle.places.proofs.Roles.{role_long, placed_long, zone_none, zone_read}
-use borrow.Author.Rules.{rules}
 use Rattle.places.proofs.zone_marked.Goals as goal
 
 pub bounds-t-at : goal.bounds-t-at
@@ -11,7 +10,7 @@ bounds-t-at c = omega (
   arith,
   role_long c.args.t.now c.args.at
       c.requires.0 c.requires.1,
-  )
+)
 
 pub returns-then-id-eq11 : goal.returns-then-id-eq11
 returns-then-id-eq11 c = λ x ns h m. zone_none c.args.t.now c.args.at _ x ns h m
@@ -26,7 +25,7 @@ overflow_add-at c = omega (
   arith,
   placed_long c.args.t.now c.args.at
       c.requires.0 c.requires.1 c.if-id-eq11.false c.if-id-eq12.false,
-  )
+)
 
 pub bounds-t-at-2 : goal.bounds-t-at-2
 bounds-t-at-2 c = omega (
@@ -34,7 +33,7 @@ bounds-t-at-2 c = omega (
   placed_long c.args.t.now
       c.args.at c.requires.0
       c.requires.1 c.if-id-eq11.false c.if-id-eq12.false,
-  )
+)
 
 pub returns : goal.returns
 returns c = λ x ns h m. zone_read c.args.t.now

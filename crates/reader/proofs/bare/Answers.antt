@@ -2,7 +2,6 @@
 -- Assumes nothing.
 use lib.ListN.{length}
 use borrow.Author.Tests.{eq-eqb, ne_eqb}
-use borrow.Author.Rules.{rules}
 use Rattle.reader.proofs.bare.Goals as goal
 
 pub returns-then-t-ne16 : goal.returns-then-t-ne16

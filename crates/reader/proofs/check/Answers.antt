@@ -4,7 +4,6 @@ use native.Mathlib.Omega.{arith}
 use mathlib.Core.Path.{sym, ◌∙◌}
 use Rattle.reader.proofs.Accepting.{bare_accepted}
 use Rattle.reader.proofs.Asking.{verdict}
-use borrow.Author.Rules.{rules}
 use Rattle.reader.proofs.check.Goals as goal
 
 pub returns-then-bare : goal.returns-then-bare

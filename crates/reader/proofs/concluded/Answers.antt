@@ -2,7 +2,6 @@
 -- Assumes nothing.
 use borrow.Author.Tests.{not-true, not-false}
 use Rattle.reader.proofs.Concluding.{refused_13, refused_14_description, refused_14, refused_15, accepted_0}
-use borrow.Author.Rules.{rules}
 use Rattle.reader.proofs.concluded.Goals as goal
 
 pub zoneless-requires : goal.zoneless-requires

@@ -2,7 +2,6 @@
 -- Assumes nothing.
 use lib.ListN.{drop}
 use Rattle.reader.proofs.Reading.{misdescribed_there, good_strapped, after_elements}
-use borrow.Author.Rules.{rules}
 use Rattle.reader.proofs.described.Goals as goal
 
 pub returns-then-fault-ne0 : goal.returns-then-fault-ne0

@@ -3,7 +3,6 @@
 use native.Mathlib.Omega.{arith}
 use Rattle.format.specs.Asked.{undescribed}
 use Rattle.reader.proofs.Asking.{handed, long, describes}
-use borrow.Author.Rules.{rules}
 use Rattle.reader.proofs.description.Goals as goal
 
 pub returns-in_default : goal.returns-in_default

@@ -3,7 +3,6 @@
 use mathlib.Core.List.{[]}
 use Rattle.format.specs.Asked.{ungiven}
 use Rattle.reader.proofs.Asking.{handed, gives_past, element_there}
-use borrow.Author.Rules.{rules}
 use Rattle.reader.proofs.element.Goals as goal
 
 pub returns-in_default : goal.returns-in_default

@@ -2,7 +2,6 @@
 -- Assumes nothing.
 use mathlib.Core.Path.{refl}
 use Rattle.reader.proofs.Reading.{at_start, walked, stopped_there, came_through}
-use borrow.Author.Rules.{rules}
 use Rattle.reader.proofs.elements.Goals as goal
 
 pub returns-then-r-ne0 : goal.returns-then-r-ne0

@@ -2,7 +2,6 @@
 -- Assumes nothing.
 use Rattle.format.specs.Asked.{ungiven}
 use Rattle.reader.proofs.Asking.{gives_past, gives_part, part_there}
-use borrow.Author.Rules.{rules}
 use Rattle.reader.proofs.part.Goals as goal
 
 pub returns-in_default : goal.returns-in_default

@@ -6,7 +6,6 @@ use Rattle.format.specs.Asked.{ungiven}
 use Rattle.walking.proofs.Bytes.{part_within}
 use Rattle.reader.proofs.Asking.{handed, gives_past}
 use Rattle.reader.proofs.PartPlaces.{placed_there}
-use borrow.Author.Rules.{rules}
 use Rattle.reader.proofs.part_place.Goals as goal
 
 pub returns-in_default : goal.returns-in_default

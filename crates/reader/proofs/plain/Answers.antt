@@ -1,6 +1,5 @@
 -- `plain` meets its contract: its tests are those of the definition, by what each call ensures.
 -- Assumes nothing.
-use borrow.Author.Rules.{rules}
 use Rattle.reader.proofs.plain.Goals as goal
 
 pub returns : goal.returns

@@ -5,7 +5,6 @@ use mathlib.Core.Path.{◌∙◌}
 use Rattle.format.specs.Verdict.{short, unrevised, missized}
 use Rattle.reader.proofs.Asking.{verdict}
 use Rattle.reader.proofs.Reading.{answer_on}
-use borrow.Author.Rules.{rules}
 use Rattle.reader.proofs.read.Goals as goal
 
 pub returns-then-t-lt16 : goal.returns-then-t-lt16

@@ -1,7 +1,6 @@
 -- `bounded` meets its contract, by the case.
 -- Assumes nothing.
 use Rattle.receiving.proofs.Calls.{bounded_0, bounded_k}
-use borrow.Author.Rules.{rules}
 use Rattle.receiving.proofs.bounded.Goals as goal
 
 pub returns-in-Accepted : goal.returns-in-Accepted

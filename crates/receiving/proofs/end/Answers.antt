@@ -1,7 +1,6 @@
 -- `end` meets its contract: 20 after the end, and before it the verdict.
 -- Assumes nothing.
 use Rattle.receiving.proofs.Calls.{end_late, end_now}
-use borrow.Author.Rules.{rules}
 use Rattle.receiving.proofs.end.Goals as goal
 
 pub returns-then-n-ne0 : goal.returns-then-n-ne0

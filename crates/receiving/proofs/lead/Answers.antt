@@ -3,7 +3,6 @@
 use native.Mathlib.Omega.{arith}
 use mathlib.Core.Path.{refl}
 use Rattle.receiving.proofs.Growing.{lead_now}
-use borrow.Author.Rules.{rules}
 use Rattle.receiving.proofs.lead.Goals as goal
 
 pub returns : goal.returns

@@ -9,7 +9,6 @@ use Rattle.states.specs.Numbers.{number}
 use Rattle.receiving.proofs.Calls.{piece_late, piece_over, piece_none, piece_goes, piece_quick, cut_to, short_take}
 use Rattle.receiving.proofs.Late.{grows_single, grows_quick, grows_stopped, one_byte}
 use Rattle.receiving.proofs.Late.{stopped_test, going_test, single_test, quick_test, plain_test}
-use borrow.Author.Rules.{rules}
 use Rattle.receiving.proofs.piece.Goals as goal
 
 pub returns-then-n-ne0 : goal.returns-then-n-ne0

@@ -1,7 +1,6 @@
 -- `ready` meets its contract: the pass opens, or is where it was.
 -- Assumes nothing.
 use native.Mathlib.Omega.{arith}
-use borrow.Author.Rules.{rules}
 use Rattle.receiving.proofs.ready.Goals as goal
 
 pub returns-then-count-lt16 : goal.returns-then-count-lt16

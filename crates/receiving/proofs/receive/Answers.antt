@@ -2,7 +2,6 @@
 -- Assumes nothing.
 use mathlib.Core.Path.{refl}
 use Rattle.receiving.proofs.Growing.{grows_early, grows_on}
-use borrow.Author.Rules.{rules}
 use Rattle.receiving.proofs.receive.Goals as goal
 
 pub returns-then-total-lt16 : goal.returns-then-total-lt16

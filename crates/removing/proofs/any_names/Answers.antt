@@ -1,9 +1,7 @@
 -- `any_names` meets its contract: what is left to search ends where the whole ends, and is shorter at each turn.
 -- Assumes nothing.
-use Prim.Native.Nat.{◌-◌}
 use native.Mathlib.Omega.{arith}
-use lib.ListN.{length}
-use Rattle.removing.proofs.Seeking.{Seeking, begun, some_role, room, hit, turned, not_there}
+use Rattle.removing.proofs.Seeking.{begun, some_role, room, hit, turned, not_there}
 use Rattle.removing.proofs.any_names.Goals as goal
 
 pub loop-at-init : goal.loop-at-init

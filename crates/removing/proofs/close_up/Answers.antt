@@ -8,7 +8,6 @@ use lib.ListN.{length}
 use Rattle.format.specs.Slots.{word, written}
 use Rattle.format.specs.Writing.{overwritten}
 use Rattle.removing.proofs.Moving.{closes}
-use borrow.Author.Rules.{rules}
 use Rattle.removing.proofs.close_up.Goals as goal
 
 pub returns : goal.returns

@@ -4,7 +4,6 @@ use native.Mathlib.Omega.{arith}
 use Rattle.reader.proofs.Asking.{handed}
 use Rattle.removing.specs.Removed.{refused}
 use Rattle.removing.proofs.Judging.{past_last, standing, stays, goes}
-use borrow.Author.Rules.{rules}
 use Rattle.removing.proofs.judge.Goals as goal
 
 pub returns-in_default : goal.returns-in_default

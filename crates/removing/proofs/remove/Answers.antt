@@ -3,7 +3,6 @@
 use mathlib.Core.Path.{subst}
 use Rattle.removing.specs.Judging.{Judges}
 use Rattle.removing.specs.declared.Judged.{Judged}
-use borrow.Author.Rules.{rules}
 use Rattle.removing.proofs.remove.Goals as goal
 
 pub close_up-requires : goal.close_up-requires

@@ -3,7 +3,6 @@
 use native.Mathlib.Omega.{arith}
 use Rattle.walking.proofs.Left.{reads}
 use Rattle.removing.proofs.Telling.{number_long, zone_named_lem, string_named_lem, none_named}
-use borrow.Author.Rules.{rules}
 use Rattle.removing.proofs.still_named.Goals as goal
 
 pub bounds-t-at : goal.bounds-t-at

@@ -1,6 +1,5 @@
 -- `end` meets its contract: no place is too large.
 -- Assumes nothing.
-use borrow.Author.Rules.{rules}
 use Rattle.reports.proofs.end.Goals as goal
 
 pub packed-requires : goal.packed-requires

@@ -1,7 +1,6 @@
 -- `packed` meets its contract: each case has its number and value.
 -- Assumes nothing.
 use native.Mathlib.Omega.{arith}
-use borrow.Author.Rules.{rules}
 use Rattle.reports.proofs.packed.Goals as goal
 
 pub pack-requires : goal.pack-requires

@@ -1,6 +1,5 @@
 -- `piece` meets its contract: the number, wider.
 -- Assumes nothing.
-use borrow.Author.Rules.{rules}
 use Rattle.reports.proofs.piece.Goals as goal
 
 pub returns : goal.returns

@@ -1,7 +1,6 @@
 -- `start` meets its contract, by the settings that the number says.
 -- Assumes nothing.
 use mathlib.Core.Path.{refl}
-use borrow.Author.Rules.{rules}
 use Rattle.reports.proofs.start.Goals as goal
 
 pub returns : goal.returns

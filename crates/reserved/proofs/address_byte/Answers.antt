@@ -1,6 +1,5 @@
 -- `address_byte` meets its contract: by the bus type.
 -- Assumes nothing.
-use borrow.Author.Rules.{rules}
 use borrow.Author.Tests.{eq-eqb, ne_eqb}
 use mathlib.Core.Path.{refl}
 use Rattle.reserved.proofs.address_byte.Goals as goal

@@ -1,6 +1,5 @@
 -- `clear_bus` meets its contract: three stores.
 -- Assumes nothing.
-use borrow.Author.Rules.{rules}
 use native.Mathlib.Omega.{arith}
 use mathlib.Core.Path.{refl}
 use lib.ListN.{length-set}

@@ -1,6 +1,5 @@
 -- `clear_reserved` meets its contract: by the identifier, one test after another.
 -- Assumes nothing.
-use borrow.Author.Rules.{rules}
 use native.Mathlib.Omega.{arith}
 use mathlib.Core.Path.{sym, ◌∙◌}
 use Rattle.reserved.proofs.Zeroing.{on_bus_lem, on_2, on_8, on_10, on_none}

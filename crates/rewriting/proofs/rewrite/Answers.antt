@@ -1,16 +1,11 @@
 -- `rewrite` meets its contract. The loop's invariant: the records behind the place are appended to what start left.
 -- Assumes nothing.
-use Prim.Native.Nat.{◌-◌}
 use native.Mathlib.Omega.{arith}
-use mathlib.Core.Path.{◌≡◌, refl}
-use lib.ListN.{length}
-use borrow.Author.Rules.{rules}
+use mathlib.Core.Path.{refl}
 use Rattle.reader.proofs.Asking.{handed, long}
-use Rattle.format.specs.Writing.{writing}
-use Rattle.walking.specs.Walk.{Walk}
 use Rattle.walking.proofs.Left.{top, here}
 use Rattle.rewriting.specs.Again.{refused}
-use Rattle.rewriting.proofs.Run.{too_short, Ran, begun, turned, ran}
+use Rattle.rewriting.proofs.Run.{too_short, begun, turned, ran}
 use Rattle.rewriting.proofs.rewrite.Goals as goal
 
 pub returns-in_default : goal.returns-in_default
@@ -50,12 +45,11 @@ loop-at-smaller c =
     omega (arith, c.length_at-at.ensures, (here _ _ _ _ c.loop-at.invariant.1 c.loop-at-test.true).1.size, c.loop-at-test.true)
 
 pub loop-at-preserved : goal.loop-at-preserved
-loop-at-preserved c =
-    (
-      omega (arith, c.out-in-loop-at-1.given, c.loop-at.invariant.0),
-      turned _ _ _ _ _ c.loop-at.invariant.1 _ _ _ _ c.loop-at-test.true c.length_at-at.ensures c.element_at-e.ensures
-          c.part_at.ensures c.append.ensures,
-    )
+loop-at-preserved c = (
+  omega (arith, c.out-in-loop-at-1.given, c.loop-at.invariant.0),
+  turned _ _ _ _ _ c.loop-at.invariant.1 _ _ _ _ c.loop-at-test.true c.length_at-at.ensures c.element_at-e.ensures
+      c.part_at.ensures c.append.ensures,
+)
 
 pub shape_of-out : goal.shape_of-out
 shape_of-out c = omega (arith, c.loop-at.invariant.0, c.out-1.given)

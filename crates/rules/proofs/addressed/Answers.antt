@@ -1,7 +1,6 @@
 -- The bus type's test is the rule's, of each kind of address: below 3 is up to 3 and not 3.
 -- Assumes nothing.
 use Rattle.rules.proofs.Runs.{up_to, but_last, the_last}
-use borrow.Author.Rules.{rules}
 use Rattle.rules.proofs.addressed.Goals as goal
 
 pub returns-in-Bus : goal.returns-in-Bus

@@ -2,7 +2,6 @@
 -- Assumes nothing.
 use mathlib.Core.Path.{refl}
 use Rattle.format.specs.Records.{analogue}
-use borrow.Author.Rules.{rules}
 use Rattle.rules.proofs.analogue_breaks.Goals as goal
 
 pub returns : goal.returns

@@ -1,7 +1,6 @@
 -- The tests are the rule's, by what `scaled` ensures of each count.
 -- Assumes nothing.
 use mathlib.Core.Bool.{or-false}
-use borrow.Author.Rules.{rules}
 use Rattle.rules.proofs.calibrated.Goals as goal
 
 pub returns : goal.returns

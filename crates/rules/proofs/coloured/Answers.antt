@@ -2,7 +2,6 @@
 -- Assumes nothing.
 use mathlib.Core.Path.{refl}
 use Rattle.rules.proofs.Runs.{within, up_to}
-use borrow.Author.Rules.{rules}
 use Rattle.rules.proofs.coloured.Goals as goal
 
 pub returns : goal.returns

@@ -2,7 +2,6 @@
 -- Assumes nothing.
 use mathlib.Core.Path.{refl}
 use Rattle.format.specs.Records.{current}
-use borrow.Author.Rules.{rules}
 use Rattle.rules.proofs.current_breaks.Goals as goal
 
 pub returns : goal.returns

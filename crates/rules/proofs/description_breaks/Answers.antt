@@ -2,7 +2,6 @@
 -- Assumes nothing.
 use Rattle.format.specs.Rules.{description_rules}
 use Rattle.rules.proofs.Numbering.{numbering}
-use borrow.Author.Rules.{rules}
 use Rattle.rules.proofs.description_breaks.Goals as goal
 
 pub returns : goal.returns

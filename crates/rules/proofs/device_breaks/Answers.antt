@@ -3,7 +3,6 @@
 use mathlib.Core.Path.{refl, sym}
 use mathlib.Core.Bool.{and-true}
 use Rattle.format.specs.Records.{controller, tachometer, external}
-use borrow.Author.Rules.{rules}
 use Rattle.rules.proofs.device_breaks.Goals as goal
 
 pub returns : goal.returns

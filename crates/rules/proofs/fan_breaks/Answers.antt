@@ -2,7 +2,6 @@
 -- Assumes nothing.
 use mathlib.Core.Path.{refl}
 use Rattle.format.specs.Records.{fan, pump}
-use borrow.Author.Rules.{rules}
 use Rattle.rules.proofs.fan_breaks.Goals as goal
 
 pub returns : goal.returns

@@ -1,7 +1,6 @@
 -- One comparison for the list, by the rules that are told.
 -- Assumes nothing.
 use Rattle.rules.proofs.Use.{ordinary_use, archive_use}
-use borrow.Author.Rules.{rules}
 use Rattle.rules.proofs.in_use.Goals as goal
 
 pub returns-in-Ordinary : goal.returns-in-Ordinary

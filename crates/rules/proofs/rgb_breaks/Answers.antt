@@ -2,7 +2,6 @@
 -- Assumes nothing.
 use mathlib.Core.Path.{refl}
 use Rattle.format.specs.Records.{rgb}
-use borrow.Author.Rules.{rules}
 use Rattle.rules.proofs.rgb_breaks.Goals as goal
 
 pub returns : goal.returns

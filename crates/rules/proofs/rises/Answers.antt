@@ -1,7 +1,6 @@
 -- The test is the rule's: the match tells whether the place is unused.
 -- Assumes nothing.
 use mathlib.Core.Path.{refl}
-use borrow.Author.Rules.{rules}
 use Rattle.rules.proofs.rises.Goals as goal
 
 pub returns-in-Used : goal.returns-in-Used

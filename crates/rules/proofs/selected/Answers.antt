@@ -1,6 +1,5 @@
 -- The test is the rule's: a chip select is looked up, by what `allowed` ensures.
 -- Assumes nothing.
-use borrow.Author.Rules.{rules}
 use Rattle.rules.proofs.selected.Goals as goal
 
 pub returns-in-Select : goal.returns-in-Select

@@ -1,6 +1,5 @@
 -- The test is the rule's, by what `allowed_or_unused` ensures of each pin.
 -- Assumes nothing.
-use borrow.Author.Rules.{rules}
 use Rattle.rules.proofs.strapped.Goals as goal
 
 pub returns : goal.returns

@@ -2,7 +2,6 @@
 -- Assumes nothing.
 use mathlib.Core.Path.{refl}
 use Rattle.rules.proofs.Contents.{text_short, text_rest}
-use borrow.Author.Rules.{rules}
 use Rattle.rules.proofs.text_breaks.Goals as goal
 
 pub returns-then-part-lt3 : goal.returns-then-part-lt3

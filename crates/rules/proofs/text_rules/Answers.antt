@@ -3,7 +3,6 @@
 use mathlib.Core.Path.{refl}
 use Rattle.format.specs.Records.{string}
 use Rattle.rules.proofs.Contents.{text_long}
-use borrow.Author.Rules.{rules}
 use Rattle.rules.proofs.text_rules.Goals as goal
 
 pub returns : goal.returns

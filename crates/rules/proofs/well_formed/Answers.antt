@@ -1,13 +1,10 @@
 -- `well_formed` meets its contract. The loop's invariant: what is left of the units ends where the whole ends.
 -- Assumes nothing.
-use Prim.Native.Nat.{◌+◌, ◌-◌, ◌*◌, ◌/◌, ◌<◌, ◌≤◌}
+use Prim.Native.Nat.{◌+◌, ◌*◌, ◌/◌, ◌<◌, ◌≤◌}
 use native.Mathlib.Omega.{arith}
-use mathlib.Core.Path.{◌≡◌, refl, sym, ◌∙◌}
-use mathlib.Core.Bool.{◌&&◌}
-use lib.ListN.{length, drop}
-use Rattle.format.specs.Utf16.{units, paired_after, well_formed}
+use mathlib.Core.Path.{refl, sym, ◌∙◌}
+use lib.ListN.{length}
 use Rattle.rules.proofs.Units.{one_unit, all_units}
-use borrow.Author.Rules.{rules}
 use Rattle.rules.proofs.well_formed.Goals as goal
 
 pub loop-i-init : goal.loop-i-init

@@ -4,7 +4,6 @@ use mathlib.Core.Path.{refl}
 use lib.ListN.{length}
 use Rattle.format.specs.Records.{zone}
 use Rattle.rules.proofs.Contents.{zone_size}
-use borrow.Author.Rules.{rules}
 use Rattle.rules.proofs.zone_breaks.Goals as goal
 
 pub returns : goal.returns

@@ -1,6 +1,5 @@
 -- `alone` meets its contract: neither test failed.
 -- Assumes nothing.
-use borrow.Author.Rules.{rules}
 use native.Mathlib.Omega.{arith}
 use mathlib.Core.Bool.{false≢true}
 use borrow.Author.Tests.{eqb-true}

@@ -1,6 +1,5 @@
 -- `choose` meets its contract: what each pass leaves is what the next starts from.
 -- Assumes nothing.
-use borrow.Author.Rules.{rules}
 use Prim.Native.Nat.{ℕ}
 use native.Mathlib.Omega.{arith}
 use lib.ListN.{length-replicate}

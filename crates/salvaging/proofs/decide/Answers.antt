@@ -1,6 +1,5 @@
 -- `decide` meets its contract: after the pass nothing else changes, or 13, 14 and 15 are gone through.
 -- Assumes nothing.
-use borrow.Author.Rules.{rules}
 use native.Mathlib.Omega.{arith}
 use Rattle.saving.proofs.Theorems.{salvageable_says}
 use Rattle.salvaging.proofs.Salvaging.{held_first}

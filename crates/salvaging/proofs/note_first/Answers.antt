@@ -1,6 +1,5 @@
 -- `note_first` meets its contract: the line, or none.
 -- Assumes nothing.
-use borrow.Author.Rules.{rules}
 use Rattle.salvaging.proofs.Deciding.{first_noted, none_noted}
 use Rattle.salvaging.proofs.note_first.Goals as goal
 

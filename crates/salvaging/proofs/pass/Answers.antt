@@ -1,6 +1,5 @@
 -- `pass` meets its contract: all flags are clear but that of the description's string index.
 -- Assumes nothing.
-use borrow.Author.Rules.{rules}
 use mathlib.Core.Path.{refl}
 use Rattle.reader.proofs.Reading.{at_start}
 use Rattle.salvaging.proofs.pass.Goals as goal

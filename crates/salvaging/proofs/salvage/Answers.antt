@@ -1,15 +1,11 @@
 -- `salvage` meets its contract: a description that stands alone is written at once; else everything is decided, then written.
 -- Assumes nothing.
-use borrow.Author.Rules.{rules}
 use Prim.Native.Nat.{ℕ}
 use native.Mathlib.Omega.{arith}
-use mathlib.Core.Path.{◌≡◌, sym, ◌∙◌}
-use mathlib.Core.Bool.{true}
+use mathlib.Core.Path.{sym, ◌∙◌}
 use borrow.Author.Tests.{not-true, not-false}
 use lib.ListN.{length-replicate}
-use Rattle.format.specs.Slots.{Bytes}
-use Rattle.saving.specs.Saving.{salvageable}
-use Rattle.saving.proofs.Theorems.{Salvageable, salvageable_says}
+use Rattle.saving.proofs.Theorems.{salvageable_says}
 use Rattle.salvaging.proofs.Salvaging.{sound_there, taken_there, refused_24, no_room, room_there, lines_there, salvaged_there}
 use Rattle.salvaging.proofs.Lonely.{nothing, no_kept, no_log, alone_decided, alone_put, no_lines}
 use Rattle.salvaging.proofs.salvage.Goals as goal

@@ -1,6 +1,5 @@
 -- `sound` meets its contract: one question after another.
 -- Assumes nothing.
-use borrow.Author.Rules.{rules}
 use Rattle.salvaging.proofs.Salvaging.{too_short, unrevised, misdescribed, by_claims, bad_number, good_number, held_first}
 use Rattle.salvaging.proofs.sound.Goals as goal
 

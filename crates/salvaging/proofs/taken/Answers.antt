@@ -1,6 +1,5 @@
 -- `taken` meets its contract.
 -- Assumes nothing.
-use borrow.Author.Rules.{rules}
 use Rattle.salvaging.proofs.Salvaging.{all_taken}
 use Rattle.salvaging.proofs.taken.Goals as goal
 

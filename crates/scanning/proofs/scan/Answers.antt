@@ -1,13 +1,10 @@
 -- `scan` meets its contract: what is left to do ends where the whole ends.
 -- Assumes nothing.
-use Prim.Native.Nat.{◌+◌, ◌-◌, ◌*◌, ◌≤◌}
+use Prim.Native.Nat.{◌+◌}
 use native.Mathlib.Omega.{arith}
-use lib.ListN.{length}
 use lib.Seq.{length-slice}
-use borrow.Author.Rules.{rules}
-use Rattle.pass.specs.Tracks.{flags}
 use Rattle.pass.proofs.Moving.{unframed_short, unframed_small, unframed_long}
-use Rattle.scanning.proofs.Scanning.{Scanning, begun, low, ended, filled, turned}
+use Rattle.scanning.proofs.Scanning.{begun, low, ended, filled, turned}
 use Rattle.scanning.proofs.scan.Goals as goal
 
 -- pub record Known (e : tie.Else3 invariant-loop decreases-loop) : Type 0 where
@@ -69,8 +66,7 @@ loop-at-smaller c =
 
 pub loop-at-preserved : goal.loop-at-preserved
 loop-at-preserved c =
-    let i = c.loop-at.invariant in
-    (
+    let i = c.loop-at.invariant in (
       omega (arith, c.loop-at.invariant.1.behind, c.loop-at.invariant.1.few_lines, c.if-left-len.false, c.if-len-lt3.false),
       turned _ _ _ _ _ _ _ _ _ i.1 c.requires.2 _ c.length_at-len.ensures c.if-len-lt3.false
           (omega (arith, c.loop-at.invariant.1.behind, c.loop-at.invariant.1.few_lines, c.if-left-len.false, c.if-len-lt3.false)) i.0 (omega (arith, c.if-n-ge96.false)) c.walk-r.result _ c.walk-r.ensures _

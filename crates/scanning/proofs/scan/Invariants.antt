@@ -1,13 +1,9 @@
 -- `scan` meets its contract: what is left to do ends where the whole ends.
 -- Assumes nothing.
-use Prim.Native.Nat.{◌+◌, ◌-◌, ◌*◌, ◌≤◌}
-use native.Mathlib.Omega.{arith}
+use Prim.Native.Nat.{◌-◌, ◌≤◌}
 use lib.ListN.{length}
-use lib.Seq.{length-slice}
-use borrow.Author.Rules.{rules}
 use Rattle.pass.specs.Tracks.{flags}
-use Rattle.pass.proofs.Moving.{unframed_short, unframed_small, unframed_long}
-use Rattle.scanning.proofs.Scanning.{Scanning, begun, low, ended, filled, turned}
+use Rattle.scanning.proofs.Scanning.{Scanning}
 use Rattle.scanning.proofs.scan.Given as goal
 
 abbrev pub invariant-loop-at : goal.invariant-loop-at

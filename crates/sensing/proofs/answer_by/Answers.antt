@@ -1,7 +1,6 @@
 -- `answer_by` meets its contract: each conversion meets its own.
 -- Assumes nothing.
 use mathlib.Core.Path.{refl}
-use borrow.Author.Rules.{rules}
 use Rattle.sensing.proofs.OfKind.{of_kind_lem}
 use Rattle.sensing.proofs.answer_by.Goals as goal
 

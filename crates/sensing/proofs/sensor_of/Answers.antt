@@ -1,6 +1,5 @@
 -- `sensor_of` meets its contract: by the kinds of element.
 -- Assumes nothing.
-use borrow.Author.Rules.{rules}
 use Rattle.sensing.proofs.sensor_of.Goals as goal
 
 pub returns-in-Analogue : goal.returns-in-Analogue

@@ -1,7 +1,6 @@
 -- `bring` meets its contract: the last element of the one list, entered; nothing where there is none.
 -- Assumes nothing.
 use native.Mathlib.Omega.{arith}
-use borrow.Author.Rules.{rules}
 use Rattle.sheets.proofs.Bringing.{low, brought, stays}
 use Rattle.sheets.proofs.bring.Goals as goal
 

@@ -1,7 +1,6 @@
 -- `bus_pins` meets its contract: by its two cases.
 -- Assumes nothing.
 use borrow.Author.Tests.{eq-eqb, ne_eqb}
-use borrow.Author.Rules.{rules}
 use Rattle.sheets.proofs.bus_pins.Goals as goal
 
 pub returns-then-select-eq255 : goal.returns-then-select-eq255

@@ -1,7 +1,6 @@
 -- `clear` meets its contract: computed.
 -- Assumes nothing.
 use mathlib.Core.Path.{refl}
-use borrow.Author.Rules.{rules}
 use Rattle.sheets.specs.Lines.{read}
 use Rattle.sheets.proofs.clear.Goals as goal
 

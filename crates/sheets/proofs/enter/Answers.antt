@@ -1,9 +1,7 @@
 -- `enter` meets its contract: each turn enters one number.
 -- Assumes nothing.
-use Prim.Native.Nat.{◌-◌}
 use mathlib.Core.Path.{refl}
-use borrow.Author.Rules.{rules}
-use Rattle.sheets.proofs.Entering.{Entering, begun, go_on, ended}
+use Rattle.sheets.proofs.Entering.{begun, go_on, ended}
 use Rattle.sheets.proofs.enter.Goals as goal
 
 pub loop-i-init : goal.loop-i-init

@@ -1,9 +1,7 @@
 -- `enter` meets its contract: each turn enters one number.
 -- Assumes nothing.
 use Prim.Native.Nat.{◌-◌}
-use mathlib.Core.Path.{refl}
-use borrow.Author.Rules.{rules}
-use Rattle.sheets.proofs.Entering.{Entering, begun, go_on, ended}
+use Rattle.sheets.proofs.Entering.{Entering}
 use Rattle.sheets.proofs.enter.Given as goal
 
 abbrev pub invariant-loop-i : goal.invariant-loop-i

@@ -1,6 +1,5 @@
 -- `enter_element` meets its contract: the pins that the element's claims name, those that it shares and its own.
 -- Assumes nothing.
-use borrow.Author.Rules.{rules}
 use Rattle.sheets.proofs.Naming.{both_lines}
 use Rattle.sheets.proofs.enter_element.Goals as goal
 

@@ -1,6 +1,5 @@
 -- `first` meets its contract: the first claims, made at 0, on a blank sheet.
 -- Assumes nothing.
-use borrow.Author.Rules.{rules}
 use Rattle.sheets.proofs.Naming.{first_lines}
 use Rattle.sheets.proofs.first.Goals as goal
 

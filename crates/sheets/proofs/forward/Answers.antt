@@ -1,7 +1,6 @@
 -- `forward` meets its contract: the old sheet with the last element of the one list, or the refusal and the old sheet.
 -- Assumes nothing.
 use native.Mathlib.Omega.{arith}
-use borrow.Author.Rules.{rules}
 use Rattle.pinsheet.specs.Sheet.{forward}
 use Rattle.sheets.specs.Lines.{read}
 use Rattle.sheets.proofs.Only.{leaves, keeps}

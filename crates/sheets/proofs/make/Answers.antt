@@ -1,7 +1,6 @@
 -- `make` meets its contract: the sheet of the one list, or the refusal and the old sheet.
 -- Assumes nothing.
 use native.Mathlib.Omega.{arith}
-use borrow.Author.Rules.{rules}
 use Rattle.pinsheet.specs.Sheet.{sheet}
 use Rattle.sheets.proofs.Only.{leaves, keeps}
 use Rattle.sheets.proofs.make.Goals as goal

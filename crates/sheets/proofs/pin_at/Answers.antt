@@ -1,6 +1,5 @@
 -- `pin_at` meets its contract: computed over the 25.
 -- Assumes nothing.
-use borrow.Author.Rules.{rules}
 use Rattle.sheets.proofs.Entering.{pin_there}
 use Rattle.sheets.proofs.pin_at.Goals as goal
 

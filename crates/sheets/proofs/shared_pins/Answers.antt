@@ -1,6 +1,5 @@
 -- `shared_pins` meets its contract: its tests are the definition's.
 -- Assumes nothing.
-use borrow.Author.Rules.{rules}
 use Rattle.sheets.proofs.shared_pins.Goals as goal
 
 pub returns-then-id : goal.returns-then-id

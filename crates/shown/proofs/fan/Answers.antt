@@ -1,6 +1,5 @@
 -- `fan` meets its contract: the tachometer's byte is its place's.
 -- Assumes nothing.
-use borrow.Author.Rules.{rules}
 use Rattle.shown.proofs.fan.Goals as goal
 
 pub returns : goal.returns

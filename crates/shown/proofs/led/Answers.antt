@@ -1,6 +1,5 @@
 -- `led` meets its contract: the byte of each lamp's pin.
 -- Assumes nothing.
-use borrow.Author.Rules.{rules}
 use Rattle.shown.proofs.led.Goals as goal
 
 pub returns : goal.returns

@@ -1,6 +1,5 @@
 -- `selected` meets its contract: the chip select and no other pin.
 -- Assumes nothing.
-use borrow.Author.Rules.{rules}
 use Rattle.shown.proofs.selected.Goals as goal
 
 pub returns : goal.returns

@@ -1,6 +1,5 @@
 -- `shown` meets its contract: by the kind.
 -- Assumes nothing.
-use borrow.Author.Rules.{rules}
 use Rattle.shown.proofs.OfKind.{of_kind_lem}
 use Rattle.shown.proofs.shown.Goals as goal
 

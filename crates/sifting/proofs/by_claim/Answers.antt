@@ -1,6 +1,5 @@
 -- `by_claim` meets its contract: what is held says whether the element's claims clash.
 -- Assumes nothing.
-use borrow.Author.Rules.{rules}
 use native.Mathlib.Omega.{arith}
 use Rattle.format.specs.Claims.{claims_of}
 use Rattle.sifting.proofs.Judging.{here_there}

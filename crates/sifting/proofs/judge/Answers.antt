@@ -1,6 +1,5 @@
 -- `judge` meets its contract: by the pass.
 -- Assumes nothing.
-use borrow.Author.Rules.{rules}
 use Rattle.sifting.proofs.Judging.{zone_judges, string_judges, claim_judges}
 use Rattle.sifting.proofs.judge.Goals as goal
 

@@ -1,9 +1,7 @@
 -- `sift` meets its contract: what is left to do ends where the whole ends.
 -- Assumes nothing.
 use Prim.Native.Nat.{◌-◌}
-use native.Mathlib.Omega.{arith}
-use borrow.Author.Rules.{rules}
-use Rattle.sifting.proofs.Sifting.{Sifting, begun, spot, keeps_at, low_at, turned, ended}
+use Rattle.sifting.proofs.Sifting.{Sifting}
 use Rattle.sifting.proofs.sift.Given as goal
 
 abbrev pub invariant-loop-i : goal.invariant-loop-i

@@ -4,7 +4,6 @@ use mathlib.Core.Path.{refl, sym}
 use mathlib.Core.Bool.{false≢true}
 use borrow.Author.Tests.{not-false}
 use Rattle.single.proofs.Adding.{longer_on}
-use borrow.Author.Rules.{rules}
 use Rattle.single.proofs.byte.Goals as goal
 
 pub returns-then-not-stays : goal.returns-then-not-stays

@@ -2,7 +2,6 @@
 -- Assumes nothing.
 use mathlib.Core.Path.{refl}
 use Rattle.underway.proofs.Block.{full_mark}
-use borrow.Author.Rules.{rules}
 use Rattle.single.proofs.entered.Goals as goal
 
 pub returns : goal.returns

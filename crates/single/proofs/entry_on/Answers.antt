@@ -3,7 +3,6 @@
 use native.Mathlib.Omega.{arith}
 use mathlib.Core.Path.{refl}
 use Rattle.single.proofs.Adding.{cut_before, cut_beside, cut_full, cut_first, cut_next}
-use borrow.Author.Rules.{rules}
 use Rattle.single.proofs.entry_on.Goals as goal
 
 pub returns-then-u-lt12 : goal.returns-then-u-lt12

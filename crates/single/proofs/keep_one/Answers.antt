@@ -3,7 +3,6 @@
 use native.Mathlib.Omega.{arith}
 use Rattle.underway.proofs.Keeping.{put_one}
 use Rattle.single.proofs.Adding.{keep_late}
-use borrow.Author.Rules.{rules}
 use Rattle.single.proofs.keep_one.Goals as goal
 
 pub returns-then-from-lt30 : goal.returns-then-from-lt30

@@ -1,7 +1,6 @@
 -- `marked` meets its contract: a unit that changes nothing, or any.
 -- Assumes nothing.
 use Rattle.single.proofs.Adding.{marked_plain, marked_any}
-use borrow.Author.Rules.{rules}
 use Rattle.single.proofs.marked.Goals as goal
 
 pub returns-then-mark-x : goal.returns-then-mark-x

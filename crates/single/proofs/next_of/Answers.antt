@@ -3,7 +3,6 @@
 use mathlib.Core.Path.{◌≡◌, refl, sym, subst}
 use Prim.Native.Nat.{ℕ}
 use Rattle.underway.specs.Under.{most_of}
-use borrow.Author.Rules.{rules}
 use Rattle.single.proofs.next_of.Goals as goal
 
 pub returns-then-u-eq0 : goal.returns-then-u-eq0

@@ -3,7 +3,6 @@
 use native.Mathlib.Omega.{arith}
 use mathlib.Core.Path.{refl, sym, ◌∙◌}
 use Rattle.underway.proofs.Growing.{grow_text, grow_cut, grow_plain}
-use borrow.Author.Rules.{rules}
 use Rattle.single.proofs.one_more.Goals as goal
 
 pub returns-then-id-eq12 : goal.returns-then-id-eq12

@@ -3,7 +3,6 @@
 use native.Mathlib.Omega.{arith}
 use mathlib.Core.Path.{refl}
 use Rattle.single.proofs.Quieting.{quiet_none, quiet_some}
-use borrow.Author.Rules.{rules}
 use Rattle.single.proofs.quiet_to.Goals as goal
 
 pub returns-then-u-lt3 : goal.returns-then-u-lt3

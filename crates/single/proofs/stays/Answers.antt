@@ -2,7 +2,6 @@
 -- Assumes nothing.
 use native.Mathlib.Omega.{arith}
 use Rattle.single.proofs.Adding.{stays_no, stays_header, stays_third, stays_later}
-use borrow.Author.Rules.{rules}
 use Rattle.single.proofs.stays.Goals as goal
 
 pub returns-then-had-lt2 : goal.returns-then-had-lt2

@@ -3,7 +3,6 @@
 use native.Mathlib.Omega.{arith}
 use mathlib.Core.Path.{refl}
 use Rattle.single.proofs.Adding.{text_first, text_half, text_unit}
-use borrow.Author.Rules.{rules}
 use Rattle.single.proofs.unit_on.Goals as goal
 
 pub returns-then-u-lt6 : goal.returns-then-u-lt6

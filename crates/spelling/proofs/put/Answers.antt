@@ -1,7 +1,6 @@
 -- `put` meets its contract: the bytes are copied, and the place after them is answered.
 -- Assumes nothing.
 use Rattle.spelling.proofs.Putting.{put_one}
-use borrow.Author.Rules.{rules}
 use Rattle.spelling.proofs.put.Goals as goal
 
 pub returns : goal.returns

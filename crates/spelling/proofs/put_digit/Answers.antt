@@ -3,7 +3,6 @@
 use native.Mathlib.Omega.{arith}
 use borrow.Author.Tests.{lt-ltb, le-ltb}
 use Rattle.spelling.proofs.Putting.{put_none}
-use borrow.Author.Rules.{rules}
 use Rattle.spelling.proofs.put_digit.Goals as goal
 
 pub returns-then-n-power : goal.returns-then-n-power

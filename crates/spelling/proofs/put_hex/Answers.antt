@@ -1,7 +1,6 @@
 -- `put_hex` meets its contract: two digits.
 -- Assumes nothing.
 use native.Mathlib.Omega.{arith}
-use borrow.Author.Rules.{rules}
 use Rattle.spelling.proofs.put_hex.Goals as goal
 
 pub returns : goal.returns

@@ -2,7 +2,6 @@
 -- Assumes nothing.
 use native.Mathlib.Omega.{arith}
 use borrow.Author.Tests.{eq-eqb, ne_eqb}
-use borrow.Author.Rules.{rules}
 use Rattle.spelling.proofs.put_pin_or_dash.Goals as goal
 
 pub returns-then-p-eq255 : goal.returns-then-p-eq255

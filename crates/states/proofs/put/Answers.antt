@@ -2,7 +2,6 @@
 -- Assumes nothing.
 use native.Mathlib.Omega.{arith}
 use mathlib.Core.Path.{refl}
-use borrow.Author.Rules.{rules}
 use Rattle.states.proofs.Settled.{way_back}
 use Rattle.states.proofs.put.Goals as goal
 

@@ -1,7 +1,6 @@
 -- `settings_of` meets its contract: the chip and the rules that the number says.
 -- Assumes nothing.
 use mathlib.Core.Path.{refl}
-use borrow.Author.Rules.{rules}
 use Rattle.states.proofs.settings_of.Goals as goal
 
 pub returns : goal.returns

@@ -1,7 +1,6 @@
 -- `way_of` meets its contract: a number a field.
 -- Assumes nothing.
 use mathlib.Core.Path.{refl}
-use borrow.Author.Rules.{rules}
 use Rattle.states.proofs.way_of.Goals as goal
 
 pub returns : goal.returns

@@ -1,7 +1,6 @@
 -- `coded_by` meets its contract: an entry where the calibration is our own, the formula's number where it is not.
 -- Assumes nothing.
 use mathlib.Core.Path.{sym, ◌∙◌}
-use borrow.Author.Rules.{rules}
 use Rattle.thermistor.proofs.Owned.{code_table}
 use Rattle.thermistor.proofs.coded_by.Goals as goal
 

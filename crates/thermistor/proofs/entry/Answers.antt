@@ -1,6 +1,5 @@
 -- `entry` meets its contract: the table's rule, at the entry asked for.
 -- Assumes nothing.
-use borrow.Author.Rules.{rules}
 use Rattle.thermistor.proofs.entry.Goals as goal
 
 pub returns : goal.returns

@@ -1,6 +1,5 @@
 -- `ours` meets its contract: what the entry means is the formula's.
 -- Assumes nothing.
-use borrow.Author.Rules.{rules}
 use Rattle.converting.specs.Conversions.Temperature.{past}
 use Rattle.converting.proofs.Meant.{meant_meets}
 use Rattle.thermistor.specs.Ready.{ours}

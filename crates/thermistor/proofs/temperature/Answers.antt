@@ -1,7 +1,6 @@
 -- `temperature` meets its contract: the table where the calibration is our own, the formula where it is not.
 -- Assumes nothing.
 use mathlib.Core.Path.{sym, ◌∙◌}
-use borrow.Author.Rules.{rules}
 use Rattle.thermistor.proofs.Owned.{by_table}
 use Rattle.thermistor.proofs.temperature.Goals as goal
 

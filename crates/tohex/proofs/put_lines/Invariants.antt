@@ -1,15 +1,9 @@
 -- `put_lines` meets its contract. The loop's invariant: the first k lines are put.
 -- Assumes nothing.
-use Prim.Native.Nat.{◌≤◌, ◌*◌, ◌-◌}
-use native.Mathlib.Omega.{arith}
-use native.Mathlib.Numerals.{add-one}
-use mathlib.Core.Path.{◌≡◌}
-use lib.ListN.{length, take, drop, length-take, length-drop}
-use borrow.Author.Rules.{rules}
+use Prim.Native.Nat.{◌≤◌, ◌-◌}
+use lib.ListN.{length}
 use Rattle.spelling.specs.Spelling.{Put}
-use Rattle.spelling.proofs.Putting.{put_none, then}
 use Rattle.hextext.specs.Text.{data_lines, line_count}
-use Rattle.tohex.proofs.Lines.{lines_length, part}
 use Rattle.tohex.proofs.put_lines.Given as goal
 
 abbrev pub invariant-loop-k : goal.invariant-loop-k

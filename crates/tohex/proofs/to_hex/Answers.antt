@@ -2,7 +2,6 @@
 -- Assumes nothing.
 use native.Mathlib.Omega.{arith}
 use lib.ListN.{length}
-use borrow.Author.Rules.{rules}
 use Rattle.spelling.proofs.Putting.{then}
 use Rattle.hextext.specs.Moved.{no_room, refused}
 use Rattle.hextext.specs.Text.{line_count, hex_of}

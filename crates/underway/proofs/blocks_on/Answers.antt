@@ -1,12 +1,10 @@
 -- `blocks_on` meets its contract: whatever follows, the cut goes on from where it is as from the start.
 -- Assumes nothing.
-use Prim.Native.Nat.{ℕ, ◌+◌, ◌-◌, ◌≤◌}
+use Prim.Native.Nat.{◌+◌, ◌-◌}
 use native.Mathlib.Omega.{arith}
-use mathlib.Core.Path.{◌≡◌, refl}
-use mathlib.Core.List.{List}
+use mathlib.Core.Path.{refl}
 use lib.ListN.{length}
-use Rattle.underway.specs.Under.{CutIs}
-use Rattle.underway.proofs.Block.{Within, within_first, within_next, within_last, three_tests}
+use Rattle.underway.proofs.Block.{within_first, within_next, within_last, three_tests}
 use Rattle.underway.proofs.blocks_on.Goals as goal
 
 pub loop-n-init : goal.loop-n-init

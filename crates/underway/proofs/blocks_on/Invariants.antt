@@ -1,12 +1,11 @@
 -- `blocks_on` meets its contract: whatever follows, the cut goes on from where it is as from the start.
 -- Assumes nothing.
 use Prim.Native.Nat.{ℕ, ◌+◌, ◌-◌, ◌≤◌}
-use native.Mathlib.Omega.{arith}
-use mathlib.Core.Path.{◌≡◌, refl}
+use mathlib.Core.Path.{◌≡◌}
 use mathlib.Core.List.{List}
 use lib.ListN.{length}
 use Rattle.underway.specs.Under.{CutIs}
-use Rattle.underway.proofs.Block.{Within, within_first, within_next, within_last, three_tests}
+use Rattle.underway.proofs.Block.{Within}
 use Rattle.underway.proofs.blocks_on.Given as goal
 
 abbrev pub invariant-loop-n : goal.invariant-loop-n

@@ -4,7 +4,6 @@ use native.Mathlib.Omega.{arith}
 use mathlib.Core.Path.{refl}
 use lib.ListN.{length-append}
 use Rattle.underway.proofs.Block.{blocks_grow}
-use borrow.Author.Rules.{rules}
 use Rattle.underway.proofs.cut_on.Goals as goal
 
 pub returns-then-len-le12 : goal.returns-then-len-le12

@@ -1,11 +1,8 @@
 -- `each` meets its contract: so many bytes of the piece are kept.
 -- Assumes nothing.
-use Prim.Native.Nat.{ℕ, ◌-◌, ◌≤◌}
 use native.Mathlib.Omega.{arith}
 use mathlib.Core.Path.{◌≡◌, refl}
-use Rattle.underway.specs.Under.{CopiedIs}
 use Rattle.underway.proofs.Eights.{copied_none, copied_next}
-use borrow.Author.Rules.{rules}
 use Rattle.underway.proofs.each.Goals as goal
 
 pub loop-j-init : goal.loop-j-init

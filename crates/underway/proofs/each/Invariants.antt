@@ -1,11 +1,7 @@
 -- `each` meets its contract: so many bytes of the piece are kept.
 -- Assumes nothing.
-use Prim.Native.Nat.{ℕ, ◌-◌, ◌≤◌}
-use native.Mathlib.Omega.{arith}
-use mathlib.Core.Path.{◌≡◌, refl}
+use Prim.Native.Nat.{◌-◌, ◌≤◌}
 use Rattle.underway.specs.Under.{CopiedIs}
-use Rattle.underway.proofs.Eights.{copied_none, copied_next}
-use borrow.Author.Rules.{rules}
 use Rattle.underway.proofs.each.Given as goal
 
 abbrev pub invariant-loop-j : goal.invariant-loop-j

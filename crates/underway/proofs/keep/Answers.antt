@@ -2,7 +2,6 @@
 -- Assumes nothing.
 use native.Mathlib.Omega.{arith}
 use Rattle.underway.proofs.Eights.{copied_all, eight_fits, by_two, by_four}
-use borrow.Author.Rules.{rules}
 use Rattle.underway.proofs.keep.Goals as goal
 
 pub returns-then-end-lt8 : goal.returns-then-end-lt8

@@ -1,7 +1,6 @@
 -- `keep_each` meets its contract: as many bytes as there is room for.
 -- Assumes nothing.
 use Rattle.underway.proofs.Eights.{copied_all}
-use borrow.Author.Rules.{rules}
 use Rattle.underway.proofs.keep_each.Goals as goal
 
 pub returns : goal.returns

@@ -2,7 +2,6 @@
 -- Assumes nothing.
 use mathlib.Core.Path.{refl, sym, ◌∙◌}
 use Rattle.underway.proofs.Growing.{grow_text, grow_cut, grow_plain}
-use borrow.Author.Rules.{rules}
 use Rattle.underway.proofs.more.Goals as goal
 
 pub returns-then-id-eq12 : goal.returns-then-id-eq12

@@ -16,10 +16,10 @@ pub returns-then-id-eq13 : goal.returns-then-id-eq13
 returns-then-id-eq13 c = (
   sym (rw (ne_eqb _ 9 c.if-id-eq9.false, ne_eqb _ 10 c.if-id-eq10.false, eq-eqb _ 13 c.if-id-eq13.true) refl),
   omega arith,
-  )
+)
 
 pub returns-else-id-eq13 : goal.returns-else-id-eq13
 returns-else-id-eq13 c = (
   sym (rw (ne_eqb _ 9 c.if-id-eq9.false, ne_eqb _ 10 c.if-id-eq10.false, ne_eqb _ 13 c.if-id-eq13.false) refl),
   omega arith,
-  )
+)

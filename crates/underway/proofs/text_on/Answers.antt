@@ -4,7 +4,6 @@ use native.Mathlib.Omega.{arith}
 use mathlib.Core.Path.{refl}
 use lib.ListN.{length-append}
 use Rattle.underway.proofs.Unit.{text_grows}
-use borrow.Author.Rules.{rules}
 use Rattle.underway.proofs.text_on.Goals as goal
 
 pub returns-then-len-lt6 : goal.returns-then-len-lt6

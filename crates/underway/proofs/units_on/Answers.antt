@@ -1,15 +1,10 @@
 -- `units_on` meets its contract: what is left of the units ends where it ended.
 -- Assumes nothing.
-use Prim.Native.Nat.{ℕ, ◌+◌, ◌-◌, ◌*◌, ◌≤◌}
+use Prim.Native.Nat.{ℕ, ◌+◌, ◌-◌, ◌*◌}
 use native.Mathlib.Omega.{arith}
 use mathlib.Core.Path.{◌≡◌, refl, ◌∙◌, ap}
-use mathlib.Core.List.{List, ◌++◌}
-use lib.ListN.{length, drop}
 use lib.Dec.{eqb}
-use Rattle.format.specs.Slots.{Bytes}
-use Rattle.underway.specs.Under.{left_from}
 use Rattle.underway.proofs.Unit.{good_mark, high_mark, unit_next}
-use borrow.Author.Rules.{rules}
 use Rattle.underway.proofs.units_on.Goals as goal
 
 pub loop-k-init : goal.loop-k-init

@@ -1,7 +1,6 @@
 -- `element_at` meets its contract: the bytes after the header are decoded as the record that stands there.
 -- Assumes nothing.
 use Rattle.walking.proofs.Bytes.{decoded_here}
-use borrow.Author.Rules.{rules}
 use Rattle.walking.proofs.element_at.Goals as goal
 
 pub element_of-requires : goal.element_of-requires

@@ -1,7 +1,6 @@
 -- `length_at` meets its contract: bytes 1-2 from a place are bytes 1-2 of what is left there.
 -- Assumes nothing.
 use lib.Seq.{get_or-drop}
-use borrow.Author.Rules.{rules}
 use Rattle.walking.proofs.length_at.Goals as goal
 
 pub returns : goal.returns

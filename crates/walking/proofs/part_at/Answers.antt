@@ -2,7 +2,6 @@
 -- Assumes nothing.
 use native.Mathlib.Omega.{arith}
 use Rattle.walking.proofs.Bytes.{part_within, part_here}
-use borrow.Author.Rules.{rules}
 use Rattle.walking.proofs.part_at.Goals as goal
 
 pub returns : goal.returns

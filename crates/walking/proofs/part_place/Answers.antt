@@ -2,7 +2,6 @@
 -- Assumes nothing.
 use native.Mathlib.Omega.{arith}
 use Rattle.walking.proofs.Bytes.{start_here, part_within}
-use borrow.Author.Rules.{rules}
 use Rattle.walking.proofs.part_place.Goals as goal
 
 pub overflow_add-result : goal.overflow_add-result

@@ -1,11 +1,7 @@
 -- `place_of` meets its contract: each turn puts one element behind.
 -- Assumes nothing.
-use Prim.Native.Nat.{ℕ, ◌-◌, ◌<◌}
 use native.Mathlib.Omega.{arith}
-use Rattle.format.specs.Verdict.{Verdict}
-use Rattle.format.specs.declared.settings.Settings.{Settings}
-use Rattle.format.specs.declared.answers.Answer.TheVariants.{Accepted}
-use Rattle.walking.proofs.Counting.{Count, begun, here, turned, there}
+use Rattle.walking.proofs.Counting.{begun, here, turned, there}
 use Rattle.walking.proofs.place_of.Goals as goal
 
 pub loop-i-init : goal.loop-i-init

@@ -3,7 +3,6 @@
 use native.Mathlib.Omega.{arith}
 use lib.Dec.{ltb}
 use Rattle.widths.proofs.Roomy.{bus_roomy, select_roomy}
-use borrow.Author.Rules.{rules}
 use Rattle.widths.proofs.address_roomy.Goals as goal
 
 pub returns-in-Bus : goal.returns-in-Bus

@@ -2,7 +2,6 @@
 -- Assumes nothing.
 use native.Mathlib.Omega.{arith}
 use Rattle.widths.proofs.Roomy.{digital_roomy_lem}
-use borrow.Author.Rules.{rules}
 use Rattle.widths.proofs.digital_roomy.Goals as goal
 
 pub returns : goal.returns

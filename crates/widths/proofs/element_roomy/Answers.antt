@@ -2,7 +2,6 @@
 -- Assumes nothing.
 use native.Mathlib.Omega.{arith}
 use Rattle.widths.proofs.Roomy.{water_roomy, voltage_roomy, current_roomy, rgb_roomy}
-use borrow.Author.Rules.{rules}
 use Rattle.widths.proofs.element_roomy.Goals as goal
 
 pub returns-in-Digital : goal.returns-in-Digital

@@ -1,7 +1,6 @@
 -- `lamp_roomy` meets its contract: its pin, and its codes.
 -- Assumes nothing.
 use mathlib.Core.Path.{refl}
-use borrow.Author.Rules.{rules}
 use Rattle.widths.proofs.lamp_roomy.Goals as goal
 
 pub returns : goal.returns

@@ -3,7 +3,6 @@
 use native.Mathlib.Omega.{arith}
 use mathlib.Core.Path.{refl, sym}
 use borrow.Author.Tests.{lt-ltb}
-use borrow.Author.Rules.{rules}
 use Rattle.widths.proofs.pin_roomy.Goals as goal
 
 pub returns-in-Unused : goal.returns-in-Unused

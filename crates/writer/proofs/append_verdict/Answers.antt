@@ -1,7 +1,6 @@
 -- `append_verdict` meets its contract: 1, 3, 25, 8, 9, 23, 10, 16 in that order.
 -- Assumes nothing.
 use mathlib.Core.Path.{sym, ◌∙◌}
-use borrow.Author.Rules.{rules}
 use borrow.Author.Tests.{not-true, not-false}
 use Rattle.writer.proofs.Answering.{append_1, at_most, read_3, read_25, read_fault, read_room}
 use Rattle.writer.proofs.append_verdict.Goals as goal

@@ -1,7 +1,6 @@
 -- `room` meets its contract: 16 when the new length passes the buffer or 4,096.
 -- Assumes nothing.
 use native.Mathlib.Omega.{arith}
-use borrow.Author.Rules.{rules}
 use Rattle.laying.proofs.Laws.{element_length}
 use Rattle.writer.proofs.Answering.{fixed_short, too_long, past_buffer, fits_there}
 use Rattle.writer.proofs.room.Goals as goal

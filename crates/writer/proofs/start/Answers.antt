@@ -1,7 +1,6 @@
 -- `start` meets its contract: the answer is known before a byte is written.
 -- Assumes nothing.
 use mathlib.Core.Path.{sym, ◌∙◌}
-use borrow.Author.Rules.{rules}
 use Rattle.writer.proofs.Answering.{start_good, started, not_started}
 use Rattle.writer.proofs.start.Goals as goal
 

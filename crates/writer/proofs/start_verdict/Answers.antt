@@ -1,7 +1,6 @@
 -- `start_verdict` meets its contract: 1, 25, 4, 5, 10 in that order.
 -- Assumes nothing.
 use mathlib.Core.Path.{sym, ◌∙◌}
-use borrow.Author.Rules.{rules}
 use borrow.Author.Tests.{not-true, not-false}
 use Rattle.writer.proofs.Answering.{start_1, start_25, start_fault, start_16}
 use Rattle.writer.proofs.start_verdict.Goals as goal

@@ -1,11 +1,8 @@
 -- `alike` meets its contract: a byte of each a turn.
 -- Assumes nothing.
-use Prim.Native.Nat.{◌-◌}
 use native.Mathlib.Omega.{arith}
 use mathlib.Core.Path.{refl}
-use lib.ListN.{length}
-use borrow.Author.Rules.{rules}
-use Rattle.comparing.proofs.Spelled.{Alike, unlike_long, unlike_here, alike_turned, alike_ended}
+use Rattle.comparing.proofs.Spelled.{unlike_long, unlike_here, alike_turned, alike_ended}
 use Rattle.comparing.proofs.lines.alike.Goals as goal
 
 pub returns-then-p-q : goal.returns-then-p-q

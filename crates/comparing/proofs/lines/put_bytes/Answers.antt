@@ -1,11 +1,7 @@
 -- `put_bytes` meets its contract: a byte a turn.
 -- Assumes nothing.
-use Prim.Native.Nat.{◌-◌}
 use native.Mathlib.Omega.{arith}
-use lib.ListN.{length, drop}
-use borrow.Author.Rules.{rules}
-use Rattle.differing.specs.Fields.{hex}
-use Rattle.comparing.proofs.Midst.{Midst, begun}
+use Rattle.comparing.proofs.Midst.{begun}
 use Rattle.comparing.proofs.Spelled.{part_room, part_turned, part_ended}
 use Rattle.comparing.proofs.lines.put_bytes.Goals as goal
 

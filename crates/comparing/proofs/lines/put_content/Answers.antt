@@ -5,15 +5,13 @@ use native.Mathlib.Omega.{arith}
 use mathlib.Core.Path.{◌≡◌}
 use borrow.Author.Tests.{lt-ltb, le-ltb}
 use Rattle.spelling.proofs.Putting.{then}
-use borrow.Author.Rules.{rules}
 use Rattle.comparing.proofs.lines.put_content.Goals as goal
 
 pub returns-then-v-lt16777216 : goal.returns-then-v-lt16777216
-returns-then-v-lt16777216 c =
-    (
-      rw (lt-ltb _ _ c.if-v-lt16777216.true) (then c.put_decimal-a.ensures.0 c.put_byte.ensures),
-      omega (arith, c.put_decimal-a.ensures.1, c.put_byte.ensures.ends),
-    )
+returns-then-v-lt16777216 c = (
+  rw (lt-ltb _ _ c.if-v-lt16777216.true) (then c.put_decimal-a.ensures.0 c.put_byte.ensures),
+  omega (arith, c.put_decimal-a.ensures.1, c.put_byte.ensures.ends),
+)
 
 pub returns : goal.returns
 returns c =

@@ -1,7 +1,6 @@
 -- `put_ended` meets its contract: the end stands behind the digits, two for a byte.
 -- Assumes nothing.
 use native.Mathlib.Omega.{arith}
-use borrow.Author.Rules.{rules}
 use Rattle.spelling.proofs.Putting.{then}
 use Rattle.differing.proofs.Bound.{hex_length}
 use Rattle.comparing.proofs.lines.put_ended.Goals as goal

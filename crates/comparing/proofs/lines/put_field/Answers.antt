@@ -1,7 +1,6 @@
 -- `put_field` meets its contract: the fields, one behind another.
 -- Assumes nothing.
 use Rattle.spelling.proofs.Putting.{then}
-use borrow.Author.Rules.{rules}
 use Rattle.comparing.proofs.Lined.{behind_both}
 use Rattle.comparing.proofs.lines.put_field.Goals as goal
 

@@ -1,7 +1,6 @@
 -- `put_fields` meets its contract: the rows that kinds share, and the kind's own.
 -- Assumes nothing.
 use lib.ListN.{length}
-use borrow.Author.Rules.{rules}
 use Rattle.comparing.proofs.Pairing.{first_room, second_room, fields_put}
 use Rattle.comparing.proofs.lines.put_fields.Goals as goal
 

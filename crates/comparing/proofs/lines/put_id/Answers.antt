@@ -1,7 +1,6 @@
 -- `put_id` meets its contract: the identifier is missing, or it is there.
 -- Assumes nothing.
 use native.Mathlib.Omega.{arith}
-use borrow.Author.Rules.{rules}
 use Rattle.spelling.specs.Spelling.{hex_pair}
 use Rattle.comparing.proofs.Lined.{missing, present}
 use Rattle.comparing.proofs.lines.put_id.Goals as goal

@@ -1,6 +1,5 @@
 -- `put_kind` meets its contract: the fields, one behind another.
 -- Assumes nothing.
-use borrow.Author.Rules.{rules}
 use Rattle.spelling.proofs.Putting.{then}
 use Rattle.comparing.specs.Lines.{place_text}
 use Rattle.comparing.proofs.Lined.{behind}

@@ -3,7 +3,6 @@
 use native.Mathlib.Omega.{arith}
 use mathlib.Core.Path.{sym, ◌∙◌}
 use Rattle.spelling.proofs.Putting.{then}
-use borrow.Author.Rules.{rules}
 use Rattle.comparing.proofs.Lined.{behind_both, ended_length, part_same, part_line_lem, part_space}
 use Rattle.comparing.proofs.lines.put_part.Goals as goal
 

@@ -1,7 +1,6 @@
 -- `put_place` meets its contract: the offset is missing, or it is there.
 -- Assumes nothing.
 use native.Mathlib.Omega.{arith}
-use borrow.Author.Rules.{rules}
 use Rattle.spelling.specs.Spelling.{decimal}
 use Rattle.comparing.proofs.Lined.{missing, present}
 use Rattle.comparing.proofs.lines.put_place.Goals as goal

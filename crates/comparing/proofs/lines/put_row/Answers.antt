@@ -1,6 +1,5 @@
 -- `put_row` meets its contract: by its two cases.
 -- Assumes nothing.
-use borrow.Author.Rules.{rules}
 use Rattle.comparing.proofs.Lined.{row_same, row_differs}
 use Rattle.comparing.proofs.lines.put_row.Goals as goal
 

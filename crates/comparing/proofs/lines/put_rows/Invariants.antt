@@ -1,9 +1,7 @@
 -- `put_rows` meets its contract: a row a turn.
 -- Assumes nothing.
 use Prim.Native.Nat.{◌-◌}
-use native.Mathlib.Omega.{arith}
-use mathlib.Core.Path.{refl}
-use Rattle.comparing.proofs.Lined.{Rowed, rows_begun, rows_room, row_below, row_turned, rows_ended}
+use Rattle.comparing.proofs.Lined.{Rowed}
 use Rattle.comparing.proofs.lines.put_rows.Given as goal
 
 abbrev pub invariant-loop-i : goal.invariant-loop-i

@@ -3,9 +3,6 @@
 use mathlib.Core.Path.{refl}
 use Rattle.comparing.specs.Rows.{names}
 use Rattle.comparing.specs.Letters.{letters}
-use borrow.Author.Rules.{rules}
-use Rattle.comparing.proofs.names.letter.Reads as reads
-use Rattle.comparing.proofs.names.letter.Lts as lts
 use Rattle.comparing.proofs.names.letter.Goals as goal
 
 pub returns : goal.returns

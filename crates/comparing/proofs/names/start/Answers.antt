@@ -2,9 +2,6 @@
 -- Assumes nothing.
 use mathlib.Core.Path.{refl}
 use Rattle.comparing.specs.Letters.{starts}
-use borrow.Author.Rules.{rules}
-use Rattle.comparing.proofs.names.start.Reads as reads
-use Rattle.comparing.proofs.names.start.Lts as lts
 use Rattle.comparing.proofs.names.start.Goals as goal
 
 pub returns : goal.returns

@@ -3,10 +3,6 @@
 use native.Mathlib.Omega.{arith}
 use mathlib.Core.Path.{sym}
 use lib.ListN.{get_or-eq_default}
-use borrow.Author.Rules.{rules}
-use Rattle.comparing.proofs.rows.at_or_zero.Reads as reads
-use Rattle.comparing.proofs.rows.at_or_zero.Lts as lts
-use Rattle.words.proofs.wide.Reads as wide-reads
 use Rattle.comparing.proofs.rows.at_or_zero.Goals as goal
 
 pub returns : goal.returns

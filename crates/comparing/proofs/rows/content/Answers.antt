@@ -1,6 +1,5 @@
 -- `content` meets its contract: the three bytes at the row's offset, read in the row's way.
 -- Assumes nothing.
-use borrow.Author.Rules.{rules}
 use Rattle.comparing.proofs.rows.content.Goals as goal
 
 pub returns : goal.returns

@@ -1,10 +1,6 @@
 -- `offset` meets its contract: the constant is the list of the definition.
 -- Assumes nothing.
 use Rattle.comparing.specs.Rows.{offsets}
-use borrow.Author.Rules.{rules}
-use Rattle.comparing.proofs.rows.offset.Reads as reads
-use Rattle.comparing.proofs.rows.offset.Lts as lts
-use Rattle.words.proofs.wide.Reads as wide-reads
 use Rattle.comparing.proofs.rows.offset.Goals as goal
 
 pub returns : goal.returns

@@ -3,9 +3,6 @@
 use native.Mathlib.Omega.{arith}
 use borrow.Author.Tests.{eq-eqb, ne_eqb}
 use Rattle.comparing.specs.Rows.{reading}
-use borrow.Author.Rules.{rules}
-use Rattle.comparing.proofs.rows.read.Reads as reads
-use Rattle.comparing.proofs.rows.read.Lts as lts
 use Rattle.comparing.proofs.rows.read.Goals as goal
 
 pub returns-in-0 : goal.returns-in-0
@@ -47,8 +44,7 @@ returns-in-7 c = (rw c.in-7.is, omega arith)
 pub returns-in_default : goal.returns-in_default
 unfolding reading
 returns-in_default c =
-    let m = c.in_default.in_default-own.rest in
-    (
+    let m = c.in_default.in_default-own.rest in (
       simp (
         ne_eqb _ 0 m.0.0.0.0.0.0.0.1,
         ne_eqb _ 1 m.0.0.0.0.0.0.1,

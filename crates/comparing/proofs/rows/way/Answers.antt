@@ -2,9 +2,6 @@
 -- Assumes nothing.
 use mathlib.Core.Path.{refl}
 use Rattle.comparing.specs.Rows.{ways}
-use borrow.Author.Rules.{rules}
-use Rattle.comparing.proofs.rows.way.Reads as reads
-use Rattle.comparing.proofs.rows.way.Lts as lts
 use Rattle.comparing.proofs.rows.way.Goals as goal
 
 pub returns : goal.returns

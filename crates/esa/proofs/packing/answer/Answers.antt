@@ -1,7 +1,6 @@
 -- `packing::answer` meets its contract: each case has its number and value.
 -- Assumes nothing.
 use native.Mathlib.Omega.{arith}
-use borrow.Author.Rules.{rules}
 use Rattle.esa.proofs.packing.answer.Goals as goal
 
 pub pack-requires : goal.pack-requires

@@ -2,7 +2,6 @@
 -- Assumes nothing.
 use native.Mathlib.Omega.{arith}
 use mathlib.Core.Path.{refl}
-use borrow.Author.Rules.{rules}
 use Rattle.esa.proofs.packing.asked.Goals as goal
 
 pub pack-requires-in-Refused : goal.pack-requires-in-Refused
@@ -14,7 +13,7 @@ returns-in-Element c = rw (
   c.pack.ensures,
   c.wide.ensures.0,
   c.id_of.ensures,
-  ) refl
+) refl
 
 pub returns-in-Refused : goal.returns-in-Refused
 returns-in-Refused c = rw c.in-Refused.is c.pack-in-Refused.ensures

@@ -1,7 +1,6 @@
 -- `packing::block` meets its contract: SPEED and ENTRIES, or 17.
 -- Assumes nothing.
 use mathlib.Core.Path.{refl}
-use borrow.Author.Rules.{rules}
 use Rattle.esa.proofs.packing.block.Goals as goal
 
 pub returns-in-Block : goal.returns-in-Block
@@ -10,4 +9,4 @@ returns-in-Block c = rw (
   c.pack.ensures,
   c.wide.ensures.0,
   c.wide-in-Block.ensures.0,
-  ) refl
+) refl

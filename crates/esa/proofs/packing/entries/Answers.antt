@@ -1,7 +1,6 @@
 -- `packing::entries` meets its contract: ENTRIES, or 17.
 -- Assumes nothing.
 use mathlib.Core.Path.{refl}
-use borrow.Author.Rules.{rules}
 use Rattle.esa.proofs.packing.entries.Goals as goal
 
 pub returns-in-Entries : goal.returns-in-Entries

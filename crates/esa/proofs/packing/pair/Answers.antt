@@ -1,6 +1,5 @@
 -- `packing::pair` meets its contract: address and data, or 17.
 -- Assumes nothing.
-use borrow.Author.Rules.{rules}
 use Rattle.esa.proofs.packing.pair.Goals as goal
 
 pub returns-in-Pair : goal.returns-in-Pair

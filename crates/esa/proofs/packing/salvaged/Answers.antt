@@ -1,7 +1,6 @@
 -- `packing::salvaged` meets its contract: both lengths, or a refusal with its place.
 -- Assumes nothing.
 use native.Mathlib.Omega.{arith}
-use borrow.Author.Rules.{rules}
 use Rattle.esa.proofs.packing.salvaged.Goals as goal
 
 pub overflow_mul-m : goal.overflow_mul-m

@@ -2,7 +2,6 @@
 -- Assumes nothing.
 use native.Mathlib.Omega.{arith}
 use mathlib.Core.Path.{refl}
-use borrow.Author.Rules.{rules}
 use Rattle.esa.proofs.packing.zoned.Goals as goal
 
 pub overflow_mul-v : goal.overflow_mul-v

@@ -1,7 +1,6 @@
 -- `laying::kinds::address_byte` meets its contract, by the arm that was taken; a bus address with room is below 128.
 -- Assumes nothing.
 use native.Mathlib.Omega.{arith}
-use borrow.Author.Rules.{rules}
 use borrow.Author.Tests.{ltb-true}
 use Rattle.laying.proofs.kinds.address_byte.Goals as goal
 

@@ -1,7 +1,6 @@
 -- `laying::kinds::analogue` meets its contract: the high byte of a number of two bytes is below 256.
 -- Assumes nothing.
 use native.Mathlib.Omega.{arith}
-use borrow.Author.Rules.{rules}
 use Rattle.laying.proofs.kinds.analogue.Goals as goal
 
 pub overflow_cast-own-6 : goal.overflow_cast-own-6

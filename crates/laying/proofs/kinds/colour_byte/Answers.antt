@@ -1,7 +1,6 @@
 -- `laying::kinds::colour_byte` meets its contract: a colour and a purpose with room are below 16.
 -- Assumes nothing.
 use native.Mathlib.Omega.{arith}
-use borrow.Author.Rules.{rules}
 use borrow.Author.Tests.{ltb-true}
 use lib.Dec.{ltb}
 use Rattle.format.proofs.Kept.{and-true}

@@ -1,7 +1,6 @@
 -- `laying::kinds::digital` meets its contract: the address has room in its slot, the seventh, and the numbers fit by their types.
 -- Assumes nothing.
 use native.Mathlib.Omega.{arith}
-use borrow.Author.Rules.{rules}
 use Rattle.format.specs.Layout.{fixed}
 use Rattle.format.specs.declared.records.Element.TheVariants.{Digital}
 use Rattle.laying.proofs.Laws.{roomy_at}

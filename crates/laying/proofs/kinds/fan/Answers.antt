@@ -2,7 +2,6 @@
 -- Assumes nothing.
 use native.Mathlib.Omega.{arith}
 use mathlib.Core.Path.{refl}
-use borrow.Author.Rules.{rules}
 use Rattle.laying.proofs.kinds.fan.Goals as goal
 
 pub overflow_cast-own-4 : goal.overflow_cast-own-4

@@ -1,7 +1,6 @@
 -- `laying::kinds::led` meets its contract: each pin's byte is its place's, each colour and purpose has room in its slot, and their
 -- byte is that slot's.
 -- Assumes nothing.
-use borrow.Author.Rules.{rules}
 use Rattle.format.specs.Layout.{fixed}
 use Rattle.format.specs.declared.records.Element.TheVariants.{Led}
 use Rattle.laying.proofs.Laws.{roomy_at}

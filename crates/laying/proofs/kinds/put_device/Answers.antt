@@ -1,7 +1,6 @@
 -- `laying::kinds::put_device` meets its contract: the address's byte is its slot's, and the kind's own bytes are laid beside the device.
 -- Assumes nothing.
 use native.Mathlib.Omega.{arith}
-use borrow.Author.Rules.{rules}
 use Rattle.format.specs.Slots.{written}
 use Rattle.format.specs.Layout.{fixed}
 use Rattle.format.specs.declared.records.Element.TheVariants.{Controller}

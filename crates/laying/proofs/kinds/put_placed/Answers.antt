@@ -1,7 +1,6 @@
 -- `laying::kinds::put_placed` meets its contract: the kind's own bytes are laid beside the placement.
 -- Assumes nothing.
 use native.Mathlib.Omega.{arith}
-use borrow.Author.Rules.{rules}
 use Rattle.format.specs.Slots.{written}
 use Rattle.format.specs.Layout.{placement}
 use Rattle.laying.proofs.Laws.{overwritten_next}
