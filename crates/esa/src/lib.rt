@@ -42,16 +42,14 @@ use reader::Placed;
 mod packing;
 
 // Beside 0 stands the number of elements, beside a refusal its place.
-#[unsafe(no_mangle)]
-pub extern "C" fn esa_check(table: &[u8], settings: u64) -> u64
+pub fn esa_check(table: &[u8], settings: u64) -> u64
     ensures { Checked (settings_of settings) table.now result }
 {
     packing::answer(reader::check(table, settings_of(settings)))
 }
 
 // The description's numbers, where the answer is 0; with a refusal the numbers are left as they were.
-#[unsafe(no_mangle)]
-pub extern "C" fn esa_describe(table: &[u8], settings: u64, numbers: &mut [u8; 32]) -> u64
+pub fn esa_describe(table: &[u8], settings: u64, numbers: &mut [u8; 32]) -> u64
     ensures { DescribedFor (settings_of settings) table.now numbers.old result numbers.new }
 {
     let s = settings_of(settings);
@@ -66,16 +64,14 @@ pub extern "C" fn esa_describe(table: &[u8], settings: u64, numbers: &mut [u8; 3
 }
 
 // Beside 0 stands the identifier of element k, beside a refusal its place.
-#[unsafe(no_mangle)]
-pub extern "C" fn esa_element(table: &[u8], k: usize, settings: u64) -> u64
+pub fn esa_element(table: &[u8], k: usize, settings: u64) -> u64
     ensures { AskedFor (settings_of settings) table.now k result }
 {
     packing::asked(reader::element(table, k, settings_of(settings)))
 }
 
 // The same, and the numbers of element k where the answer is 0.
-#[unsafe(no_mangle)]
-pub extern "C" fn esa_fields(table: &[u8], k: usize, settings: u64, numbers: &mut [u8; 32]) -> u64
+pub fn esa_fields(table: &[u8], k: usize, settings: u64, numbers: &mut [u8; 32]) -> u64
     ensures { FieldsFor (settings_of settings) table.now k numbers.old result numbers.new }
 {
     let s = settings_of(settings);
@@ -90,8 +86,7 @@ pub extern "C" fn esa_fields(table: &[u8], k: usize, settings: u64, numbers: &mu
 }
 
 // The length of the variable part of element k; 0 with a refusal.
-#[unsafe(no_mangle)]
-pub extern "C" fn esa_part_length(table: &[u8], k: usize, settings: u64) -> usize
+pub fn esa_part_length(table: &[u8], k: usize, settings: u64) -> usize
     ensures { PartFor (settings_of settings) table.now k result }
 {
     let part = reader::part(table, k, settings_of(settings));
@@ -99,8 +94,7 @@ pub extern "C" fn esa_part_length(table: &[u8], k: usize, settings: u64) -> usiz
 }
 
 // Where the variable part of element k stands in the table, and how long it is.
-#[unsafe(no_mangle)]
-pub extern "C" fn esa_part(table: &[u8], k: usize, settings: u64) -> u64
+pub fn esa_part(table: &[u8], k: usize, settings: u64) -> u64
     ensures { PlacedFor (settings_of settings) table.now k result }
 {
     match reader::part_place(table, k, settings_of(settings)) {
@@ -110,8 +104,7 @@ pub extern "C" fn esa_part(table: &[u8], k: usize, settings: u64) -> u64
 }
 
 // The same of the text of a string; 0 for an element that is none.
-#[unsafe(no_mangle)]
-pub extern "C" fn esa_text(table: &[u8], k: usize, settings: u64) -> u64
+pub fn esa_text(table: &[u8], k: usize, settings: u64) -> u64
     ensures { TextFor (settings_of settings) table.now k result }
 {
     let s = settings_of(settings);
@@ -128,8 +121,7 @@ pub extern "C" fn esa_text(table: &[u8], k: usize, settings: u64) -> u64
 
 // The label of element k: of which slice it is a part, 0 the table or 1 the lent name, where in it, and how long. It is the whole
 // name, also where that is longer than the 24 bits of the length can say.
-#[unsafe(no_mangle)]
-pub extern "C" fn esa_label(table: &[u8], k: usize, settings: u64, name: &[u8]) -> u64
+pub fn esa_label(table: &[u8], k: usize, settings: u64, name: &[u8]) -> u64
     ensures { LabelFor (settings_of settings) table.now k name.now result }
 {
     let lent = name.len();
@@ -138,8 +130,7 @@ pub extern "C" fn esa_label(table: &[u8], k: usize, settings: u64, name: &[u8]) 
 
 // Is there a fan or a pump in this zone? Beside 0 stands twice the number of elements visited, and 1 more where there is one; beside a
 // refusal its place.
-#[unsafe(no_mangle)]
-pub extern "C" fn esa_fan(table: &[u8], zone: u8, settings: u64) -> u64
+pub fn esa_fan(table: &[u8], zone: u8, settings: u64) -> u64
     ensures { FanFor (settings_of settings) table.now zone result }
 {
     packing::zoned(fans::in_zone(table, zone, settings_of(settings)))
@@ -147,24 +138,21 @@ pub extern "C" fn esa_fan(table: &[u8], zone: u8, settings: u64) -> u64
 
 // What a count, or of a fan or a pump the pulses in one second, means at element k. Beside 0 stands four times the reading, or 1
 // for under 0, 2 for over 100; beside a refusal its place.
-#[unsafe(no_mangle)]
-pub extern "C" fn esa_reading(table: &[u8], k: usize, count: u64, settings: u64) -> u64
+pub fn esa_reading(table: &[u8], k: usize, count: u64, settings: u64) -> u64
     ensures { ReadingFor (settings_of settings) table.now k count result }
 {
     metering::packed_reading(table, k, count, settings_of(settings))
 }
 
 // The same of our own thermistor, from the ready table alone: for the meter, which has no table and cannot divide.
-#[unsafe(no_mangle)]
-pub extern "C" fn esa_thermistor(count: u64) -> u64
+pub fn esa_thermistor(count: u64) -> u64
     ensures { OwnFor count result }
 {
     metering::packed_own(count)
 }
 
 // A table that comes in pieces, over a state that is lent part by part: begins with no byte. 0.
-#[unsafe(no_mangle)]
-pub extern "C" fn esa_receiving_start(
+pub fn esa_receiving_start(
     n: &mut [usize; 16],
     first: &mut [u8; 30],
     head: &mut [u8; 30],
@@ -176,8 +164,7 @@ pub extern "C" fn esa_receiving_start(
 }
 
 // The next bytes: 0, or 20 after the end.
-#[unsafe(no_mangle)]
-pub extern "C" fn esa_receiving_piece(
+pub fn esa_receiving_piece(
     n: &mut [usize; 16],
     first: &mut [u8; 30],
     head: &mut [u8; 30],
@@ -198,8 +185,7 @@ pub extern "C" fn esa_receiving_piece(
 }
 
 // No more bytes come. Beside 0 stands the number of elements, beside a refusal its place.
-#[unsafe(no_mangle)]
-pub extern "C" fn esa_receiving_end(
+pub fn esa_receiving_end(
     n: &mut [usize; 16],
     first: &[u8; 30],
     zs: &[bool; 256],
@@ -218,8 +204,7 @@ pub extern "C" fn esa_receiving_end(
 
 // A trace, over a state that is lent part by part: begins, for a table by the ordinary rules. Beside 0 stands the number of
 // elements, beside a refusal its place.
-#[unsafe(no_mangle)]
-pub extern "C" fn esa_tracing_start(
+pub fn esa_tracing_start(
     n: &mut [u64; 7],
     sensors: &mut [u16; 576],
     tallies: &mut [u32; 480],
@@ -233,8 +218,7 @@ pub extern "C" fn esa_tracing_start(
 }
 
 // The next bytes, at most 2,048 of them: the length of the text.
-#[unsafe(no_mangle)]
-pub extern "C" fn esa_tracing_piece(
+pub fn esa_tracing_piece(
     n: &mut [u64; 7],
     sensors: &[u16; 576],
     tallies: &mut [u32; 480],
@@ -248,8 +232,7 @@ pub extern "C" fn esa_tracing_piece(
 }
 
 // No more comes: the length of the text.
-#[unsafe(no_mangle)]
-pub extern "C" fn esa_tracing_end(
+pub fn esa_tracing_end(
     n: &[u64; 7],
     sensors: &[u16; 576],
     tallies: &[u32; 480],
@@ -261,56 +244,49 @@ pub extern "C" fn esa_tracing_end(
 }
 
 // 09h: SPEED and ENTRIES of speed block j of a part.
-#[unsafe(no_mangle)]
-pub extern "C" fn esa_block(part: &[u8], j: usize) -> u64
+pub fn esa_block(part: &[u8], j: usize) -> u64
     ensures { result ≡ packed_block (block_in part.now j) }
 {
     packing::block(parts::block(part, j))
 }
 
 // 09h: address and data of register pair i of speed block j.
-#[unsafe(no_mangle)]
-pub extern "C" fn esa_pair(part: &[u8], j: usize, i: usize) -> u64
+pub fn esa_pair(part: &[u8], j: usize, i: usize) -> u64
     ensures { result ≡ packed_pair (pair_in part.now j i) }
 {
     packing::pair(parts::pair(part, j, i))
 }
 
 // 0Ah: ENTRIES of block w of a part, 0 or 1.
-#[unsafe(no_mangle)]
-pub extern "C" fn esa_entries(part: &[u8], w: usize) -> u64
+pub fn esa_entries(part: &[u8], w: usize) -> u64
     ensures { result ≡ packed_entries (list_in part.now w) }
 {
     packing::entries(parts::list(part, w))
 }
 
 // 0Ah: address and data of register pair i of block w.
-#[unsafe(no_mangle)]
-pub extern "C" fn esa_entry(part: &[u8], w: usize, i: usize) -> u64
+pub fn esa_entry(part: &[u8], w: usize, i: usize) -> u64
     ensures { result ≡ packed_pair (list_pair_in part.now w i) }
 {
     packing::pair(parts::list_pair(part, w, i))
 }
 
 // 0Dh: ENTRIES of block w of a part, 0 for red, 1 for green, 2 for blue.
-#[unsafe(no_mangle)]
-pub extern "C" fn esa_colours(part: &[u8], w: usize) -> u64
+pub fn esa_colours(part: &[u8], w: usize) -> u64
     ensures { result ≡ packed_entries (colour_in part.now w) }
 {
     packing::entries(parts::colour(part, w))
 }
 
 // 0Dh: address and data of register pair i of block w.
-#[unsafe(no_mangle)]
-pub extern "C" fn esa_colour(part: &[u8], w: usize, i: usize) -> u64
+pub fn esa_colour(part: &[u8], w: usize, i: usize) -> u64
     ensures { result ≡ packed_pair (colour_pair_in part.now w i) }
 {
     packing::pair(parts::colour_pair(part, w, i))
 }
 
 // Starts a table with the description in the numbers. Beside 0 stands the length, beside a refusal its place.
-#[unsafe(no_mangle)]
-pub extern "C" fn esa_start(buffer: &mut [u8], settings: u64, numbers: &[u8; 32]) -> u64
+pub fn esa_start(buffer: &mut [u8], settings: u64, numbers: &[u8; 32]) -> u64
     ensures { StartedFor (chip_of settings) buffer.old numbers.now result buffer.new }
 {
     let chip = chip_of(settings);
@@ -319,14 +295,7 @@ pub extern "C" fn esa_start(buffer: &mut [u8], settings: u64, numbers: &[u8; 32]
 
 // Appends the element of this identifier in the numbers, with its variable part. Beside 0 stands the new length, beside a
 // refusal its place; 7 for an identifier that is not one of the fourteen.
-#[unsafe(no_mangle)]
-pub extern "C" fn esa_append(
-    buffer: &mut [u8],
-    id: u8,
-    settings: u64,
-    numbers: &[u8; 32],
-    part: &[u8],
-) -> u64
+pub fn esa_append(buffer: &mut [u8], id: u8, settings: u64, numbers: &[u8; 32], part: &[u8]) -> u64
     ensures { AppendedFor (chip_of settings) buffer.old id numbers.now part.now result
         buffer.new }
 {
@@ -339,16 +308,14 @@ pub extern "C" fn esa_append(
 
 // The records of an accepted table, written again into a buffer, by the writer's rules. Beside 0 stands the length, beside a
 // refusal its place.
-#[unsafe(no_mangle)]
-pub extern "C" fn esa_rewrite(table: &[u8], settings: u64, out: &mut [u8]) -> u64
+pub fn esa_rewrite(table: &[u8], settings: u64, out: &mut [u8]) -> u64
     ensures { RewrittenFor (chip_of settings) table.now out.old result out.new }
 {
     packing::written(rewriting::rewrite(table, out, chip_of(settings)))
 }
 
 // Takes element k out of the lent table, by the writer's rules. Beside 0 stands the new length, beside a refusal its place.
-#[unsafe(no_mangle)]
-pub extern "C" fn esa_remove(table: &mut [u8], k: usize, settings: u64) -> u64
+pub fn esa_remove(table: &mut [u8], k: usize, settings: u64) -> u64
     ensures { RemovedFor (chip_of settings) table.old k result table.new }
 {
     packing::written(removing::remove(table, k, chip_of(settings)))
@@ -356,13 +323,7 @@ pub extern "C" fn esa_remove(table: &mut [u8], k: usize, settings: u64) -> u64
 
 // What can be saved of a damaged table, at the front of the buffer, and its lines at the front of the other, by the writer's rules.
 // Beside 0 stand both lengths, beside a refusal its place.
-#[unsafe(no_mangle)]
-pub extern "C" fn esa_salvage(
-    file: &[u8],
-    settings: u64,
-    out: &mut [u8],
-    lines: &mut [u8; 32768],
-) -> u64
+pub fn esa_salvage(file: &[u8], settings: u64, out: &mut [u8], lines: &mut [u8; 32768]) -> u64
     ensures { SalvagedFor (chip_of settings) file.now out.old lines.old result out.new
         lines.new }
 {
@@ -371,8 +332,7 @@ pub extern "C" fn esa_salvage(
 
 // The text in Intel HEX of a table that the archive's rules accept, at the front of the buffer. Beside 0 stands its length, beside a
 // refusal its place.
-#[unsafe(no_mangle)]
-pub extern "C" fn esa_hex(table: &[u8], settings: u64, out: &mut [u8]) -> u64
+pub fn esa_hex(table: &[u8], settings: u64, out: &mut [u8]) -> u64
     ensures { HexFor (chip_of settings) table.now out.old result out.new }
 {
     packing::moved(tohex::to_hex(table, out, chip_of(settings)))
@@ -380,16 +340,14 @@ pub extern "C" fn esa_hex(table: &[u8], settings: u64, out: &mut [u8]) -> u64
 
 // The table that a text in Intel HEX sends, at the front of the buffer, if the archive's rules accept it. Beside 0 stands its length,
 // beside 21 the number of the first bad line, beside another refusal its place.
-#[unsafe(no_mangle)]
-pub extern "C" fn esa_unhex(text: &[u8], settings: u64, out: &mut [u8]) -> u64
+pub fn esa_unhex(text: &[u8], settings: u64, out: &mut [u8]) -> u64
     ensures { UnhexFor (chip_of settings) text.now out.old result out.new }
 {
     packing::moved(fromhex::from_hex(text, out, chip_of(settings)))
 }
 
 // The listing of a table at the front of the buffer. The answer is its length in bytes.
-#[unsafe(no_mangle)]
-pub extern "C" fn esa_list(table: &[u8], settings: u64, out: &mut [u8; 4096]) -> usize
+pub fn esa_list(table: &[u8], settings: u64, out: &mut [u8; 4096]) -> usize
     ensures { Listed (settings_of settings) table.now out.old result out.new }
 {
     listing::list(table, out, settings_of(settings))
@@ -397,16 +355,14 @@ pub extern "C" fn esa_list(table: &[u8], settings: u64, out: &mut [u8; 4096]) ->
 
 // The pin sheet of a table, made afresh, by the ordinary rules. Beside 0 stands the number of elements, beside a refusal its place;
 // then the old sheet is kept.
-#[unsafe(no_mangle)]
-pub extern "C" fn esa_sheet(table: &[u8], settings: u64, sheet: &mut [u16; 25]) -> u64
+pub fn esa_sheet(table: &[u8], settings: u64, sheet: &mut [u16; 25]) -> u64
     ensures { SheetFor (chip_of settings) table.now sheetOf sheet.old result sheet.new }
 {
     packing::answer(sheets::make(table, sheet, ordinary(settings)))
 }
 
 // The same of the sheet of the table before its last element was appended, brought forward.
-#[unsafe(no_mangle)]
-pub extern "C" fn esa_sheet_forward(table: &[u8], settings: u64, sheet: &mut [u16; 25]) -> u64
+pub fn esa_sheet_forward(table: &[u8], settings: u64, sheet: &mut [u16; 25]) -> u64
     ensures { SheetFor (chip_of settings) table.now (λ d rs. forwardOf rs (read sheet.old))
         sheet.old result sheet.new }
 {
@@ -414,8 +370,7 @@ pub extern "C" fn esa_sheet_forward(table: &[u8], settings: u64, sheet: &mut [u1
 }
 
 // The lines of a pin sheet at the front of the buffer. The answer is their length in bytes.
-#[unsafe(no_mangle)]
-pub extern "C" fn esa_sheet_text(sheet: &[u16; 25], settings: u64, out: &mut [u8; 275]) -> usize
+pub fn esa_sheet_text(sheet: &[u16; 25], settings: u64, out: &mut [u8; 275]) -> usize
     ensures { Put out.old 0 (text_of (chip_of settings) sheet.now) result out.new }
 {
     pinlines::text(sheet, out, chip_of(settings))
@@ -423,8 +378,7 @@ pub extern "C" fn esa_sheet_text(sheet: &[u16; 25], settings: u64, out: &mut [u8
 
 // What differs between two tables, by the archive's rules, at the front of the buffer. Beside 0 stands the length of the text; beside a
 // refusal its place, and in bits 31-24 which table is refused, 1 or 2.
-#[unsafe(no_mangle)]
-pub extern "C" fn esa_diff(one: &[u8], two: &[u8], settings: u64, out: &mut [u8; 65536]) -> u64
+pub fn esa_diff(one: &[u8], two: &[u8], settings: u64, out: &mut [u8; 65536]) -> u64
     ensures { DiffFor (chip_of settings) one.now two.now out.old result out.new }
 {
     packing::outcome(comparing::compare(one, two, out, chip_of(settings)))
