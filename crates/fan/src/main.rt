@@ -5,64 +5,68 @@
 
 use fans::{Visit, Zoned};
 use format::settings::Settings;
-use libc::{STDERR_FILENO, STDIN_FILENO, STDOUT_FILENO};
 use options::Options;
 use options::numerals::MaybeNumber;
-use sending::put;
+use sending::{read_input, refuse};
+use std::io;
+use std::rt::Env;
 
-fn misuse() {
-    io::write_all(
-        STDERR_FILENO,
-        b"Behind the options stands the number of a zone, 0 to 255, and nothing else.\n",
-    );
+fn misuse(rt: &impl Eprint) -> io::Result<()> {
+    eprintln!(rt; "Behind the options stands the number of a zone, 0 to 255, and nothing else.")
 }
 
-fn show(v: Visit) {
+fn show(rt: &impl Print, v: Visit) -> io::Result<()> {
+    let count = v.count;
     if v.hit {
-        put(b"yes\t");
+        println!(rt; "yes\t{count}")
     } else {
-        put(b"no\t");
+        println!(rt; "no\t{count}")
     }
-    io::print_decimal(STDOUT_FILENO, v.count as u64);
-    put(b"\n");
 }
 
 // 4,097 bytes of input are enough: a longer table is refused by the first of them (2) or by its length (3).
-fn answer(zone: u8, settings: Settings) {
+fn answer(rt: &(impl Input + Print), zone: u8, settings: Settings) -> io::Result<()> {
     let mut input = [0u8; 4097];
-    let n = io::read_full(STDIN_FILENO, &mut input);
+    let n = read_input(rt, &mut input)?;
     match fans::in_zone(&input[..n], zone, settings) {
-        Zoned::Seen(v) => show(v),
-        Zoned::Refused(number, place) => sending::refuse(number, place),
+        Zoned::Seen(v) => show(rt, v),
+        Zoned::Refused(number, place) => refuse(rt, number, place),
     }
 }
 
 // The word is the number of the zone.
-fn read_zone(word: &[u8], settings: Settings) {
+fn read_zone(
+    rt: &(impl Input + Print + Eprint),
+    word: &[u8],
+    settings: Settings,
+) -> io::Result<()> {
     match options::numerals::below(word, 256) {
-        MaybeNumber::Number(zone) => answer(zone as u8, settings),
-        MaybeNumber::Nothing => misuse(),
+        MaybeNumber::Number(zone) => answer(rt, zone as u8, settings),
+        MaybeNumber::Nothing => misuse(rt),
     }
 }
 
 // The one word behind the options.
-fn ask(settings: Settings, first: usize, count: usize) {
+fn ask(
+    rt: &(impl Env + Input + Print + Eprint),
+    settings: Settings,
+    first: usize,
+    count: usize,
+) -> io::Result<()> {
     if first >= count {
-        misuse();
-        return;
+        return misuse(rt);
     }
     if count - first > 1 {
-        misuse();
-        return;
+        return misuse(rt);
     }
-    let mut word = io::buffer();
-    let length = os::arg(first, &mut word);
-    read_zone(&word[..length], settings);
+    let mut word = [0u8; 4096];
+    let length = options::read_word(rt, first, &mut word);
+    read_zone(rt, &word[..length], settings)
 }
 
-fn main() {
-    match options::ordinary(options::read()) {
-        Options::Chosen(settings, first) => ask(settings, first, os::arg_count()),
-        Options::Misused(m) => options::complain(m),
+fn main(rt: HostRuntime) -> io::Result<()> {
+    match options::ordinary(options::read(&rt)) {
+        Options::Chosen(settings, first) => ask(&rt, settings, first, options::count_words(&rt)),
+        Options::Misused(m) => options::complain(&rt, m),
     }
 }

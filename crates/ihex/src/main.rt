@@ -4,30 +4,31 @@
 
 use format::answers::Written;
 use format::settings::Settings;
-use libc::STDIN_FILENO;
 use options::Options;
+use sending::{read_input, refuse, send};
+use std::io;
 
-fn answer(written: Written, out: &[u8]) {
+fn answer(rt: &impl Print, written: Written, out: &[u8]) -> io::Result<()> {
     match written {
-        Written::Length(n) => sending::send(n, out),
-        Written::Refused(k, p) => sending::refuse(k, p),
+        Written::Length(n) => send(rt, n, out),
+        Written::Refused(k, p) => refuse(rt, k, p),
     }
 }
 
 // 4,097 bytes of input are enough: a longer table is refused by the first of them (2) or by its length (3). The text of 4,096 bytes is 256
 // lines of 44 characters and the end record.
-fn hex(settings: Settings) {
+fn hex(rt: &(impl Input + Print), settings: Settings) -> io::Result<()> {
     let chip = settings.chip;
     let mut input = [0u8; 4097];
-    let n = io::read_full(STDIN_FILENO, &mut input);
+    let n = read_input(rt, &mut input)?;
     let mut out = [0u8; 11276];
     let written = tohex::to_hex(&input[..n], &mut out, chip);
-    answer(written, &out);
+    answer(rt, written, &out)
 }
 
-fn main() {
-    match options::ordinary(options::read_alone()) {
-        Options::Chosen(settings, _) => hex(settings),
-        Options::Misused(m) => options::complain(m),
+fn main(rt: HostRuntime) -> io::Result<()> {
+    match options::ordinary(options::read_alone(&rt)) {
+        Options::Chosen(settings, _) => hex(&rt, settings),
+        Options::Misused(m) => options::complain(&rt, m),
     }
 }

@@ -7,8 +7,8 @@
 use format::answers::Answer;
 use format::pins::Chip;
 use format::settings::{Rules, Settings};
-use libc::STDOUT_FILENO;
 use sending::send;
+use std::io;
 
 // Of a digit from 0 to 15; no other is asked for.
 fn digit(d: u8) -> u8 {
@@ -19,22 +19,19 @@ fn digit(d: u8) -> u8 {
     }
 }
 
-fn print_byte(b: u8) {
-    io::write_all(STDOUT_FILENO, &[digit(b / 16), digit(b % 16)]);
+fn print_byte(rt: &impl Print, b: u8) -> io::Result<()> {
+    rt.write_all(&[digit(b / 16), digit(b % 16)])
 }
 
-fn print_table(table: &[u8]) {
-    for i in 0..table.len() {
-        print_byte(table[i]);
+fn print_table(rt: &impl Print, table: &[u8]) -> io::Result<()> {
+    for b in table {
+        print_byte(rt, *b)?;
     }
+    Ok(())
 }
 
-fn print_answer(number: u8, beside: usize) {
-    io::write_all(STDOUT_FILENO, &[b'\t']);
-    io::print_decimal(STDOUT_FILENO, number as u64);
-    io::write_all(STDOUT_FILENO, &[b'\t']);
-    io::print_decimal(STDOUT_FILENO, beside as u64);
-    io::write_all(STDOUT_FILENO, &[b'\n']);
+fn print_answer(rt: &impl Print, number: u8, beside: usize) -> io::Result<()> {
+    println!(rt; "\t{number}\t{beside}")
 }
 
 // The known tables are those of the 320.
@@ -45,39 +42,42 @@ fn larger() -> Settings {
     }
 }
 
-fn row(table: &[u8]) {
-    print_table(table);
+fn row(rt: &impl Print, table: &[u8]) -> io::Result<()> {
+    print_table(rt, table)?;
     match reader::check(table, larger()) {
-        Answer::Accepted(n) => print_answer(0, n),
-        Answer::Refused(k, p) => print_answer(k, p),
+        Answer::Accepted(n) => print_answer(rt, 0, n),
+        Answer::Refused(k, p) => print_answer(rt, k, p),
     }
 }
 
-fn row_and_listing(table: &[u8]) {
-    row(table);
-    let mut out = io::buffer();
+fn row_and_listing(rt: &impl Print, table: &[u8]) -> io::Result<()> {
+    row(rt, table)?;
+    let mut out = [0u8; 4096];
     let length = listing::list(table, &mut out, larger());
-    send(length, &out);
+    send(rt, length, &out)
 }
 
-fn main() {
+fn main(rt: HostRuntime) -> io::Result<()> {
     // A, F, zone 1
     row_and_listing(
+        &rt,
         b"\x01\x3E\x00\x02\x00\x07\x00\x00\x80\xFF\xFF\xFF\x00\x00\x00\x00\
         \x03\x10\x00\x00\xFF\xFF\xFF\x01\x05\x06\x02\x2C\x01\xDC\x05\x40\
         \x0B\x1E\x00\x01\x00\x00\0\0\0\0\0\0\0\0\0\0\0\0\0\0\0\0\0\0\0\0\0\0\0\0",
-    );
+    )?;
     // A, F, F, zone 1
     row(
+        &rt,
         b"\x01\x4E\x00\x02\x00\x07\x00\x00\x80\xFF\xFF\xFF\x00\x00\x00\x00\
         \x03\x10\x00\x00\xFF\xFF\xFF\x01\x05\x06\x02\x2C\x01\xDC\x05\x40\
         \x03\x10\x00\x00\xFF\xFF\xFF\x01\x05\x06\x02\x2C\x01\xDC\x05\x40\
         \x0B\x1E\x00\x01\x00\x00\0\0\0\0\0\0\0\0\0\0\0\0\0\0\0\0\0\0\0\0\0\0\0\0",
-    );
+    )?;
     // A, F, F
     row(
+        &rt,
         b"\x01\x30\x00\x02\x00\x07\x00\x00\x80\xFF\xFF\xFF\x00\x00\x00\x00\
         \x03\x10\x00\x00\xFF\xFF\xFF\x01\x05\x06\x02\x2C\x01\xDC\x05\x40\
         \x03\x10\x00\x00\xFF\xFF\xFF\x01\x05\x06\x02\x2C\x01\xDC\x05\x40",
-    );
+    )
 }

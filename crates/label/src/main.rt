@@ -6,68 +6,76 @@
 
 use format::settings::Settings;
 use labels::Source;
-use libc::{STDERR_FILENO, STDIN_FILENO};
 use options::Options;
 use options::numerals::MaybeNumber;
-use sending::put;
+use sending::{put, read_input, refuse};
+use std::env::FillError;
+use std::io;
+use std::rt::Env;
 
-fn misuse() {
-    io::write_all(
-        STDERR_FILENO,
-        b"Behind the options stand the number of an element, of 1 to 9 digits, and a name of at most 65,536 bytes or none.\n",
-    );
+fn misuse(rt: &impl Eprint) -> io::Result<()> {
+    eprintln!(rt;
+        "Behind the options stand the number of an element, of 1 to 9 digits, and a name of at most 65,536 bytes or none."
+    )
 }
 
 // From where the label comes, or the refusal.
-fn put_source(source: Source) {
+fn put_source(rt: &impl Print, source: Source) -> io::Result<()> {
     match source {
-        Source::Text(_, _) => put(b"text\n"),
-        Source::Lent => put(b"name\n"),
-        Source::Refused(number, place) => sending::refuse(number, place),
+        Source::Text(_, _) => put(rt, b"text\n"),
+        Source::Lent => put(rt, b"name\n"),
+        Source::Refused(number, place) => refuse(rt, number, place),
     }
 }
 
 // 4,097 bytes of input are enough: a longer table is refused by the first of them (2) or by its length (3). With a refusal the label
 // is empty.
-fn show(k: usize, name: &[u8], settings: Settings) {
+fn show(rt: &(impl Input + Print), k: usize, name: &[u8], settings: Settings) -> io::Result<()> {
     let mut input = [0u8; 4097];
-    let n = io::read_full(STDIN_FILENO, &mut input);
-    put_source(labels::find(&input[..n], k, settings));
-    put(labels::label(&input[..n], k, name, settings));
+    let n = read_input(rt, &mut input)?;
+    put_source(rt, labels::find(&input[..n], k, settings))?;
+    put(rt, labels::label(&input[..n], k, name, settings))
 }
 
-// The word that is no more than the buffer holds, with its length there; a longer one is told by errno.
-fn name(k: usize, word: usize, settings: Settings) {
-    let mut name = io::large_buffer();
-    let length = os::arg(word, &mut name);
-    if os::errno() == libc::ENAMETOOLONG {
-        misuse();
-        return;
+// The word that is no more than the buffer holds, or an empty one where there is none.
+fn name(
+    rt: &(impl Env + Input + Print + Eprint),
+    k: usize,
+    word: usize,
+    settings: Settings,
+) -> io::Result<()> {
+    let mut name = [0u8; 65536];
+    match rt.arg(word, &mut name) {
+        Ok(length) => show(rt, k, &name[..length], settings),
+        Err(FillError::NotPresent) => show(rt, k, b"", settings),
+        Err(FillError::TooLong) => misuse(rt),
     }
-    show(k, &name[..length], settings);
 }
 
 // The words behind the options.
-fn ask(settings: Settings, first: usize, count: usize) {
+fn ask(
+    rt: &(impl Env + Input + Print + Eprint),
+    settings: Settings,
+    first: usize,
+    count: usize,
+) -> io::Result<()> {
     if first >= count {
-        misuse();
-        return;
+        return misuse(rt);
     }
     if count - first > 2 {
-        misuse();
-        return;
+        return misuse(rt);
     }
-    let mut word = io::buffer();
-    let length = os::arg(first, &mut word);
+    let mut word = [0u8; 4096];
+    let length = options::read_word(rt, first, &mut word);
     match options::numerals::below(&word[..length], 1000000000) {
-        MaybeNumber::Number(k) => name(k, first + 1, settings),
-        MaybeNumber::Nothing => misuse(),
+        MaybeNumber::Number(k) => name(rt, k, first + 1, settings),
+        MaybeNumber::Nothing => misuse(rt),
     }
 }
 
-fn main() {
-    match options::ordinary(options::read()) {
-        Options::Chosen(settings, first) => ask(settings, first, os::arg_count()),
-        Options::Misused(m) => options::complain(m),
+fn main(rt: HostRuntime) -> io::Result<()> {
+    match options::ordinary(options::read(&rt)) {
+        Options::Chosen(settings, first) => ask(&rt, settings, first, options::count_words(&rt)),
+        Options::Misused(m) => options::complain(&rt, m),
     }
 }

@@ -3,23 +3,23 @@
 #![tactic(auto)]
 
 use format::settings::Settings;
-use libc::STDIN_FILENO;
 use options::Options;
-use sending::send;
+use sending::{read_input, send};
+use std::io;
 
 // 4,097 bytes of input are enough: a longer table is refused by the first of them (2) or by its length (3). Nothing is printed
 // before the whole text stands in the buffer.
-fn list(settings: Settings) {
+fn list(rt: &(impl Input + Print), settings: Settings) -> io::Result<()> {
     let mut input = [0u8; 4097];
-    let n = io::read_full(STDIN_FILENO, &mut input);
-    let mut out = io::buffer();
+    let n = read_input(rt, &mut input)?;
+    let mut out = [0u8; 4096];
     let length = listing::list(&input[..n], &mut out, settings);
-    send(length, &out);
+    send(rt, length, &out)
 }
 
-fn main() {
-    match options::read_alone() {
-        Options::Chosen(settings, _) => list(settings),
-        Options::Misused(m) => options::complain(m),
+fn main(rt: HostRuntime) -> io::Result<()> {
+    match options::read_alone(&rt) {
+        Options::Chosen(settings, _) => list(&rt, settings),
+        Options::Misused(m) => options::complain(&rt, m),
     }
 }

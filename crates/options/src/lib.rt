@@ -3,12 +3,15 @@
 // from is the system's affair.
 #![tactic(auto)]
 
-ghost use Rattle.std.specs.Prelude.{◌≡◌};
+ghost use Rattle.std.specs.Prelude.{◌≡◌, ◌≤◌, length};
 ghost use Rattle.options.specs.Steps.{wanted, archived_of, option_of, number_of, step_of, last_of, settings_of, ordinary_of};
 
 use format::pins::Chip;
 use format::settings::{Rules, Settings};
-use libc::STDERR_FILENO;
+use std::env::FillError;
+use std::fs::File;
+use std::io;
+use std::rt::{Env, Files};
 
 pub mod numerals;
 mod words;
@@ -180,22 +183,52 @@ pub fn ordinary(o: Options) -> Options
     }
 }
 
-fn step_at(s: State, i: usize) -> State {
-    let mut word = io::buffer();
-    let length = os::arg(i, &mut word);
-    step(s, &word[..length])
+// The bytes of word i at the start of the buffer, and how many: none where the buffer holds no such word whole.
+pub fn read_word(rt: &impl Env, i: usize, buffer: &mut [u8]) -> usize
+    ensures { result ≤ length buffer.new }
+{
+    match rt.arg(i, buffer) {
+        Ok(n) => n,
+        Err(_) => 0,
+    }
+}
+
+// How many words there are, the program's name among them. No program has 2^64 - 1.
+pub fn count_words(rt: &impl Env) -> usize {
+    let mut first = [0u8; 1];
+    for i in 0..usize::MAX {
+        if let Err(FillError::NotPresent) = rt.arg(i, &mut first) {
+            return i;
+        }
+    }
+    usize::MAX
+}
+
+// The file that word i names. A path is text here: a word that is no UTF-8 names no file.
+pub fn open_file<R: Env + Files>(rt: &R, i: usize) -> io::Result<R::File> {
+    let mut path = [0u8; 4096];
+    let length = read_word(rt, i, &mut path);
+    match str::from_utf8(&path[..length]) {
+        Ok(name) => File::open(rt, name),
+        Err(_) => Err(io::Error::from(io::ErrorKind::InvalidFilename)),
+    }
+}
+
+fn step_at(rt: &impl Env, s: State, i: usize) -> State {
+    let mut buffer = [0u8; 4096];
+    let length = read_word(rt, i, &mut buffer);
+    step(s, &buffer[..length])
 }
 
 // The program's options.
-pub fn read() -> Options {
-    let n = os::arg_count();
+pub fn read(rt: &impl Env) -> Options {
+    let n = count_words(rt);
     let mut state = State::Open(Choice {
         chip: NamedChip::Unnamed,
         rules: Rules::Ordinary,
     });
-    let mut i: usize = 1;
-    while i < n {
-        state = step_at(state, i);
+    for i in 1..n {
+        state = step_at(rt, state, i);
         match state {
             State::Open(_) => {}
             State::Wants(_) => {}
@@ -203,16 +236,15 @@ pub fn read() -> Options {
             State::Others(_) => return last(state, i),
             State::Misused(_) => return last(state, i),
         }
-        i += 1;
     }
-    last(state, i)
+    last(state, n.max(1))
 }
 
 // The same for a program that takes no other word.
-pub fn read_alone() -> Options {
-    match read() {
+pub fn read_alone(rt: &impl Env) -> Options {
+    match read(rt) {
         Options::Chosen(s, first) => {
-            if first < os::arg_count() {
+            if first < count_words(rt) {
                 return Options::Misused(Misuse::Extra);
             }
             Options::Chosen(s, first)
@@ -221,28 +253,25 @@ pub fn read_alone() -> Options {
     }
 }
 
-fn say(sentence: &[u8]) {
-    io::write_all(STDERR_FILENO, sentence);
+// The sentence of a misuse.
+fn sentence(m: Misuse) -> &'static str {
+    match m {
+        Misuse::Unknown => {
+            "A word is no option: there are --chip 320, --chip 321 and --archive, and -- ends the options.\n"
+        }
+        Misuse::NoChip => "Behind --chip stands 320 or 321.\n",
+        Misuse::ChipTwice => "The option --chip stands more than once.\n",
+        Misuse::ArchiveTwice => "The option --archive stands more than once.\n",
+        Misuse::NoArchive => {
+            "The option --archive is not taken here: this program has one set of rules.\n"
+        }
+        Misuse::Extra => {
+            "A word stands behind the options, and none is taken: the table comes on standard input.\n"
+        }
+    }
 }
 
 // The sentence of a misuse, to standard error.
-pub fn complain(m: Misuse) {
-    match m {
-        Misuse::Unknown => {
-            say(
-                b"A word is no option: there are --chip 320, --chip 321 and --archive, and -- ends the options.\n",
-            )
-        }
-        Misuse::NoChip => say(b"Behind --chip stands 320 or 321.\n"),
-        Misuse::ChipTwice => say(b"The option --chip stands more than once.\n"),
-        Misuse::ArchiveTwice => say(b"The option --archive stands more than once.\n"),
-        Misuse::NoArchive => {
-            say(b"The option --archive is not taken here: this program has one set of rules.\n")
-        }
-        Misuse::Extra => {
-            say(
-                b"A word stands behind the options, and none is taken: the table comes on standard input.\n",
-            )
-        }
-    }
+pub fn complain(rt: &impl Eprint, m: Misuse) -> io::Result<()> {
+    rt.eprint(sentence(m))
 }

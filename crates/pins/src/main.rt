@@ -5,32 +5,32 @@
 
 use format::answers::Answer;
 use format::settings::Settings;
-use libc::STDIN_FILENO;
 use options::Options;
-use sending::{refuse, send};
+use sending::{read_input, refuse, send};
+use std::io;
 
 // The lines are put into a buffer of their own, which `send` then hands on.
-fn show(sheet: &[u16; 25], settings: Settings) {
+fn show(rt: &impl Print, sheet: &[u16; 25], settings: Settings) -> io::Result<()> {
     let mut out = [0u8; 275];
     let chip = settings.chip;
     let length = pinlines::text(sheet, &mut out, chip);
-    send(length, &out);
+    send(rt, length, &out)
 }
 
 // 4,097 bytes of input are enough: a longer table is refused by the first of them (2) or by its length (3).
-fn pins(settings: Settings) {
+fn pins(rt: &(impl Input + Print), settings: Settings) -> io::Result<()> {
     let mut input = [0u8; 4097];
-    let n = io::read_full(STDIN_FILENO, &mut input);
+    let n = read_input(rt, &mut input)?;
     let mut sheet = [65535u16; 25];
     match sheets::make(&input[..n], &mut sheet, settings) {
-        Answer::Accepted(_) => show(&sheet, settings),
-        Answer::Refused(number, place) => refuse(number, place),
+        Answer::Accepted(_) => show(rt, &sheet, settings),
+        Answer::Refused(number, place) => refuse(rt, number, place),
     }
 }
 
-fn main() {
-    match options::ordinary(options::read_alone()) {
-        Options::Chosen(settings, _) => pins(settings),
-        Options::Misused(m) => options::complain(m),
+fn main(rt: HostRuntime) -> io::Result<()> {
+    match options::ordinary(options::read_alone(&rt)) {
+        Options::Chosen(settings, _) => pins(&rt, settings),
+        Options::Misused(m) => options::complain(&rt, m),
     }
 }

@@ -5,55 +5,58 @@
 use format::answers::Written;
 use format::pins::Chip;
 use format::settings::Settings;
-use libc::{STDERR_FILENO, STDIN_FILENO};
 use options::Options;
 use options::numerals::MaybeNumber;
-use sending::send;
+use sending::{read_input, refuse, send};
+use std::io;
+use std::rt::Env;
 
-fn misuse() {
-    io::write_all(
-        STDERR_FILENO,
-        b"Behind the options stands the number of an element, counted from 0, and nothing else.\n",
-    );
+fn misuse(rt: &impl Eprint) -> io::Result<()> {
+    eprintln!(rt;
+        "Behind the options stands the number of an element, counted from 0, and nothing else."
+    )
 }
 
 // The table without element k, or the refusal.
-fn take_out(table: &mut [u8], k: usize, chip: Chip) {
+fn take_out(rt: &impl Print, table: &mut [u8], k: usize, chip: Chip) -> io::Result<()> {
     match removing::remove(table, k, chip) {
-        Written::Length(n) => send(n, table),
-        Written::Refused(number, place) => sending::refuse(number, place),
+        Written::Length(n) => send(rt, n, table),
+        Written::Refused(number, place) => refuse(rt, number, place),
     }
 }
 
 // 4,097 bytes of input are enough: a longer table is refused by the first of them (2) or by its length (3).
-fn answer(k: usize, settings: Settings) {
+fn answer(rt: &(impl Input + Print), k: usize, settings: Settings) -> io::Result<()> {
     let chip = settings.chip;
     let mut input = [0u8; 4097];
-    let n = io::read_full(STDIN_FILENO, &mut input);
-    take_out(&mut input[..n], k, chip);
+    let n = read_input(rt, &mut input)?;
+    take_out(rt, &mut input[..n], k, chip)
 }
 
 // The one word behind the options.
-fn ask(settings: Settings, first: usize, count: usize) {
+fn ask(
+    rt: &(impl Env + Input + Print + Eprint),
+    settings: Settings,
+    first: usize,
+    count: usize,
+) -> io::Result<()> {
     if first >= count {
-        misuse();
-        return;
+        return misuse(rt);
     }
     if count - first > 1 {
-        misuse();
-        return;
+        return misuse(rt);
     }
-    let mut word = io::buffer();
-    let length = os::arg(first, &mut word);
+    let mut word = [0u8; 4096];
+    let length = options::read_word(rt, first, &mut word);
     match options::numerals::below(&word[..length], 1000000000) {
-        MaybeNumber::Number(k) => answer(k, settings),
-        MaybeNumber::Nothing => misuse(),
+        MaybeNumber::Number(k) => answer(rt, k, settings),
+        MaybeNumber::Nothing => misuse(rt),
     }
 }
 
-fn main() {
-    match options::ordinary(options::read()) {
-        Options::Chosen(settings, first) => ask(settings, first, os::arg_count()),
-        Options::Misused(m) => options::complain(m),
+fn main(rt: HostRuntime) -> io::Result<()> {
+    match options::ordinary(options::read(&rt)) {
+        Options::Chosen(settings, first) => ask(&rt, settings, first, options::count_words(&rt)),
+        Options::Misused(m) => options::complain(&rt, m),
     }
 }

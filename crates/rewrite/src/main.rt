@@ -4,40 +4,36 @@
 
 use format::answers::Written;
 use format::settings::Settings;
-use libc::{STDIN_FILENO, STDOUT_FILENO};
 use options::Options;
-use sending::send;
+use sending::{read_input, send};
+use std::io;
 
 // R, number, place.
-fn refuse(number: u8, place: usize) {
-    io::write_all(STDOUT_FILENO, &[b'R', b'\t']);
-    io::print_decimal(STDOUT_FILENO, number as u64);
-    io::write_all(STDOUT_FILENO, &[b'\t']);
-    io::print_decimal(STDOUT_FILENO, place as u64);
-    io::write_all(STDOUT_FILENO, &[b'\n']);
+fn refuse(rt: &impl Print, number: u8, place: usize) -> io::Result<()> {
+    println!(rt; "R\t{number}\t{place}")
 }
 
 // The table written again, or the refusal.
-fn answer(written: Written, out: &[u8]) {
+fn answer(rt: &impl Print, written: Written, out: &[u8]) -> io::Result<()> {
     match written {
-        Written::Length(n) => send(n, out),
-        Written::Refused(k, p) => refuse(k, p),
+        Written::Length(n) => send(rt, n, out),
+        Written::Refused(k, p) => refuse(rt, k, p),
     }
 }
 
 // 4,097 bytes of input are enough: a longer table is refused by the first of them (2) or by its length (3).
-fn rewrite(settings: Settings) {
+fn rewrite(rt: &(impl Input + Print), settings: Settings) -> io::Result<()> {
     let chip = settings.chip;
     let mut input = [0u8; 4097];
-    let n = io::read_full(STDIN_FILENO, &mut input);
-    let mut out = io::buffer();
+    let n = read_input(rt, &mut input)?;
+    let mut out = [0u8; 4096];
     let written = rewriting::rewrite(&input[..n], &mut out, chip);
-    answer(written, &out);
+    answer(rt, written, &out)
 }
 
-fn main() {
-    match options::ordinary(options::read_alone()) {
-        Options::Chosen(settings, _) => rewrite(settings),
-        Options::Misused(m) => options::complain(m),
+fn main(rt: HostRuntime) -> io::Result<()> {
+    match options::ordinary(options::read_alone(&rt)) {
+        Options::Chosen(settings, _) => rewrite(&rt, settings),
+        Options::Misused(m) => options::complain(&rt, m),
     }
 }

@@ -4,43 +4,50 @@
 #![tactic(auto)]
 
 use format::settings::Settings;
-use libc::{STDERR_FILENO, STDIN_FILENO};
 use options::Options;
 use saving::Salvaged;
-use sending::{refuse, send};
+use sending::{put, read_input, refuse, send};
+use std::io;
 
 // The first n bytes of the text. None is longer than 32,768 bytes.
-fn tell(n: usize, lines: &[u8]) {
+fn tell(errors: &impl Print, n: usize, lines: &[u8]) -> io::Result<()> {
     if n <= 32768 {
-        let count = io::count(n as isize, lines);
-        io::write_all(STDERR_FILENO, &lines[..count]);
+        let count = n.min(lines.len());
+        put(errors, &lines[..count])?;
     }
+    Ok(())
 }
 
 // The new table and its lines, or the refusal.
-fn answer(salvaged: Salvaged, out: &[u8], lines: &[u8; 32768]) {
+fn answer(
+    rt: &impl Print,
+    errors: &impl Print,
+    salvaged: Salvaged,
+    out: &[u8],
+    lines: &[u8; 32768],
+) -> io::Result<()> {
     match salvaged {
         Salvaged::Done(n, m) => {
-            send(n, out);
-            tell(m, lines);
+            send(rt, n, out)?;
+            tell(errors, m, lines)
         }
-        Salvaged::Refused(k, p) => refuse(k, p),
+        Salvaged::Refused(k, p) => refuse(rt, k, p),
     }
 }
 
-fn salvage(settings: Settings) {
+fn salvage(rt: &(impl Input + Print), errors: &impl Print, settings: Settings) -> io::Result<()> {
     let chip = settings.chip;
     let mut input = [0u8; 4096];
-    let n = io::read_full(STDIN_FILENO, &mut input);
-    let mut out = io::buffer();
+    let n = read_input(rt, &mut input)?;
+    let mut out = [0u8; 4096];
     let mut lines = [0u8; 32768];
     let salvaged = salvaging::salvage(&input[..n], &mut out, &mut lines, chip);
-    answer(salvaged, &out, &lines);
+    answer(rt, errors, salvaged, &out, &lines)
 }
 
-fn main() {
-    match options::ordinary(options::read_alone()) {
-        Options::Chosen(settings, _) => salvage(settings),
-        Options::Misused(m) => options::complain(m),
+fn main(rt: HostRuntime) -> io::Result<()> {
+    match options::ordinary(options::read_alone(&rt)) {
+        Options::Chosen(settings, _) => salvage(&rt, &rt.stderr(), settings),
+        Options::Misused(m) => options::complain(&rt, m),
     }
 }

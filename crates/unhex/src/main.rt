@@ -4,35 +4,40 @@
 
 use format::answers::Written;
 use format::settings::Settings;
-use libc::STDIN_FILENO;
 use options::Options;
+use sending::{read_input, refuse, send};
+use std::io;
 
-fn answer(written: Written, out: &[u8]) {
+fn answer(rt: &impl Print, written: Written, out: &[u8]) -> io::Result<()> {
     match written {
-        Written::Length(n) => sending::send(n, out),
-        Written::Refused(k, p) => sending::refuse(k, p),
+        Written::Length(n) => send(rt, n, out),
+        Written::Refused(k, p) => refuse(rt, k, p),
     }
 }
 
 // No table is longer than 4,096 bytes.
-fn unhex(input: &mut [u8], settings: Settings) {
+fn unhex(rt: &(impl Input + Print), input: &mut [u8], settings: Settings) -> io::Result<()> {
     let chip = settings.chip;
-    let n = io::read_full(STDIN_FILENO, input);
-    let mut out = io::buffer();
+    let n = read_input(rt, input)?;
+    let mut out = [0u8; 4096];
     let written = fromhex::from_hex(&input[..n], &mut out, chip);
-    answer(written, &out);
+    answer(rt, written, &out)
 }
 
 // 918,025 characters of input are enough: what a text means by so many it means with any more behind them (`first-decide`, in
 // fromhex proofs/Enough). They are lent as an array, whose length is its type: nothing has to count them.
-fn within(input: &mut [u8; 918025], settings: Settings) {
-    unhex(input, settings)
+fn within(
+    rt: &(impl Input + Print),
+    input: &mut [u8; 918025],
+    settings: Settings,
+) -> io::Result<()> {
+    unhex(rt, input, settings)
 }
 
-fn main() {
+fn main(rt: HostRuntime) -> io::Result<()> {
     let mut input = [0u8; 918025];
-    match options::ordinary(options::read_alone()) {
-        Options::Chosen(settings, _) => within(&mut input, settings),
-        Options::Misused(m) => options::complain(m),
+    match options::ordinary(options::read_alone(&rt)) {
+        Options::Chosen(settings, _) => within(&rt, &mut input, settings),
+        Options::Misused(m) => options::complain(&rt, m),
     }
 }

@@ -3,24 +3,26 @@
 // --chip names the chip, and --archive has the archive's rules.
 #![tactic(auto)]
 
-ghost use Rattle.std.specs.Prelude.{◌<◌, ◌≤◌, length};
-ghost use Rattle.io.specs.Counts.{IsPrefixLen};
+ghost use Rattle.std.specs.Prelude.{◌≡◌, ◌<◌, ◌≤◌, length, take};
 
 use format::answers::Answer;
 use format::settings::Settings;
-use libc::STDOUT_FILENO;
 use options::Options;
+use sending::read_full;
+use std::io;
+use std::io::Read;
+use std::rt::{Env, Files};
 
-fn tab() {
-    io::write_all(STDOUT_FILENO, &[b'\t']);
+fn tab(rt: &impl Print) -> io::Result<()> {
+    rt.write_all(b"\t")
 }
 
-fn number(n: u64) {
-    io::print_decimal(STDOUT_FILENO, n);
+fn number(rt: &impl Print, n: u64) -> io::Result<()> {
+    rt.print(n)
 }
 
-fn end() {
-    io::write_all(STDOUT_FILENO, &[b'\n']);
+fn end(rt: &impl Print) -> io::Result<()> {
+    rt.write_all(b"\n")
 }
 
 fn glyph(d: u8) -> u8
@@ -46,7 +48,8 @@ fn digit(b: u8, place: usize) -> u8 {
 
 // Puts two hex digits a byte at the start of out, and answers how many digits: of 4,097 bytes at most, and as many as fit.
 fn spell(table: &[u8], out: &mut [u8]) -> usize
-    ensures { IsPrefixLen result out.new }
+    ensures in_bounds { result ≤ length out.new }
+    ensures prefix { result ≡ length (take result out.new) }
 {
     let n = 2 * least(least(table.len(), out.len() / 2), 4097);
     let mut i: usize = 0;
@@ -54,89 +57,91 @@ fn spell(table: &[u8], out: &mut [u8]) -> usize
         out[i] = digit(table[i / 2], i);
         i += 1;
     }
-    io::count(n as isize, out)
+    n
 }
 
 // The table's bytes in hex.
-fn bytes(table: &[u8]) {
-    let mut text = io::large_buffer();
+fn bytes(rt: &impl Print, table: &[u8]) -> io::Result<()> {
+    let mut text = [0u8; 65536];
     let n = spell(table, &mut text);
-    io::write_all(STDOUT_FILENO, &text[..n]);
+    rt.write_all(&text[..n])
 }
 
-fn accepted(n: usize) {
-    io::write_all(STDOUT_FILENO, &[b'o', b'k', b'\t']);
-    number(n as u64);
+fn accepted(rt: &impl Print, n: usize) -> io::Result<()> {
+    rt.write_all(b"ok\t")?;
+    number(rt, n as u64)
 }
 
-fn refused(k: u8, place: usize, table: &[u8]) {
-    io::write_all(STDOUT_FILENO, &[b'R', b'\t']);
-    number(k as u64);
-    tab();
-    number(place as u64);
-    tab();
-    number(table.len() as u64);
-    tab();
-    bytes(table);
+fn refused(rt: &impl Print, k: u8, place: usize, table: &[u8]) -> io::Result<()> {
+    rt.write_all(b"R\t")?;
+    number(rt, k as u64)?;
+    tab(rt)?;
+    number(rt, place as u64)?;
+    tab(rt)?;
+    number(rt, table.len() as u64)?;
+    tab(rt)?;
+    bytes(rt, table)
 }
 
-fn verdict(table: &[u8], settings: Settings) {
+fn verdict(rt: &impl Print, table: &[u8], settings: Settings) -> io::Result<()> {
     let answer = reader::check(table, settings);
     match answer {
-        Answer::Accepted(n) => accepted(n),
-        Answer::Refused(k, p) => refused(k, p, table),
+        Answer::Accepted(n) => accepted(rt, n),
+        Answer::Refused(k, p) => refused(rt, k, p, table),
     }
 }
 
-fn unreadable() {
-    io::write_all(STDOUT_FILENO, &[b'X']);
+fn unreadable(rt: &impl Print) -> io::Result<()> {
+    rt.write_all(b"X")
 }
 
 // 4,097 bytes are enough: a longer table is refused by the first of them (2) or by its length (3). One more read tells an end
-// of the file from a read that failed, as of a folder.
-fn read(fd: i32, settings: Settings) {
-    let mut table = [0u8; 4097];
-    let n = io::read_full(fd, &mut table);
+// of the file from a read that failed, as of a folder: 4,098.
+fn filled<F: Read>(file: &mut F, table: &mut [u8; 4097]) -> usize {
+    let Ok(n) = read_full(file, table) else {
+        return 4098;
+    };
     let mut more = [0u8; 1];
-    let got = libc::read(fd, &mut more);
-    if got < 0 {
-        unreadable();
-    } else if (got > 0) & (n < 4097) {
-        unreadable();
-    } else {
-        verdict(&table[..n], settings);
+    let Ok(got) = file.read(&mut more) else {
+        return 4098;
+    };
+    if (got > 0) & (n < 4097) {
+        return 4098;
     }
+    n
+}
+
+fn read<F: Read>(rt: &impl Print, file: &mut F, settings: Settings) -> io::Result<()> {
+    let mut table = [0u8; 4097];
+    let n = filled(file, &mut table);
+    if n > 4097 {
+        return unreadable(rt);
+    }
+    verdict(rt, &table[..n], settings)
 }
 
 // The file that word i names.
-fn file(i: usize, settings: Settings) {
-    let mut path = io::buffer();
-    let length = os::arg(i, &mut path);
-    let fd = os::open_read(&path[..length]);
-    if fd < 0 {
-        unreadable();
-        return;
+fn file(rt: &(impl Env + Files + Print), i: usize, settings: Settings) -> io::Result<()> {
+    match options::open_file(rt, i) {
+        Ok(mut opened) => read(rt, &mut opened, settings),
+        Err(_) => unreadable(rt),
     }
-    read(fd, settings);
-    libc::close(fd);
 }
 
 // The files from word `first` on.
-fn files(settings: Settings, first: usize) {
-    let n = os::arg_count();
-    let mut i = first;
-    while i < n {
-        number((i - first + 1) as u64);
-        tab();
-        file(i, settings);
-        end();
-        i += 1;
+fn files(rt: &(impl Env + Files + Print), settings: Settings, first: usize) -> io::Result<()> {
+    for i in first..options::count_words(rt) {
+        number(rt, (i - first + 1) as u64)?;
+        tab(rt)?;
+        file(rt, i, settings)?;
+        end(rt)?;
     }
+    Ok(())
 }
 
-fn main() {
-    match options::read() {
-        Options::Chosen(settings, first) => files(settings, first),
-        Options::Misused(m) => options::complain(m),
+fn main(rt: HostRuntime) -> io::Result<()> {
+    match options::read(&rt) {
+        Options::Chosen(settings, first) => files(&rt, settings, first),
+        Options::Misused(m) => options::complain(&rt, m),
     }
 }
