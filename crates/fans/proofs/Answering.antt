@@ -89,7 +89,7 @@ names_it z r h = go (either r)
   where
     go : Motor r ⊎ Other r → zone_named (role r) ≡ z ∷ []
     go (inl m) =
-        ap zone_named m.role_is ∙ ap (λ (n : ℕ). n ∷ []) (eqb-true m.placement.zone z (sym (m.by_zone_lem z) ∙ h))
+        ap zone_named m.role_is ∙ ap (λ (n : ℕ). n ∷ []) (eqb-true m.placement.zone z (sym (m.zone_tells z) ∙ h))
     go (inr o) = absurd (false≢true (sym (o.never z) ∙ h))
 
 -- 13 leaves no element in a zone that is not declared

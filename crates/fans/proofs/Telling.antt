@@ -26,7 +26,7 @@ pub record Motor (x : Record) : Type 0 where
   pub id : motor_id (id_of (element_of x)) ≡ true
   pub placement : Placement
   pub role_is : role x ≡ placed placement
-  pub by_zone_lem : (z : ℕ) → motor_in z x ≡ eqb placement.zone z
+  pub zone_tells : (z : ℕ) → motor_in z x ≡ eqb placement.zone z
   pub byte_7 : (e : List ℕ) → Fits e (layout x) → (7 < length e) × (byte e 7 ≡ placement.zone)
 
 -- any other element
@@ -43,7 +43,7 @@ either (fan f) =
       id = refl;
       placement = f.placement;
       role_is = refl;
-      by_zone_lem = λ z. refl;
+      zone_tells = λ z. refl;
       byte_7 = λ e h. (omega (arith, starts_length e (layout (fan f)) [] h), (starts_over e (layout (fan f)) [] h).1.1.1.1.1.1.1.0);
     })
 either (led l) = inr (record { id = refl; never = λ z. refl })
@@ -54,7 +54,7 @@ either (pump f) =
       id = refl;
       placement = f.placement;
       role_is = refl;
-      by_zone_lem = λ z. refl;
+      zone_tells = λ z. refl;
       byte_7 = λ e h. (omega (arith, starts_length e (layout (pump f)) [] h), (starts_over e (layout (pump f)) [] h).1.1.1.1.1.1.1.0);
     })
 either (voltage v) = inr (record { id = refl; never = λ z. refl })
@@ -78,7 +78,7 @@ module _ (e : List ℕ) (x : Record) (h : Fits e (layout x)) where
   told t = go (either x)
     where
       go : Motor x ⊎ Other x → (7 < length e) × ((z : ℕ) → eqb (byte e 7) z ≡ motor_in z x)
-      go (inl m) = ((m.byte_7 e h).0, λ z. ap (λ (n : ℕ). eqb n z) (m.byte_7 e h).1 ∙ sym (m.by_zone_lem z))
+      go (inl m) = ((m.byte_7 e h).0, λ z. ap (λ (n : ℕ). eqb n z) (m.byte_7 e h).1 ∙ sym (m.zone_tells z))
       go (inr o) = absurd (false≢true (sym o.id ∙ by_id t))
 
   pub none_told : motor_id (byte e 0) ≡ false → (z : ℕ) → false ≡ motor_in z x

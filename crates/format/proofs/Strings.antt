@@ -26,7 +26,7 @@ use Rattle.format.proofs.Whole.{written_whole}
 
 -- a record is a string, or neither its element nor its role is one
 data IfString (r : Record) : Type 0 where
-  is_string_lem : (bytes : List ℕ) → r ≡ string bytes → IfString r
+  is_string_of : (bytes : List ℕ) → r ≡ string bytes → IfString r
   is_none : (element_of r ≡ Text → ⊥) → ((bytes : List ℕ) → role r ≡ naming bytes → ⊥) → IfString r
 
 no : ◌≡◌ {A = ℕ} 0 1 → ⊥
@@ -44,7 +44,7 @@ if_string (current c) = is_none (λ e. no (cc)) (λ bytes e. no (cc))
 if_string (controller d bs) = is_none (λ e. no (cc)) (λ bytes e. no (cc))
 if_string (tachometer d a b) = is_none (λ e. no (cc)) (λ bytes e. no (cc))
 if_string (zone bytes) = is_none (λ e. no (cc)) (λ bytes e. no (cc))
-if_string (string bytes) = is_string_lem bytes refl
+if_string (string bytes) = is_string_of bytes refl
 if_string (external d p q r) = is_none (λ e. no (cc)) (λ bytes e. no (cc))
 if_string (rgb r) = is_none (λ e. no (cc)) (λ bytes e. no (cc))
 
@@ -52,7 +52,7 @@ pub naming_string : (r : Record) (bytes : List ℕ) → role r ≡ naming bytes 
 naming_string r bytes e = go (if_string r)
   where
     go : IfString r → r ≡ string bytes
-    go (is_string_lem b q) =
+    go (is_string_of b q) =
         let x : naming b ≡ naming bytes = sym (ap role q) ∙ e in
         let y : b ≡ bytes = cc in
         q ∙ ap string y
@@ -63,7 +63,7 @@ kept_text : (s : Settings) (r : Record) → element_of r ≡ Text → OwnKept s 
 kept_text s r e k = go (if_string r)
   where
     go : IfString r → well_formed (text_of (written (part r))) ≡ true
-    go (is_string_lem bytes q) =
+    go (is_string_of bytes q) =
         let c = subst (λ (x : Record). coded x ≡ true) q k.codes_9 in
         let p : written (part r) ≡ bytes = ap (λ (x : Record). written (part x)) q ∙ written_whole bytes in
         rw p (and-true (not (eqb (string_number bytes) 0)) (well_formed (text_of bytes)) c).1

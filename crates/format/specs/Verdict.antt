@@ -77,7 +77,7 @@ pub record Accepts (s : Settings) (b : List ℕ) (d : Description) (rs : List Re
   pub fits : Fits b (table d rs)
 
 -- one case for each row of 'What comes back' that the reader can give, 0 to 15 and 23: those of the description are the list
--- `descriptionRules`, those of the pass the cases of `Breaks`
+-- `description_rules`, those of the pass the cases of `Breaks`
 pub data Verdict (s : Settings) (b : List ℕ) : Answer → Type 0 where
   -- 0
   accepted : (d : Description) (rs : List Record) → Accepts s b d rs → Verdict s b (Accepted (length rs))

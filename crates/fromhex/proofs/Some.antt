@@ -1,4 +1,4 @@
--- Every text has a meaning: with `one-meaning`, just one.
+-- Every text has a meaning: with `one_meaning`, just one.
 -- Assumes nothing.
 use Prim.Native.Nat.{ℕ, zero, suc, ◌+◌, ◌*◌, ◌≤◌, ◌<◌}
 use native.Mathlib.Omega.{arith}

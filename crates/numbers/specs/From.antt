@@ -37,7 +37,7 @@ address_from c true a = Bus a
 address_from c false a = Select (pin_of c a)
 
 -- the numbers of each kind, given byte by byte; 0-4 are its placement. Those of 03h, 05h, 06h, 07h and 0Eh are the bytes after the
--- header, which `readFan`, `readWater`, `readVoltage` and `readRgb` of `format` read
+-- header, which `read_fan`, `read_water`, `read_voltage` and `read_rgb` of `format` read
 abbrev pub digital_from : Chip → (ℕ → ℕ) → DigitalSensor
 digital_from c f =
     digital_of (read_placement f) (f 5) (address_from c (eqb (f 6) 0) (f 7)) (word_at f 8) (word_at f 10) (word_at f 12) (f 14) (word_at f 15)

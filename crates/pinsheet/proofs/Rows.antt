@@ -19,11 +19,11 @@ strapped_one = description_of 2 0 7 true 0 (Used (pin_of C8051F320 0x30)) Unused
 abbrev sensor : ℕ → Record
 sensor pin = analogue (analogue_of (placement_of 0 0 0 0 1) 1 (pin_of C8051F320 pin) 850 700 500 320 200)
 
-abbrev on_bus_lem : ℕ → Record
-on_bus_lem a = digital (digital_of (placement_of 0 0 0 0 1) 0 (Bus a) 0 0 0 0 0 0)
+abbrev bus_sensor : ℕ → Record
+bus_sensor a = digital (digital_of (placement_of 0 0 0 0 1) 0 (Bus a) 0 0 0 0 0 0)
 
 abbrev rows : List Record
-rows = sensor 0x14 ∷ sensor 0x15 ∷ on_bus_lem 0x48 ∷ on_bus_lem 0x49 ∷ []
+rows = sensor 0x14 ∷ sensor 0x15 ∷ bus_sensor 0x48 ∷ bus_sensor 0x49 ∷ []
 
 -- of a shared pin the earliest
 pub shared_first : entry strapped_one rows 0x07 ≡ place 16

@@ -23,7 +23,7 @@ first_of pin (m ∷ ms) = cond (eqb pin m.what.pin) (place m.place) (first_of pi
 abbrev pub entry : Description → List Record → ℕ → Claimant
 entry d rs pin = cond (eqb pin 0x10) fault (first_of pin (claims d rs))
 
--- THE SHEET, over the 25 pins from P0.0 up. Those that the 321 lacks stand on it too, and are free (proofs/Sheet, `lacking-free`)
+-- THE SHEET, over the 25 pins from P0.0 up. Those that the 321 lacks stand on it too, and are free (proofs/Sheet, `lacking_free`)
 abbrev pub sheet : Description → List Record → List Claimant
 sheet d rs = map (entry d rs) every
 

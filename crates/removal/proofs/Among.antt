@@ -1,4 +1,4 @@
--- Numbers among numbers: the tests `among`, `allAmong` and `noneAmong` as statements.
+-- Numbers among numbers: the tests `among`, `all_among` and `none_among` as statements.
 -- Assumes nothing.
 use Prim.Native.Nat.{ℕ}
 use mathlib.Core.Path.{◌≡◌, refl, sym, ◌∙◌}

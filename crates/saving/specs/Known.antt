@@ -1,5 +1,5 @@
 -- Damaged tables with what is saved of them, worked out by hand from document 02: the new table and the lines. They are proved of
--- `newTable` and `newText`, on both chips but where it is said.
+-- `new_table` and `new_text`, on both chips but where it is said.
 -- Assumes nothing.
 use Rattle.std.specs.Prelude.{ℕ, List, [], ◌∷◌, ◌++◌, take}
 use Rattle.format.specs.Known.{head_with, table_a, table_with, table_of, after, zone_z, zone1, fan_f, sensor_on, sensor_s, sensor_t, tachometer_on}

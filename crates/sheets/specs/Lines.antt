@@ -27,7 +27,7 @@ read_from k (pin ∷ pins) ns = claimant_of (get_or ns k 0) ∷ read_from (suc k
 unfoldable pub read : List ℕ → List Claimant
 read ns = read_from 0 every ns
 
--- 25 numbers that are a sheet (proofs/Only, `as-numbers`: each is its claimant's)
+-- 25 numbers that are a sheet (proofs/Only, `as_numbers`: each is its claimant's)
 pub record Lines (sh : List Claimant) (ns : List ℕ) : Type 0 where
   pub size : length ns ≡ 25
   pub lines : read ns ≡ sh

@@ -24,7 +24,7 @@ fn unhex(rt: &(impl Input + Print), input: &mut [u8], settings: Settings) -> io:
     answer(rt, written, &out)
 }
 
-// 918,025 characters of input are enough: what a text means by so many it means with any more behind them (`first-decide`, in
+// 918,025 characters of input are enough: what a text means by so many it means with any more behind them (`first_decide`, in
 // fromhex proofs/Enough). They are lent as an array, whose length is its type: nothing has to count them.
 fn within(
     rt: &(impl Input + Print),

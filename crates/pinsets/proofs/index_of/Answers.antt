@@ -1,4 +1,4 @@
--- The place that `index_of` answers is `pinIndex`'s, by the branch, and below 32 by the table's law.
+-- The place that `index_of` answers is `pin_index`'s, by the branch, and below 32 by the table's law.
 -- Assumes nothing.
 use Prim.Native.Nat.{◌+◌, ◌*◌, ◌/◌, ◌%◌}
 use native.Mathlib.Omega.{arith}
