@@ -1,4 +1,4 @@
-# crates/esa/src/lib.rt -> C that compiles only where include/esa.h declares every call of the library, with its own types.
+# crates/esa_c/src/lib.rt -> C that compiles only where include/esa.h declares every call of the library, with its own types.
 BEGIN {
     type["&[u8]"] = "const uint8_t *, size_t"
     type["&mut [u8]"] = "uint8_t *, size_t"

@@ -1,5 +1,5 @@
-/* The C face of the proved reader and writer of ESA configuration tables, revision 0.90 (target/staticlib/libesa.a, made by
-   'rt staticlib esa', for x86-64; on another processor target/own/libesa.a, made by 'tools/archive . target/own'). C99, and C++. What each call below answers and leaves is proved of the library for every input;
+/* The C face of the proved reader and writer of ESA configuration tables, revision 0.90 (target/archive/libesa.a, made by
+   'tools/archive', for x86-64). C99, and C++. What each call below answers and leaves is proved of the library for every input;
    docs/CALLS.md has the theorem to each.
 
    WHAT A CALLER OWES. Nothing proves the C around the library, so these three are yours to keep:

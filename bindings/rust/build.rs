@@ -1,15 +1,13 @@
-//! Links libesa.a: from the folder that ESA_ARCHIVE_DIR names, or else where `rt staticlib esa` leaves it on x86-64, and where
-//! `tools/archive . target/own` does on another processor.
+//! Links libesa.a: from the folder that ESA_ARCHIVE_DIR names, or else where `tools/archive` leaves it.
 
 use std::path::PathBuf;
 
 fn main() {
     println!("cargo:rerun-if-env-changed=ESA_ARCHIVE_DIR");
     let set = |name| std::env::var_os(name).expect("cargo sets it");
-    let usual = if set("CARGO_CFG_TARGET_ARCH") == "x86_64" { "../../target/staticlib" } else { "../../target/own" };
     let folder = match std::env::var_os("ESA_ARCHIVE_DIR") {
         Some(folder) => PathBuf::from(folder),
-        None => PathBuf::from(set("CARGO_MANIFEST_DIR")).join(usual),
+        None => PathBuf::from(set("CARGO_MANIFEST_DIR")).join("../../target/archive"),
     };
     assert!(
         folder.is_absolute(),
@@ -20,8 +18,7 @@ fn main() {
     println!("cargo:rerun-if-changed={}", archive.display());
     assert!(
         archive.is_file(),
-        "there is no {}: run 'rt staticlib esa' in the repository, or on another processor than x86-64 'tools/archive . target/own'; \
-         where it stands elsewhere, name its folder in ESA_ARCHIVE_DIR",
+        "there is no {}: run 'tools/archive' in the repository; where it stands elsewhere, name its folder in ESA_ARCHIVE_DIR",
         archive.display()
     );
     println!("cargo:rustc-link-search=native={}", folder.display());

@@ -2,8 +2,8 @@
    which pins are taken, how it is written again and moved to Intel HEX and back; a lamp that one of the two chips has no pin for; an
    old sensor that the archive's rules alone take; a lamp of three colours on a chip of its own; what an element is called; how a
    part is taken out; what was altered in a table; and what can be saved of a damaged one.
-   tour [FILE]      without FILE it looks at a table of its own. On x86-64:
-   rt staticlib esa && cc -std=c99 -I include examples/c/tour.c target/staticlib/libesa.a -o tour */
+   tour [FILE]      without FILE it looks at a table of its own.
+   tools/archive && cc -std=c99 -I include examples/c/tour.c target/archive/libesa.a -o tour */
 #include <stdio.h>
 #include <string.h>
 

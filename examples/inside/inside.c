@@ -1,7 +1,7 @@
 /* What stands in a table, down to the registers: the description, the variable part of each element, the text of a string, and who has
    a pin. bindings/rust/examples/inside.rs says the same from Rust.
-   inside [FILE]      without FILE it looks at a table that it writes itself. On x86-64:
-   rt staticlib esa && cc -std=c99 -I include examples/inside/inside.c target/staticlib/libesa.a -o inside */
+   inside [FILE]      without FILE it looks at a table that it writes itself.
+   tools/archive && cc -std=c99 -I include examples/inside/inside.c target/archive/libesa.a -o inside */
 #include <stdio.h>
 #include <string.h>
 

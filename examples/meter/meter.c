@@ -1,6 +1,6 @@
 /* What a count means: at each element of a table, and to a meter that knows our own thermistor alone and cannot divide.
-   meter [FILE]      what count 512 means at each element of FILE; without FILE of a table of its own, and our own thermistor at all counts. On x86-64:
-   rt staticlib esa && cc -std=c99 -I include examples/meter/meter.c target/staticlib/libesa.a -o meter */
+   meter [FILE]      what count 512 means at each element of FILE; without FILE of a table of its own, and our own thermistor at all counts.
+   tools/archive && cc -std=c99 -I include examples/meter/meter.c target/archive/libesa.a -o meter */
 #include <stdio.h>
 
 #include "esa.h"

@@ -1,6 +1,6 @@
 /* A table in reports of 64 bytes, as a controller sends it over USB: one report and a state are all that is held.
-   reports [FILE]      reads FILE so; without FILE it cuts a table of its own in several ways. On x86-64:
-   rt staticlib esa && cc -std=c99 -I include examples/reports/reports.c target/staticlib/libesa.a -o reports */
+   reports [FILE]      reads FILE so; without FILE it cuts a table of its own in several ways.
+   tools/archive && cc -std=c99 -I include examples/reports/reports.c target/archive/libesa.a -o reports */
 #include <stdio.h>
 
 #include "esa.h"

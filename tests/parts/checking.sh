@@ -118,29 +118,26 @@ elsewhere() {
     try "through a link, from another folder" [ "$status $(cat seen.out)" = "0 ../good: ok, 15 elements" ]
 }
 
-# A copy without programs, as a fresh clone is, with a kit that takes a program with a stamp for built, as rt does.
+# A copy without programs, as a fresh clone is, with a kit whose 'rt run' leaves the program of this repository.
 fresh_clone() {
     mkdir -p fresh/kit && cp "$esa" "$root/crates.txt" fresh && cp -R "$root/tools" fresh || return
     status=0
     fresh/esa check missing box >seen.out 2>&1 || status=$?
     try "nothing is built to say that no file can be read" [ "$status $(cat seen.out)" = "2 missing: $no_file${newline}box: $folder" ]
-    if ! rt=$(command -v rt); then
-        not_tried "a program that is missing where its stamp stands: rt is not on the path"
-        return
-    fi
-    kit=${RATTLE_HOME:-$(cd "$(dirname "$(readlink -f "$rt")")/.." && pwd)}
-    mkdir -p fresh/target/bin fresh/target/stamp fresh/crates/verdicts/src
+    for crate in $(cd fresh && tools/below verdicts); do mkdir -p "fresh/crates/$crate/src"; done
     : >fresh/crates/verdicts/src/main.rt
-    : >fresh/target/stamp/verdicts
-    printf '#!/bin/sh\n[ -e "target/stamp/$2" ] || cp "%s/target/bin/$2" target/bin\n' "$root" >fresh/kit/rt
+    printf '#!/bin/sh\nmkdir out && cp "%s" out && echo "rt: running out/verdicts" >&2\n' "$root/crates/verdicts/out/verdicts" >fresh/kit/rt
     chmod +x fresh/kit/rt
-    RATTLE_HOME=$kit PATH=$PWD/fresh/kit:$PATH fresh/esa check good >seen.out 2>seen.err
-    try "a program that is missing where its stamp stands is built" [ "$? $(cat seen.out)" = "0 good: ok, 15 elements" ]
+    PATH=$PWD/fresh/kit:$PATH fresh/esa check good >seen.out 2>seen.err
+    try "a program that is missing is built" [ "$? $(cat seen.out)" = "0 good: ok, 15 elements" ]
+    rm fresh/kit/rt
+    PATH=$PWD/fresh/kit:/usr/bin:/bin fresh/esa check good >seen.out 2>&1
+    try "and then needs no kit" [ "$? $(cat seen.out)" = "0 good: ok, 15 elements" ]
 }
 
-# A program that stands needs no kit, where it is not run under the kit's emulator.
+# A program that stands needs no kit.
 without_rt() {
-    if [ "$(uname -m)" != x86_64 ] || PATH=/usr/bin:/bin command -v rt >/dev/null; then
+    if PATH=/usr/bin:/bin command -v rt >/dev/null; then
         not_tried "a check without rt on the path"
         return
     fi

@@ -91,8 +91,8 @@ misused_fans() {
 
 # A misuse of the program by itself: nothing on standard output, and one sentence on standard error.
 program_complains() { # WORD...
-    as_rt=$("$root/tools/as-rt" "$root/target/bin/fan")
-    eval "$as_rt \"\$@\"" <good >seen.out 2>seen.err || :
+    program=$("$root/tools/program" fan)
+    "$program" "$@" <good >seen.out 2>seen.err || :
     [ ! -s seen.out ] && [ "$(wc -l <seen.err)" -eq 1 ] || show
 }
 

@@ -169,32 +169,32 @@ misused_hex() {
 
 # A misuse of a program by itself: nothing on standard output, and one sentence on standard error.
 one_sentence() { # PROGRAM WORD...
-    as_rt=$("$root/tools/as-rt" "$root/target/bin/$1")
+    program=$("$root/tools/program" "$1")
     shift
-    eval "$as_rt \"\$@\"" <good >seen.out 2>seen.err || :
+    "$program" "$@" <good >seen.out 2>seen.err || :
     [ ! -s seen.out ] && [ "$(wc -l <seen.err)" -eq 1 ] || show
 }
 
 # A program by itself makes the one file of the other, and says nothing.
 makes() { # FILE FILE PROGRAM WORD...
     from=$1 wanted=$2
-    as_rt=$("$root/tools/as-rt" "$root/target/bin/$3")
+    program=$("$root/tools/program" "$3")
     shift 3
     status=0
-    eval "$as_rt \"\$@\"" <"$from" >seen.out 2>seen.err || status=$?
+    "$program" "$@" <"$from" >seen.out 2>seen.err || status=$?
     [ "$status" = 0 ] && same seen.out "$wanted" && [ ! -s seen.err ] || show
 }
 
 hex_programs() {
     for words in '' -- '--chip 320' '--chip 321 --'; do
         # shellcheck disable=SC2086
-        try "the program hex $words" makes good "$tables/quiet-box.hex" hex $words
+        try "the program ihex $words" makes good "$tables/quiet-box.hex" ihex $words
         # shellcheck disable=SC2086
         try "the program unhex $words" makes "$tables/quiet-box.hex" good unhex $words
     done
     printf 'R\t21\t1\n' >wanted.line
     try "the program unhex of a raw table" makes good wanted.line unhex
-    for program in hex unhex; do
+    for program in ihex unhex; do
         for word in --all --chip=321 -x - good ''; do
             try "the program $program '$word'" one_sentence $program "$word"
         done

@@ -1,7 +1,7 @@
 # Part of tests/files: how an input is held to the second program.
 # shellcheck shell=sh disable=SC2034,SC2154
 
-# The programs that are missing or old are built, and the commands that run them are known.
+# The programs that are missing or old are built, and their paths are known.
 ready() {
     cargo build --release --offline --quiet --manifest-path "$root/second/Cargo.toml" || die "the second program does not build"
     second=$root/second/target/release/second
@@ -12,13 +12,13 @@ ready() {
     timeout 900 "$root/esa" pins "$root/tables/quiet-box.esa" >/dev/null || die "the program pins does not run"
     timeout 900 "$root/esa" receive "$root/tables/quiet-box.esa" >/dev/null || die "the program receive does not run"
     timeout 900 "$root/esa" diff "$root/tables/quiet-box.esa" "$root/tables/quiet-box.esa" || die "the program differences does not run"
-    list=$("$root/tools/as-rt" "$root/target/bin/list") || exit 2
-    receive=$("$root/tools/as-rt" "$root/target/bin/receive") || exit 2
-    rewrite=$("$root/tools/as-rt" "$root/target/bin/rewrite") || exit 2
-    seek=$("$root/tools/as-rt" "$root/target/bin/fan") || exit 2
-    take=$("$root/tools/as-rt" "$root/target/bin/remove") || exit 2
-    sheet=$("$root/tools/as-rt" "$root/target/bin/pins") || exit 2
-    sides=$("$root/tools/as-rt" "$root/target/bin/differences") || exit 2
+    list=$("$root/tools/program" list) || exit 2
+    receive=$("$root/tools/program" receive) || exit 2
+    rewrite=$("$root/tools/program" rewrite) || exit 2
+    seek=$("$root/tools/program" fan) || exit 2
+    take=$("$root/tools/program" remove) || exit 2
+    sheet=$("$root/tools/program" pins) || exit 2
+    sides=$("$root/tools/program" differences) || exit 2
 }
 
 # The words of every program that is run: its options, or none; of fan the zone, and of remove the element. Whether pins is run, too.
@@ -33,7 +33,7 @@ zone_of() { # FILE
 # Runs a program on standard input: its output and its status go to files. It never needs 20 s: then the status is 124.
 runs() { # PROGRAM COMMAND [WORD]
     status=0
-    eval "timeout 20 $2 $options ${3:-}" >"$work/$1" 2>"$work/$1.err" || status=$?
+    eval "timeout 20 \"\$2\" $options ${3:-}" >"$work/$1" 2>"$work/$1.err" || status=$?
     echo "$status" >"$work/$1.status"
 }
 

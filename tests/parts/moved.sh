@@ -1,11 +1,11 @@
-# Part of tests/files: the programs hex and unhex against the second program.
+# Part of tests/files: the programs ihex and unhex against the second program.
 # shellcheck shell=sh disable=SC2002,SC2034,SC2154
 
 moved_ready() {
-    timeout 900 "$root/esa" hex "$root/tables/quiet-box.esa" "$work/first" || die "the program hex does not run"
+    timeout 900 "$root/esa" hex "$root/tables/quiet-box.esa" "$work/first" || die "the program ihex does not run"
     timeout 900 "$root/esa" unhex "$work/first" "$work/first" || die "the program unhex does not run"
-    hex=$("$root/tools/as-rt" "$root/target/bin/hex") || exit 2
-    unhex=$("$root/tools/as-rt" "$root/target/bin/unhex") || exit 2
+    hex=$("$root/tools/program" ihex) || exit 2
+    unhex=$("$root/tools/program" unhex) || exit 2
 }
 
 # A table to its text on both chips; and back, where there is a text.

@@ -3,7 +3,7 @@
 
 saved_ready() {
     timeout 900 "$root/esa" salvage "$root/tables/quiet-box.esa" "$work/first" || die "the program salvage does not run"
-    salvage=$("$root/tools/as-rt" "$root/target/bin/salvage") || exit 2
+    salvage=$("$root/tools/program" salvage) || exit 2
 }
 
 # The lines stand on standard error. Where they are as they should be, nothing is left there to be told of.

@@ -3,7 +3,7 @@
 
 traced_ready() {
     timeout 900 "$root/esa" trace "$root/tables/quiet-box.esa" /dev/null >/dev/null || die "the program trace does not run"
-    tracing=$("$root/tools/as-rt" "$root/target/bin/trace") || exit 2
+    tracing=$("$root/tools/program" trace) || exit 2
 }
 
 # A table and a trace in files; every second time the trace comes through a pipe.

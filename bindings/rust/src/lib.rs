@@ -21,9 +21,9 @@
 //! # Ok::<(), std::io::Error>(())
 //! ```
 //!
-//! To use it from another crate, run `rt staticlib esa` in the repository, or on another processor than x86-64
-//! `tools/archive . target/own`, and name this folder among your dependencies: `esa = { path = "<repository>/bindings/rust" }`. Where
-//! `libesa.a` stands elsewhere, the variable `ESA_ARCHIVE_DIR` names its folder, by the whole path, when you build.
+//! To use it from another crate, run `tools/archive` in the repository, and name this folder among your dependencies:
+//! `esa = { path = "<repository>/bindings/rust" }`. Where `libesa.a` stands elsewhere, the variable `ESA_ARCHIVE_DIR` names its folder, by
+//! the whole path, when you build.
 //!
 //! Calls that read by either set of rules take [`Settings`]; those that have one set of their own take a [`Chip`].
 //!
