@@ -3,9 +3,9 @@ BEGIN {
     FS = "\t"
     print "-- Rows of the second program, for one run."
     print "-- Assumes nothing."
-    print "use mathlib.Core.List.{List, [], _∷_}"
-    print "use Rattle·format·specs.specs.Known.{Row, _gives_}"
-    print "use Rattle·format·specs.specs.declared.answers.Answer.the-variants.{Accepted, Refused}"
+    print "use Rattle.std.specs.Prelude.{[], ◌∷◌}"
+    print "use Rattle.format.specs.Known.{Row, ◌gives◌}"
+    print "use Rattle.format.specs.declared.answers.Answer.TheVariants.{Accepted, Refused}"
 }
 {
     bytes = ""
