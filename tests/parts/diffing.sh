@@ -152,8 +152,8 @@ every_field_told() {
 
 # A misuse of the program by itself: nothing on standard output, and one sentence on standard error.
 differences_complains() { # WORD...
-    program=$("$root/tools/program" differences)
-    "$program" "$@" >seen.out 2>seen.err </dev/null || :
+    path=$("$root/tools/program" differences)
+    "$path" "$@" >seen.out 2>seen.err </dev/null || :
     [ ! -s seen.out ] && [ "$(wc -l <seen.err)" -eq 1 ] || show
 }
 
@@ -161,8 +161,8 @@ differences_complains() { # WORD...
 differences_prints() { # TEXT WORD...
     printf '%s' "$1" >wanted
     shift
-    program=$("$root/tools/program" differences)
-    "$program" "$@" >seen.out 2>seen.err </dev/null || :
+    path=$("$root/tools/program" differences)
+    "$path" "$@" >seen.out 2>seen.err </dev/null || :
     cmp -s wanted seen.out && [ ! -s seen.err ] || show
 }
 

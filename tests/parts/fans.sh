@@ -91,8 +91,8 @@ misused_fans() {
 
 # A misuse of the program by itself: nothing on standard output, and one sentence on standard error.
 program_complains() { # WORD...
-    program=$("$root/tools/program" fan)
-    "$program" "$@" <good >seen.out 2>seen.err || :
+    path=$("$root/tools/program" fan)
+    "$path" "$@" <good >seen.out 2>seen.err || :
     [ ! -s seen.out ] && [ "$(wc -l <seen.err)" -eq 1 ] || show
 }
 

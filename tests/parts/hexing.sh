@@ -169,19 +169,19 @@ misused_hex() {
 
 # A misuse of a program by itself: nothing on standard output, and one sentence on standard error.
 one_sentence() { # PROGRAM WORD...
-    program=$("$root/tools/program" "$1")
+    path=$("$root/tools/program" "$1")
     shift
-    "$program" "$@" <good >seen.out 2>seen.err || :
+    "$path" "$@" <good >seen.out 2>seen.err || :
     [ ! -s seen.out ] && [ "$(wc -l <seen.err)" -eq 1 ] || show
 }
 
 # A program by itself makes the one file of the other, and says nothing.
 makes() { # FILE FILE PROGRAM WORD...
     from=$1 wanted=$2
-    program=$("$root/tools/program" "$3")
+    path=$("$root/tools/program" "$3")
     shift 3
     status=0
-    "$program" "$@" <"$from" >seen.out 2>seen.err || status=$?
+    "$path" "$@" <"$from" >seen.out 2>seen.err || status=$?
     [ "$status" = 0 ] && same seen.out "$wanted" && [ ! -s seen.err ] || show
 }
 

@@ -133,9 +133,9 @@ named_so() {
 
 # A program by itself: a misuse prints nothing on standard output and one sentence on standard error.
 program_says() { # LINE PROGRAM WORD...
-    line=$1 program=$("$root/tools/program" "$2")
+    line=$1 path=$("$root/tools/program" "$2")
     shift 2
-    "$program" "$@" <good >seen.out 2>seen.err || :
+    "$path" "$@" <good >seen.out 2>seen.err || :
     [ ! -s seen.out ] && [ "$(cat seen.err)" = "$line" ] || show
 }
 
