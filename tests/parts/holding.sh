@@ -70,6 +70,19 @@ judge() { # NAME PROGRAM...
     [ $right = yes ] || wrong=$((wrong + 1))
 }
 
+# Counts the input, which could not be read: each program has status 1, prints nothing and says why in one line.
+judge_unread() { # NAME PROGRAM...
+    files=$((files + 1))
+    name=$1
+    shift
+    for program; do
+        [ "$(cat "$work/$program.status") $(wc -c <"$work/$program") $(wc -l <"$work/$program.err")" = '1 0 1' ] && continue
+        wrong=$((wrong + 1))
+        printf 'wrong: %s: %s answers, or does not say why not\n' "$name" "$program"
+        return
+    done
+}
+
 # A file, to the programs at once, on one chip; to remove every fifth time, and the elements that are to go take turns.
 # shellcheck disable=SC2086
 hold_on() { # CHIP NAME FILE

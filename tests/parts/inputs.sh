@@ -52,7 +52,7 @@ pipes() {
     hold_piped 'a pipe that never ends' "$work/input" yes
 }
 
-# A closed standard input holds no byte, as an empty one.
+# A closed standard input cannot be read, and is not taken for an empty one.
 no_input() {
     : >"$work/input"
     hold 'an empty file' "$work/input"
@@ -62,6 +62,5 @@ no_input() {
     runs remove "$take" "$element" <&-
     runs pins "$sheet" <&-
     runs receive "$receive" <&-
-    wanted "$work/input" list rewrite fan remove pins receive
-    judge 'a closed standard input' list rewrite fan remove pins receive
+    judge_unread 'a closed standard input' list rewrite fan remove pins receive
 }

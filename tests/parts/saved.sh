@@ -98,10 +98,8 @@ saved_pipes() {
     { cat "$work/input" && yes; } 2>/dev/null | runs salvage "$salvage"
     lines_judged "$work/input"
     judge 'a pipe of many lines that never ends' salvage
-    : >"$work/input"
     runs salvage "$salvage" <&-
-    lines_judged "$work/input"
-    judge 'a closed standard input' salvage
+    judge_unread 'a closed standard input' salvage
 }
 
 saved() {
