@@ -5,7 +5,7 @@ BEGIN {
     print "-- Assumes nothing."
     print "use Rattle.std.specs.Prelude.{[], ◌∷◌}"
     print "use Rattle.format.specs.Known.{Row, ◌gives◌}"
-    print "use Rattle.format.specs.declared.answers.Answer.TheVariants.{Accepted, Refused}"
+    print "use Rattle.format.specs.Answers.{Gives as Accepted, Refused}"
 }
 {
     bytes = ""

@@ -20,7 +20,7 @@ pub fn open(first: &[u8; 30], settings: Settings) -> Way
     let f = &first[..];
     let chip = settings.chip;
     let d = fields::description(f, chip);
-    let fault = rules::description_breaks(d, chip);
+    let fault = rules::fault(rules::description_breaks(d, chip));
     let state = State {
         count: 0,
         zones: 0,

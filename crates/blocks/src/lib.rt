@@ -6,8 +6,6 @@
 ghost use Rattle.std.specs.Prelude.{◌≡◌, true, ◌+◌, ◌<◌, ◌≤◌, length};
 ghost use Rattle.blocks.specs.Cutting.{enter, past_block, cut_of, SpeedPart, PairsPart};
 
-use words::wide;
-
 // A part as far as it is cut: where the next ENTRIES byte would stand, and whether each block before it has a pair. (How many
 // blocks there are is not counted: a third number would not go by registers, which costs a third of the time.)
 #[derive(Clone, Copy)]
@@ -32,7 +30,7 @@ pub fn enter(there: bool, lead: usize, entries: u8, c: Cut) -> Cut
 {
     let least = c.at + 1 + lead;
     let next = if there {
-        least + 4 * wide(entries)
+        least + 4 * usize::from(entries)
     } else {
         c.at
     };
@@ -65,10 +63,8 @@ pub fn cut_blocks(p: &[u8], lead: usize, most: usize) -> Cut
     if p.len() <= lead {
         return c;
     }
-    let mut n: usize = 0;
-    while n < most {
+    for _ in 0..most {
         c = past_block(p, lead, c);
-        n += 1;
     }
     c
 }
@@ -99,8 +95,7 @@ pub fn read_speed_blocks(p: &[u8]) -> Part
     }
     let mut at: usize = 1;
     let mut end: usize = 1;
-    let mut n: usize = 0;
-    while n < 6 {
+    for _ in 0..6usize {
         let entries = p[at];
         if entries == 0 {
             return Part {
@@ -108,11 +103,10 @@ pub fn read_speed_blocks(p: &[u8]) -> Part
                 full: false,
             };
         }
-        end = at + 2 + 4 * wide(entries);
+        end = at + 2 + 4 * usize::from(entries);
         if end < p.len() {
             at = end;
         }
-        n += 1;
     }
     Part {
         whole: (end == p.len() + 1) & (1 < end),

@@ -3,49 +3,55 @@
 #![tactic(auto)]
 
 ghost use Rattle.std.specs.Prelude.{◌≡◌, true, false, length, eqb};
+ghost use Rattle.format.specs.Answers.{fault_of};
 ghost use Rattle.format.specs.Rules.{numbered};
 ghost use Rattle.format.specs.Writing.{part_breaks};
 ghost use Rattle.format.specs.declared.records.Element.TheVariants.{Controller, Tachometer, External};
 ghost use Rattle.rules.specs.Broken.{or_else, DeviceBreaks};
 
 use blocks::Part;
+use format::answers::Rule;
 use format::records::{BusDevice, Element, ExternalRgb};
 use format::settings::Settings;
 
 // Of a kind without a part: 8 where there is one.
-fn unless_empty(part: &[u8], fault: u8) -> u8
-    ensures { result ≡ or_else (eqb (length part.now) 0) 8 fault }
+fn unless_empty(part: &[u8], own: Result<(), Rule>) -> Result<(), Rule>
+    ensures { fault_of result ≡ or_else (eqb (length part.now) 0) 8 (fault_of own) }
 {
-    if part.len() == 0 { fault } else { 8 }
+    if part.len() == 0 {
+        own
+    } else {
+        Err(Rule::Layout)
+    }
 }
 
 // 09h, 0Ah and 0Dh, by their fixed fields and what their part says.
-fn device_breaks(d: BusDevice, part: Part, s: Settings) -> u8
-    ensures { (part.whole ≡ false → result ≡ 8) × (part.whole ≡ true → DeviceBreaks s d part.full result) }
+fn device_breaks(d: BusDevice, part: Part, s: Settings) -> Result<(), Rule>
+    ensures { (part.whole ≡ false → fault_of result ≡ 8) × (part.whole ≡ true → DeviceBreaks s d part.full (fault_of result)) }
 {
     if !part.whole {
-        return 8;
+        return Err(Rule::Layout);
     }
     rules::device_breaks(d, part.full, s)
 }
 
 // 09h
-fn controller_breaks(d: BusDevice, part: &[u8], s: Settings) -> u8
-    ensures { result ≡ numbered (part_breaks s (Controller d) part.now) }
+fn controller_breaks(d: BusDevice, part: &[u8], s: Settings) -> Result<(), Rule>
+    ensures { fault_of result ≡ numbered (part_breaks s (Controller d) part.now) }
 {
     device_breaks(d, blocks::speed_blocks(part), s)
 }
 
 // 0Ah
-fn tachometer_breaks(d: BusDevice, part: &[u8], s: Settings) -> u8
-    ensures { result ≡ numbered (part_breaks s (Tachometer d) part.now) }
+fn tachometer_breaks(d: BusDevice, part: &[u8], s: Settings) -> Result<(), Rule>
+    ensures { fault_of result ≡ numbered (part_breaks s (Tachometer d) part.now) }
 {
     device_breaks(d, blocks::pairs_blocks(part, 2), s)
 }
 
 // 0Dh, whose chip must be identified
-fn external_breaks(x: ExternalRgb, part: &[u8], s: Settings) -> u8
-    ensures { result ≡ numbered (part_breaks s (External x) part.now) }
+fn external_breaks(x: ExternalRgb, part: &[u8], s: Settings) -> Result<(), Rule>
+    ensures { fault_of result ≡ numbered (part_breaks s (External x) part.now) }
 {
     let d = x.device;
     let blocks = blocks::pairs_blocks(part, 3);
@@ -56,9 +62,9 @@ fn external_breaks(x: ExternalRgb, part: &[u8], s: Settings) -> u8
     device_breaks(d, said, s)
 }
 
-// The first of 8, 9, 23 and 10 that an element with its part breaks, or 0.
-pub fn part_breaks(e: Element, part: &[u8], s: Settings) -> u8
-    ensures { result ≡ numbered (part_breaks s e part.now) }
+// The first of 8, 9, 23 and 10 that an element with its part breaks.
+pub fn part_breaks(e: Element, part: &[u8], s: Settings) -> Result<(), Rule>
+    ensures { fault_of result ≡ numbered (part_breaks s e part.now) }
 {
     match e {
         Element::Digital(d) => unless_empty(part, rules::digital_breaks(d, s)),

@@ -15,8 +15,9 @@ use Rattle.format.specs.declared.pins.Use.{Use}
 use Rattle.format.specs.declared.pins.Use.TheVariants.{FanPin, AnaloguePin, ChipSelect, StatusLed, HardwareRevision}
 use Rattle.format.specs.declared.pins.Chip.{Chip}
 use Rattle.format.specs.declared.pins.Pin.{Pin}
-use Rattle.format.specs.declared.pins.OptionalPin.{OptionalPin}
-use Rattle.format.specs.declared.pins.OptionalPin.TheVariants.{Unused, Used}
+use Rattle.std.specs.Prelude.{Option}
+use Rattle.format.specs.declared.pins.Pin.{Pin}
+use Rattle.std.specs.Prelude.{None, Some}
 use Rattle.format.proofs.Chips.{only_among}
 use Rattle.pinsets.proofs.Table.{and_left, and_right}
 use Rattle.pinsets.specs.Sets.{pin_index, pin_bit, has_bit}
@@ -39,12 +40,12 @@ allowed_listed c u p h = only_among c p.0 (listed u) (and_right (of_chip c p) (a
 pub allowed_pin : (c : Chip) (u : Use) (p : Pin) → allowed c u p ≡ true → among p.0 every ≡ true
 allowed_pin c u p h = listed_pin u p.0 (allowed_listed c u p h)
 
-pub or_unused : (c : Chip) (u : Use) (p : OptionalPin) → allowed_or_unused c u p ≡ true → on_pin p ≡ true
-or_unused c u Unused h = refl
-or_unused c u (Used p) h = allowed_pin c u p h
+pub or_unused : (c : Chip) (u : Use) (p : Option Pin) → allowed_or_unused c u p ≡ true → on_pin p ≡ true
+or_unused c u None h = refl
+or_unused c u (Some p) h = allowed_pin c u p h
 
 pub three_pins :
-    (c : Chip) (u : Use) (p q r : OptionalPin)
+    (c : Chip) (u : Use) (p q r : Option Pin)
     → allowed_or_unused c u p && (allowed_or_unused c u q && allowed_or_unused c u r) ≡ true
     → on_pins p q r ≡ true
 three_pins c u p q r h =
@@ -55,17 +56,17 @@ three_pins c u p q r h =
     rw (or_unused c u p (and_left x (y && z) h), or_unused c u q (and_left y z m), or_unused c u r (and_right y z m)) refl
 
 -- a place that may be unused
-pub used_within : (p : OptionalPin) → on_pin p ≡ true → within (used_pin p) ≡ true
-used_within Unused h = refl
-used_within (Used p) h = both (among p.0 every) true h refl
+pub used_within : (p : Option Pin) → on_pin p ≡ true → within (used_pin p) ≡ true
+used_within None h = refl
+used_within (Some p) h = both (among p.0 every) true h refl
 
 -- pins that rise are distinct
 apart : (p q : ℕ) → ltb p q ≡ true → eqb q p ≡ false
 apart p q h = ne_eqb q p (λ e. omega (arith, ltb-true p q h))
 
-pub two_distinct : (p : Pin) (q : OptionalPin) → rises p q ≡ true → true ≡ distinct [] (p.0 ∷ used_pin q)
-two_distinct p Unused h = refl
-two_distinct p (Used q) h = rw (apart p.0 q.0 h) refl
+pub two_distinct : (p : Pin) (q : Option Pin) → rises p q ≡ true → true ≡ distinct [] (p.0 ∷ used_pin q)
+two_distinct p None h = refl
+two_distinct p (Some q) h = rw (apart p.0 q.0 h) refl
 
 pub three_distinct : (p q r : ℕ) → ltb p q ≡ true → ltb q r ≡ true → true ≡ distinct [] (p ∷ q ∷ r ∷ [])
 three_distinct p q r h k =

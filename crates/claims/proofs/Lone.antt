@@ -8,8 +8,9 @@ use lib.Dec.{eqb}
 use lib.Bits.{bit_and, bit_or, and_comm}
 use Rattle.format.specs.Pins.{among, every}
 use Rattle.format.specs.Claims.{alone, Claim, claim, clashes, own_used}
-use Rattle.format.specs.declared.pins.OptionalPin.{OptionalPin}
-use Rattle.format.specs.declared.pins.OptionalPin.TheVariants.{Unused, Used}
+use Rattle.std.specs.Prelude.{Option}
+use Rattle.format.specs.declared.pins.Pin.{Pin}
+use Rattle.std.specs.Prelude.{None, Some}
 use Rattle.pinsets.proofs.Table.{and_left, and_right}
 use Rattle.claims.specs.Taken.{IsSet, alone_pins, joint_pins, proper, free, used_pin, ClaimsAre}
 use Rattle.claims.proofs.Tests.{taut1, taut3}
@@ -60,11 +61,11 @@ claims_alone w t ps s k d = record {
 }
 
 -- a place that may be unused
-pub lone_used : (p : OptionalPin) → lone (used_pin p) ≡ own_used p
-lone_used Unused = refl
-lone_used (Used p) = refl
+pub lone_used : (p : Option Pin) → lone (used_pin p) ≡ own_used p
+lone_used None = refl
+lone_used (Some p) = refl
 
-pub lone_three : (p q r : OptionalPin) → lone (used_pin p ++ used_pin q ++ used_pin r) ≡ own_used p ++ own_used q ++ own_used r
+pub lone_three : (p q r : Option Pin) → lone (used_pin p ++ used_pin q ++ used_pin r) ≡ own_used p ++ own_used q ++ own_used r
 lone_three p q r =
     rw (
       lone_append (used_pin p ++ used_pin q) (used_pin r),
@@ -76,17 +77,17 @@ lone_three p q r =
     refl
 
 -- three of them: what two have in common is what is named twice
-twice : (p q r : OptionalPin)
+twice : (p q r : Option Pin)
     → apart (used_pin q) (used_pin p) && apart (used_pin r) (used_pin p) && apart (used_pin r) (used_pin q)
     ≡ distinct [] (used_pin p ++ used_pin q ++ used_pin r)
-twice Unused Unused Unused = refl
-twice Unused Unused (Used r) = refl
-twice Unused (Used q) Unused = refl
-twice Unused (Used q) (Used r) = refl
-twice (Used p) Unused Unused = refl
-twice (Used p) Unused (Used r) = and-true (not (eqb r.0 p.0 || false) && true)
-twice (Used p) (Used q) Unused = taut1 (λ a. a && true && true) (λ a. a) refl (not (eqb q.0 p.0 || false) && true)
-twice (Used p) (Used q) (Used r) =
+twice None None None = refl
+twice None None (Some r) = refl
+twice None (Some q) None = refl
+twice None (Some q) (Some r) = refl
+twice (Some p) None None = refl
+twice (Some p) None (Some r) = and-true (not (eqb r.0 p.0 || false) && true)
+twice (Some p) (Some q) None = taut1 (λ a. a && true && true) (λ a. a) refl (not (eqb q.0 p.0 || false) && true)
+twice (Some p) (Some q) (Some r) =
     taut3
     (λ a b c. not (a || false) && true && (not (b || false) && true) && (not (c || false) && true))
     (λ a b c. not (a || false) && (not (c || (b || false)) && true))
@@ -95,7 +96,7 @@ twice (Used p) (Used q) (Used r) =
     (eqb r.0 p.0)
     (eqb r.0 q.0)
 
-module _ {a b c : ℕ} (p q r : OptionalPin) (sa : IsSet a (used_pin p)) (sb : IsSet b (used_pin q)) (sc : IsSet c (used_pin r)) where
+module _ {a b c : ℕ} (p q r : Option Pin) (sa : IsSet a (used_pin p)) (sb : IsSet b (used_pin q)) (sc : IsSet c (used_pin r)) where
   abbrev common : ℕ
   common = bit_or (bit_or (bit_and a b) (bit_and a c)) (bit_and b c)
 

@@ -4,8 +4,9 @@ use Rattle.std.specs.Prelude.{ℕ, ◌^◌, ◌<◌, ◌≡◌, Bool, true, fals
 use Rattle.std.proofs.Math.Option.{Option, none, some}
 use Rattle.format.specs.Pins.{among, every, listed}
 use Rattle.format.specs.Claims.{Manner, shared, select, alone, Claim, clashes, Made, first_clash, own_used}
-use Rattle.format.specs.declared.pins.OptionalPin.{OptionalPin}
-use Rattle.format.specs.declared.pins.OptionalPin.TheVariants.{Unused, Used}
+use Rattle.std.specs.Prelude.{Option as Optional}
+use Rattle.format.specs.declared.pins.Pin.{Pin}
+use Rattle.std.specs.Prelude.{None, Some}
 use Rattle.format.specs.declared.pins.Use.TheVariants.{ChipSelect}
 use Rattle.pinsets.specs.Sets.{pin_index, has_bit}
 use Rattle.claims.specs.declared.Claims.{Claims}
@@ -35,19 +36,19 @@ joint_pins [] = []
 joint_pins (c ∷ cs) = add_if (not (is_alone c.manner)) c.pin (joint_pins cs)
 
 -- the pin of a place that may be unused, and whether it is one of the 25
-abbrev pub used_pin : OptionalPin → List ℕ
-used_pin Unused = []
-used_pin (Used p) = p.0 ∷ []
+abbrev pub used_pin : Optional Pin → List ℕ
+used_pin None = []
+used_pin (Some p) = p.0 ∷ []
 
-abbrev pub on_pin : OptionalPin → Bool
-on_pin Unused = true
-on_pin (Used p) = among p.0 every
+abbrev pub on_pin : Optional Pin → Bool
+on_pin None = true
+on_pin (Some p) = among p.0 every
 
 -- three such places, and the claims on them
-abbrev pub on_pins : OptionalPin → OptionalPin → OptionalPin → Bool
+abbrev pub on_pins : Optional Pin → Optional Pin → Optional Pin → Bool
 on_pins p q r = on_pin p && (on_pin q && on_pin r)
 
-abbrev pub own_three : OptionalPin → OptionalPin → OptionalPin → List Claim
+abbrev pub own_three : Optional Pin → Optional Pin → Optional Pin → List Claim
 own_three p q r = own_used p ++ own_used q ++ own_used r
 
 -- claims as records that keep 10 make them: the shared pins and those that may be a chip select are apart, all pins exist

@@ -10,7 +10,7 @@ ghost use Rattle.format.specs.Rules.{selected, pinned, strapped};
 ghost use Rattle.format.specs.Claims.{Claim, claim, Made, made_at, alone, own, reference, on_bus, claims_of, first_claims};
 ghost use Rattle.claims.specs.Taken.{ClaimsAre, HeldIs, IsSet, used_pin, on_pin, on_pins, own_three};
 
-use format::pins::{OptionalPin, Pin};
+use format::pins::Pin;
 use format::records::{Address, Description, PwmFan, RgbLed, StatusLed};
 use pinsets::bit_of;
 
@@ -43,12 +43,12 @@ pub fn no_claims() -> Claims
 }
 
 // A used pin's bit; no bit of an unused place.
-fn used_bit(p: OptionalPin) -> u32
+fn used_bit(p: Option<Pin>) -> u32
     ensures { on_pin p ≡ true → IsSet result (used_pin p) }
 {
     match p {
-        OptionalPin::Unused => 0,
-        OptionalPin::Used(q) => bit_of(q.0),
+        None => 0,
+        Some(q) => bit_of(q.0),
     }
 }
 
@@ -94,7 +94,7 @@ pub fn fan_claims(f: PwmFan) -> Claims
 }
 
 // Three pins, any of which may be unused, or be the same.
-fn three(p: OptionalPin, q: OptionalPin, r: OptionalPin) -> Claims
+fn three(p: Option<Pin>, q: Option<Pin>, r: Option<Pin>) -> Claims
     ensures { on_pins p q r ≡ true → ClaimsAre result (own_three p q r) }
 {
     let a = used_bit(p);

@@ -14,7 +14,7 @@ use Rattle.format.specs.Verdict.{known}
 use Rattle.format.specs.declared.settings.Settings.{Settings}
 use Rattle.format.specs.declared.records.Description.{Description}
 use Rattle.found.specs.Judged.{Judged}
-use Rattle.found.specs.declared.Found.{Found}
+use Rattle.found.specs.Judged.{Finding}
 use Rattle.pass.specs.Tracks.{Flags}
 use Rattle.pass.specs.declared.State.{State}
 use Rattle.underway.specs.Under.{Holds, UnderIs}
@@ -34,7 +34,7 @@ kept_whole head v h l =
     ext_get_or 0 (take (length v) head) v n (λ i a. get_or-take (length v) head i 0 (omega (arith, a, n))
     ∙ h.same i (omega (arith, a, n)) (omega (arith, a, n)))
 
-pub judged_as : (σ : Settings) (k id : ℕ) (c : List ℕ) (e : Found) → id ≡ k → Judged σ k c e → Judged σ id c e
+pub judged_as : (σ : Settings) (k id : ℕ) (c : List ℕ) (e : Finding) → id ≡ k → Judged σ k c e → Judged σ id c e
 judged_as σ k id c e q j = subst (λ (i : ℕ). Judged σ i c e) (sym q) j
 
 take_short : (n : ℕ) (l : List ℕ) → length (take n l) ≤ n

@@ -21,7 +21,7 @@ use Rattle.format.proofs.Stepped.{taken, crowded_out, by_identifier}
 use Rattle.format.proofs.Growing.{place_snoc}
 use Rattle.pass.specs.Tracks.{Flags, Went}
 use Rattle.pass.specs.declared.State.{State}
-use Rattle.pass.specs.declared.Step.{Step}
+use Rattle.pass.specs.Steps.{Step}
 use Rattle.pass.proofs.Walking.{took_stated}
 use Rattle.firsts.specs.Firsts.{Firsts}
 use Rattle.stream.specs.Running.{going}

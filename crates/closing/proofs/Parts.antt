@@ -22,10 +22,10 @@ use Rattle.format.specs.declared.settings.Settings.{Settings}
 use Rattle.format.specs.declared.records.Description.{Description}
 use Rattle.format.proofs.Slots.{bytes_drop}
 use Rattle.found.specs.Judged.{FansAre, Judged}
-use Rattle.found.specs.declared.Found.{Found}
+use Rattle.found.specs.Judged.{Finding}
 use Rattle.pass.specs.Tracks.{flags, StepIs, TextJudged, PlacedStep, TakeIs}
 use Rattle.pass.specs.declared.State.{State}
-use Rattle.pass.specs.declared.Step.{Step}
+use Rattle.pass.specs.Steps.{Step}
 use Rattle.pass.proofs.Stepped.{own_fault_lem}
 use Rattle.pass.proofs.Taking.{take_text, take_placed}
 use Rattle.underway.specs.Under.{UnderIs}
@@ -81,7 +81,7 @@ module _ (u : Under) (head : List ℕ) (at : ℕ) (s : State) (r : Step) (w : Wa
       o.bad
 
 -- the step of a device, by the bytes that are kept and by all
-module _ (e : Found) (b c : List ℕ) (at : ℕ) (s : State) (zu su : List Bool) (r : Step) (zu' su' : List Bool) where
+module _ (e : Finding) (b c : List ℕ) (at : ℕ) (s : State) (zu su : List Bool) (r : Step) (zu' su' : List Bool) where
   pub placed_as :
       PlacedStep e b at s zu su r zu' su'
       → (e.fault ≡ 0 → read_placement (byte b) ≡ read_placement (byte c))
@@ -115,7 +115,7 @@ same_placement f g h = rw (h 0 (omega arith), h 1 (omega arith), h 2 (omega arit
 module _ (u : Under) (head : List ℕ) (at : ℕ) (s : State) (r : Step) (w : Way) (o : After w r at u.len) (few : s.count < 96) where
   -- 09h, 0Ah, 0Dh
   pub device_closes :
-      (id : ℕ) (e : Found) (zu su zu' su' : List Bool) (zp sp zp' sp' : List ℕ)
+      (id : ℕ) (e : Finding) (zu su zu' su' : List Bool) (zp sp zp' sp' : List ℕ)
       → PlacedStep e (take 27 (drop 3 head)) at s zu su r zu' su'
       → (r.stop ≡ 0 → Names id (take 27 (drop 3 head)) at zp sp zp' sp')
       → (σ : Settings) (d : Description) (before : List Record) (v : List ℕ) (zs ss : List Bool)

@@ -19,7 +19,7 @@ use Rattle.format.specs.declared.records.Description.{Description}
 use Rattle.format.proofs.Stepped.{unframed}
 use Rattle.pass.specs.Tracks.{Flags, Took, none_yet, one_more, Walked, WalkIs}
 use Rattle.pass.specs.declared.State.{State}
-use Rattle.pass.specs.declared.Over.{Over}
+use Rattle.pass.specs.Steps.{Over}
 use Rattle.pass.proofs.Moving.{unframed_short, unframed_long}
 use Rattle.stream.specs.Running.{going, broken, unready, run_bytes}
 use Rattle.stream.proofs.Running.{Lacks, header, bytes, lacks, waits_bytes, ready_full}

@@ -12,7 +12,7 @@ use Rattle.format.specs.declared.records.Description.{Description}
 use Rattle.pass.specs.Tracks.{Flags, flags, Low, Tracks, Took}
 use Rattle.pass.specs.declared.State.{State}
 use Rattle.found.specs.Judged.{Judged}
-use Rattle.found.specs.declared.Found.{Found}
+use Rattle.found.specs.Judged.{Finding}
 use Rattle.firsts.specs.Firsts.{Firsts}
 use Rattle.stream.specs.Running.{Run, going, broken, unready, past, run_bytes}
 use Rattle.underway.specs.Under.{UnderIs}
@@ -107,7 +107,7 @@ pub record TextClosed (u : Under) (head : List ℕ) (at : ℕ) (s : State) (ss :
       → Gone d s (flags zs ss zu su) zp sp before
       → Then σ d before at v r head (flags zs ss' zu su) zp sp
 
-pub record DeviceClosed (id : ℕ) (e : Found) (u : Under) (head : List ℕ) (at : ℕ) (s : State) (zu su : List Bool) (zp sp : List ℕ)
+pub record DeviceClosed (id : ℕ) (e : Finding) (u : Under) (head : List ℕ) (at : ℕ) (s : State) (zu su : List Bool) (zp sp : List ℕ)
     (r : Way) (zu' su' : List Bool) (zp' sp' : List ℕ) : Type 0 where
   pub plain : Plain r (at + u.len)
   pub then :

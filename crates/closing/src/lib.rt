@@ -2,11 +2,14 @@
 #![tactic(auto)]
 
 ghost use Rattle.std.specs.Prelude.{◌≡◌, true, false, ◌+◌, ◌≤◌, ◌<◌, length};
+ghost use Rattle.found.specs.Judged.{finding};
+ghost use Rattle.pass.specs.Steps.{stop_number};
 ghost use Rattle.format.specs.Verdict.{known};
 ghost use Rattle.pass.specs.Tracks.{flags, Low};
 ghost use Rattle.stream.specs.Running.{unready};
 ghost use Rattle.closing.specs.Ways.{WholeIs, FixedIs, TextClosed, DeviceClosed, CloseIs};
 
+use format::answers::Rule;
 use format::settings::Settings;
 use found::Found;
 use pass::State;
@@ -53,6 +56,16 @@ pub fn broken(stop: u8, at: usize, state: State) -> Way
     }
 }
 
+// The number of the rule that stopped a pass, or 0.
+fn stop_of(stop: Option<Rule>) -> u8
+    ensures { result ≡ stop_number stop }
+{
+    match stop {
+        None => 0,
+        Some(rule) => rule.number(),
+    }
+}
+
 // The whole elements at the start of some bytes, and what they name.
 fn whole(
     p: &[u8],
@@ -73,10 +86,11 @@ fn whole(
 {
     let r = pass::walk(p, at, s, zs, ss, zu, su, settings);
     let state = r.state;
-    if (r.stop != 0) & (r.stop != 6) {
+    let stop = stop_of(r.stop);
+    if (stop != 0) & (stop != 6) {
         return Ran {
             taken: p.len(),
-            way: broken(r.stop, r.place, state),
+            way: broken(stop, r.place, state),
         };
     }
     let taken = r.place - at;
@@ -144,8 +158,8 @@ fn fixed(
 {
     let r = pass::walk(p, at, s, zs, ss, zu, su, settings);
     let state = r.state;
-    if r.stop != 0 {
-        return broken(r.stop, at, state);
+    if let Some(rule) = r.stop {
+        return broken(rule.number(), at, state);
     }
     naming::name_all(p, r.place - at, at, zp, sp);
     broken(0, r.place, state)
@@ -156,18 +170,16 @@ fn text(u: Under, head: &[u8; 30], at: usize, s: State, ss: &mut [bool; 256]) ->
     requires { (at + u.len ≤ 4097) × (s.count < 96) × (s.zones ≤ 12) }
     ensures { TextClosed u head.now at s ss.old result ss.new }
 {
-    let r = pass::text_judged(judging::text(u, head), judging::number(u, head), s, ss);
-    let state = r.state;
-    if r.stop != 0 {
-        return broken(r.stop, at, state);
+    match pass::text_judged(judging::text(u, head), judging::number(u, head), s, ss) {
+        Err(rule) => broken(rule.number(), at, s),
+        Ok(state) => broken(0, at + u.len, state),
     }
-    broken(0, at + u.len, state)
 }
 
 // 09h, 0Ah and 0Dh, from what is found of them.
 fn device(
     id: u8,
-    f: Found,
+    found: Result<Found, Rule>,
     u: Under,
     head: &[u8; 30],
     at: usize,
@@ -178,17 +190,17 @@ fn device(
     sp: &mut [u16; 256],
 ) -> Way
     requires { (at + u.len ≤ 4097) × (s.count < 96) × (s.zones ≤ 12) }
-    ensures { DeviceClosed id f u head.now at s zu.old su.old zp.old
+    ensures { DeviceClosed id (finding found) u head.now at s zu.old su.old zp.old
         sp.old result zu.new su.new zp.new sp.new }
 {
     let h = &head[..];
-    let r = pass::placed_step(f, &h[3..30], at, s, zu, su);
-    let state = r.state;
-    if r.stop != 0 {
-        return broken(r.stop, at, state);
+    match pass::placed_step(found, &h[3..30], at, s, zu, su) {
+        Err(rule) => broken(rule.number(), at, s),
+        Ok(state) => {
+            naming::name(id, &h[3..30], at, zp, sp);
+            broken(0, at + u.len, state)
+        }
     }
-    naming::name(id, &h[3..30], at, zp, sp);
-    broken(0, at + u.len, state)
 }
 
 // An element of more than 30 bytes that has no part: 8, or 7 where there is no such kind.

@@ -1,6 +1,6 @@
 -- The code's text of a pair, of what stands at two places and of the descriptions is the one that the definition has.
 -- Assumes nothing.
-use Prim.Native.Nat.{ℕ, ◌+◌, ◌<◌, ◌≤◌}
+use Prim.Native.Nat.{ℕ, ◌+◌, ◌≤◌}
 use native.Mathlib.Omega.{arith}
 use mathlib.Core.Path.{◌≡◌, refl, sym, ◌∙◌, ap}
 use mathlib.Core.Bool.{Bool, true, false, cond}
@@ -8,7 +8,7 @@ use mathlib.Core.List.{List, [], ◌∷◌, ◌++◌, map, append-nil}
 use mathlib.Core.Option.{Option, none, some}
 use lib.ListN.{length, get_or}
 use lib.Dec.{eqb}
-use borrow.Author.Tests.{ne_eqb, eqb-true}
+use borrow.Author.Tests.{eqb-true}
 use Rattle.format.specs.Slots.{byte, written}
 use Rattle.format.specs.Records.{Record, element_of}
 use Rattle.format.specs.Layout.{fixed, part, layouts, opening}
@@ -26,14 +26,11 @@ use Rattle.differing.specs.Differences.{difference, differing, kind, paired, des
 use Rattle.differing.proofs.Ranges.{rooms, contents_in}
 use Rattle.differing.proofs.Equal.{Fair, contents_length, range}
 use Rattle.comparing.specs.Rows.{placeds, firsts, counts, rows_text, fields_text, part_text}
-use Rattle.comparing.specs.Lines.{id_text, kind_line, pair_text, besides, besides_text, At}
-use Rattle.comparing.proofs.Lined.{place_text_lem}
+use Rattle.std.specs.Prelude.{Some}
+use Rattle.comparing.specs.Lines.{kind_line, pair_text, besides, besides_text, At}
 use Rattle.comparing.proofs.Codes.{code, codes_text, names_from, codes_from, codes_meant, part_meant, rows_meant, rows_alone}
 use Rattle.comparing.proofs.Meant.{kind_names, codes_here, codes_described, description_names_lem}
-use Rattle.comparing.proofs.Pairing.{kind_here, kind_small}
-
-id_text_lem : (k : ℕ) → k < 15 → id_text k ≡ hex_pair k
-id_text_lem k h = ap (λ (t : Bool). cond t dash (hex_pair k)) (ne_eqb k 255 (omega arith))
+use Rattle.comparing.proofs.Pairing.{kind_here}
 
 -- a pair
 module _ (c : Chip) (one two : List ℕ) (a b : ℕ) (x y : Record) (h : Here c one a x) (i : Here c two b y) (f : Fair c x)
@@ -79,28 +76,21 @@ module _ (c : Chip) (one two : List ℕ) (a b : ℕ) (x y : Record) (h : Here c 
       ∙ (λ j. s j ++ t j)
 
   two_kinds :
-      a ≤ 4096
-      → b ≤ 4096
-      → lines (difference (decimal a) (decimal b) "kind" (hex_pair (kind x)) (hex_pair (kind y)) ∷ []) ≡ kind_line a b (kind x) (kind y)
+      lines (difference (decimal a) (decimal b) "kind" (hex_pair (kind x)) (hex_pair (kind y)) ∷ [])
+      ≡ kind_line (Some a) (Some b) (Some (kind x)) (Some (kind y))
   unfolding line_of
-  two_kinds la lb =
-      let u = place_text_lem a la in
-      let v = place_text_lem b lb in
-      let s = id_text_lem (kind x) (kind_small x) in
-      let t = id_text_lem (kind y) (kind_small y) in
-      append-nil (line ((68 ∷ []) ∷ decimal a ∷ decimal b ∷ ascii "kind" ∷ hex_pair (kind x) ∷ hex_pair (kind y) ∷ []))
-      ∙ (λ j. line ((68 ∷ []) ∷ sym u j ∷ sym v j ∷ ascii "kind" ∷ sym s j ∷ sym t j ∷ []))
+  two_kinds = append-nil (line ((68 ∷ []) ∷ decimal a ∷ decimal b ∷ ascii "kind" ∷ hex_pair (kind x) ∷ hex_pair (kind y) ∷ []))
 
   pub pair_meant : a ≤ 4096 → b ≤ 4096 → lines (paired a b x y) ≡ pair_text one two a b p q
   unfolding paired
   pair_meant la lb = go (eqb (kind x) (kind y)) refl ∙ sym by_kind
     where
       by_kind : pair_text one two a b p q ≡ cond (eqb (kind x) (kind y)) (fields_text one two a b (kind x) ++ part_text a b p q)
-          (kind_line a b (kind x) (kind y))
+          (kind_line (Some a) (Some b) (Some (kind x)) (Some (kind y)))
       by_kind =
           let u = kind_here c one a x h in
           let v = kind_here c two b y i in
-          λ j. cond (eqb (u j) (v j)) (fields_text one two a b (u j) ++ part_text a b p q) (kind_line a b (u j) (v j))
+          λ j. cond (eqb (u j) (v j)) (fields_text one two a b (u j) ++ part_text a b p q) (kind_line (Some a) (Some b) (Some (u j)) (Some (v j)))
 
       go :
           (t : Bool)
@@ -108,9 +98,9 @@ module _ (c : Chip) (one two : List ℕ) (a b : ℕ) (x y : Record) (h : Here c 
           → lines
           (cond t (differing (decimal a) (decimal b) (element_names (kind x)) (texts x) (texts y))
           (difference (decimal a) (decimal b) "kind" (hex_pair (kind x)) (hex_pair (kind y)) ∷ []))
-          ≡ cond t (fields_text one two a b (kind x) ++ part_text a b p q) (kind_line a b (kind x) (kind y))
+          ≡ cond t (fields_text one two a b (kind x) ++ part_text a b p q) (kind_line (Some a) (Some b) (Some (kind x)) (Some (kind y)))
       go true e = one_kind (eqb-true (kind x) (kind y) e)
-      go false e = two_kinds la lb
+      go false e = two_kinds
 
 -- what stands at two places
 abbrev pub Fairly : Chip → Option Record → Type 0
@@ -129,15 +119,13 @@ pub besides_meant :
 unfolding line_of
 besides_meant c one two a b none none h i f g la lb = refl
 besides_meant c one two a b none (some y) h i f g la lb =
-    let v = place_text_lem b lb in
-    let t = ap id_text (kind_here c two b y i.1) ∙ id_text_lem (kind y) (kind_small y) in
+    let t = kind_here c two b y i.1 in
     append-nil (line ((68 ∷ []) ∷ dash ∷ decimal b ∷ ascii "kind" ∷ dash ∷ hex_pair (kind y) ∷ []))
-    ∙ (λ j. line ((68 ∷ []) ∷ dash ∷ sym v j ∷ ascii "kind" ∷ dash ∷ sym t j ∷ []))
+    ∙ (λ j. line ((68 ∷ []) ∷ dash ∷ decimal b ∷ ascii "kind" ∷ dash ∷ hex_pair (sym t j) ∷ []))
 besides_meant c one two a b (some x) none h i f g la lb =
-    let v = place_text_lem a la in
-    let t = ap id_text (kind_here c one a x h.1) ∙ id_text_lem (kind x) (kind_small x) in
+    let t = kind_here c one a x h.1 in
     append-nil (line ((68 ∷ []) ∷ decimal a ∷ dash ∷ ascii "kind" ∷ hex_pair (kind x) ∷ dash ∷ []))
-    ∙ (λ j. line ((68 ∷ []) ∷ sym v j ∷ dash ∷ ascii "kind" ∷ sym t j ∷ dash ∷ []))
+    ∙ (λ j. line ((68 ∷ []) ∷ decimal a ∷ dash ∷ ascii "kind" ∷ hex_pair (sym t j) ∷ dash ∷ []))
 besides_meant c one two a b (some x) (some y) h i f g la lb = pair_meant c one two a b x y h.1 i.1 f g la lb
 
 -- the descriptions

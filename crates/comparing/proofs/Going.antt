@@ -16,8 +16,8 @@ use Rattle.format.specs.Verdict.{Accepts, Verdict, accepted}
 use Rattle.format.specs.declared.pins.Chip.{Chip}
 use Rattle.format.specs.declared.settings.Settings.{Settings}
 use Rattle.format.specs.declared.records.Description.{Description}
-use Rattle.format.specs.declared.answers.Answer.{Answer}
-use Rattle.format.specs.declared.answers.Answer.TheVariants.{Accepted, Refused}
+use Rattle.format.specs.Answers.{Answer}
+use Rattle.format.specs.Answers.{Gives as Accepted, Refused}
 use Rattle.walking.specs.Walk.{Here, Walk}
 use Rattle.walking.proofs.Left.{top, next, onward, unfinished}
 use Rattle.spelling.specs.Spelling.{Put}
@@ -28,7 +28,7 @@ use Rattle.differing.proofs.Equal.{AllFair, fair}
 use Rattle.differing.proofs.Bound.{text_bound}
 use Rattle.comparing.specs.Rows.{rows_text}
 use Rattle.comparing.specs.Lines.{At, long, besides, besides_text, Compares, compared, second_refused}
-use Rattle.comparing.specs.declared.Outcome.TheVariants as outcome
+use Rattle.comparing.specs.Outcomes as outcome
 use Rattle.comparing.proofs.Midst.{Midst, begun, more, ended, room}
 use Rattle.comparing.proofs.Beside.{Fairly, besides_meant, descriptions_meant}
 

@@ -2,24 +2,19 @@
 -- Assumes nothing.
 use Prim.Native.Nat.{ℕ, suc, ◌+◌, ◌-◌, ◌*◌, ◌<◌, ◌≤◌}
 use native.Mathlib.Omega.{arith}
-use mathlib.Core.Path.{◌≡◌, refl, sym, ◌∙◌, ap, subst}
+use mathlib.Core.Path.{◌≡◌, sym, ◌∙◌, ap, subst}
 use mathlib.Core.Bool.{Bool, true, false, cond}
 use mathlib.Core.List.{List, [], ◌∷◌, ◌++◌, append_assoc}
 use lib.ListN.{length, length-append}
-use lib.Dec.{eqb}
 use borrow.Author.Tests.{eq-eqb, ne_eqb}
-use Rattle.spelling.specs.Spelling.{Put, decimal, dash}
+use Rattle.spelling.specs.Spelling.{Put, decimal}
 use Rattle.spelling.proofs.Putting.{then, put_none}
 use Rattle.listing.specs.Lines.{line}
 use Rattle.differing.specs.Fields.{hex, ascii}
 use Rattle.differing.specs.Differences.{same}
 use Rattle.differing.proofs.Bound.{hex_length}
 use Rattle.comparing.specs.Rows.{code_at, field_line, row_text, rows_text, part_text}
-use Rattle.comparing.specs.Lines.{place_text}
 use Rattle.comparing.proofs.Midst.{Midst, begun, more, ended, room}
-
-pub place_text_lem : (o : ℕ) → o ≤ 4096 → place_text o ≡ decimal o
-place_text_lem o h = rw (ne_eqb o 65535 (omega arith)) refl
 
 abbrev fronted : List ℕ → List ℕ → List ℕ
 fronted x y = 68 ∷ 9 ∷ [] ++ ((x ++ 9 ∷ []) ++ (y ++ 9 ∷ []))
@@ -32,38 +27,6 @@ pub behind :
     → Put c at (68 ∷ 9 ∷ [] ++ ((x ++ 9 ∷ []) ++ ((y ++ 9 ∷ []) ++ z))) r' e
 behind {c} {e = e} {at = at} {r' = r'} x y {z} p q =
     subst (λ (l : List ℕ). Put c at l r' e) (ap (λ (l : List ℕ). 68 ∷ 9 ∷ [] ++ l) (append_assoc (x ++ 9 ∷ []) (y ++ 9 ∷ []) z)) (then p q)
-
--- no offset of a table is 65535
-pub behind_both :
-    {c d e : List ℕ} {at r r' : ℕ} (a b : ℕ) {z : List ℕ}
-    → a ≤ 4096
-    → b ≤ 4096
-    → Put c at (fronted (place_text a) (place_text b)) r d
-    → Put d r z r' e
-    → Put c at (68 ∷ 9 ∷ [] ++ ((decimal a ++ 9 ∷ []) ++ ((decimal b ++ 9 ∷ []) ++ z))) r' e
-behind_both {c} {d} {at = at} {r = r} a b h k p q =
-    behind (decimal a) (decimal b)
-    (subst (λ (l : List ℕ). Put c at l r d) (λ i. fronted (place_text_lem a h i) (place_text_lem b k i)) p)
-    q
-
--- a number's text, or `-` where the number stands for the missing one, and what ends the field
-module _ (k : ℕ) (text : List ℕ) {n absent : ℕ} {c : List ℕ} {at end : ℕ} where
-  pub missing :
-      {d : List ℕ} {r : ℕ}
-      → n ≡ absent
-      → 1 ≤ k
-      → Put c at (45 ∷ end ∷ []) r d
-      → Put c at (cond (eqb n absent) dash text ++ end ∷ []) r d × (r ≤ at + (k + 1))
-  missing e l p = (rw (eq-eqb n absent e) p, omega (arith, p.ends))
-
-  pub present :
-      {d d' : List ℕ} {r r' : ℕ}
-      → (n ≡ absent → ⊥)
-      → Put c at text r d
-      → r ≤ at + k
-      → Put d r (end ∷ []) r' d'
-      → Put c at (cond (eqb n absent) dash text ++ end ∷ []) r' d' × (r' ≤ at + (k + 1))
-  present e p l q = (rw (ne_eqb n absent e) (then p q), omega (arith, q.ends))
 
 -- bytes in hex and what ends the field: where they end, and the buffer is as long as it was
 pub ended_length :
@@ -125,9 +88,6 @@ module _ (one two : List ℕ) (a b : ℕ) where
   module _ {c : List ℕ} {at from n to end : ℕ} {out : List ℕ} {i : ℕ} (w : Rowed c at from n to end out i) where
     pub rows_room : (end ≤ at + length (rows_text one two a b from n)) × (length out ≡ length c)
     rows_room = let r = room w.midst in (omega (arith, r.0), r.1)
-
-    pub row_below : i < to → i < 59
-    row_below h = omega (arith, w.top)
 
     next : i < to → rows_text one two a b i (to - i) ≡ row_text one two a b i ++ rows_text one two a b (i + 1) (to - (i + 1))
     next h = let e : to - i ≡ suc (to - (i + 1)) = omega arith in ap (λ (k : ℕ). rows_text one two a b i k) e

@@ -1,52 +1,53 @@
--- The letters between two starts are the name of the row: one test, computed over all rows.
+-- The names of the rows, and the rows of an identifier: each by one test, computed over all of them.
 -- Assumes nothing.
 use Prim.Native.Nat.{ℕ, ◌+◌, ◌<◌, ◌≤◌}
-use mathlib.Core.Path.{◌≡◌, refl}
+use mathlib.Core.Path.{◌≡◌, refl, sym, ◌∙◌, ap}
 use mathlib.Core.Bool.{Bool, true, ◌&&◌}
+use mathlib.Core.List.{List, [], map}
 use lib.ListN.{length, get_or}
-use lib.Seq.{slice}
+use native.Mathlib.Omega.{arith}
 use lib.Dec.{leb}
 use borrow.Author.Tests.{leb-true}
+use Rattle.std.proofs.lemmas.List.{get_or-map, length-map}
 use Rattle.format.proofs.Kept.{and-true}
 use Rattle.pinsets.proofs.Table.{all_to, at_below}
-use Rattle.differing.specs.Differences.{same}
-use Rattle.differing.proofs.Nothing.{same_true}
-use Rattle.comparing.specs.Rows.{names, firsts, counts, placeds, name_text}
-use Rattle.comparing.specs.Letters.{starts, letters}
+use Rattle.differing.specs.Fields.{ascii}
+use Rattle.comparing.specs.declared.rows.Row.{Row}
+use Rattle.comparing.specs.Rows.{names, ways, offsets, way_number, firsts, counts, placeds, name_text}
 
-abbrev from : ℕ → ℕ
-from i = get_or starts i 0
+short : ℕ → Bool
+short i = leb (length (name_text i)) 29
 
-abbrev right : ℕ → Bool
-right i =
-    same (name_text i) (slice (from i) (from (i + 1)) letters)
-    && (leb (from (i + 1)) 535 && (leb (from i) (from (i + 1)) && leb (length (name_text i)) 29))
+all_short : all_to 59 short ≡ true
+unfolding short names
+all_short = refl
 
-all_right_lem : all_to 59 right ≡ true
-unfolding names starts letters
-all_right_lem = refl
+-- what the constant holds
+module _ (table : List Row) (i : ℕ) (h : i < 59) where
+  module _ (is : map (λ (r : Row). r.0.now) table ≡ map ascii names) where
+    pub name_here : (d : Row) → (get_or table i d).0.now ≡ name_text i
+    unfolding names
+    name_here d =
+        let many : length table ≡ 59 = omega (arith, simp length-map at (ap length is)) in
+        sym (get_or-map (λ (r : Row). r.0.now) table i d [] (omega (arith, many)))
+        ∙ ap (λ (l : List (List ℕ)). get_or l i []) is
+        ∙ get_or-map ascii names i "" [] h
 
-pub record Named (i : ℕ) : Type 0 where
-  pub text : name_text i ≡ slice (get_or starts i 0) (get_or starts (i + 1) 0) letters
-  pub top : get_or starts (i + 1) 0 ≤ 535
-  pub rising : get_or starts i 0 ≤ get_or starts (i + 1) 0
-  pub long : length (name_text i) ≤ 29
+    pub name_short : (d : Row) → length (get_or table i d).0.now ≤ 29
+    unfolding short
+    name_short d = rw (name_here d) (leb-true (length (name_text i)) 29 (at_below 59 short all_short i h))
 
-pub letters_length : length letters ≡ 535
-unfolding letters names
-letters_length = refl
+  pub way_here : map (λ (r : Row). way_number r.1) table ≡ ways → (d : Row) → way_number (get_or table i d).1 ≡ get_or ways i 0
+  unfolding ways
+  way_here is d =
+      let many : length table ≡ 59 = omega (arith, simp length-map at (ap length is)) in
+      sym (get_or-map (λ (r : Row). way_number r.1) table i d 0 (omega (arith, many))) ∙ ap (λ (l : List ℕ). get_or l i 0) is
 
-pub named : (i : ℕ) → i < 59 → Named i
-named i h =
-    let p = and-true (same (name_text i) (slice (from i) (from (i + 1)) letters)) _ (at_below 59 right all_right_lem i h) in
-    let q = and-true (leb (from (i + 1)) 535) _ p.1 in
-    let r = and-true (leb (from i) (from (i + 1))) _ q.1 in
-    record {
-      text = same_true (name_text i) _ p.0;
-      top = leb-true (from (i + 1)) 535 q.0;
-      rising = leb-true (from i) (from (i + 1)) r.0;
-      long = leb-true (length (name_text i)) 29 r.1;
-    }
+  pub offset_here : map (λ (r : Row). r.2) table ≡ offsets → (d : Row) → (get_or table i d).2 ≡ get_or offsets i 0
+  unfolding offsets
+  offset_here is d =
+      let many : length table ≡ 59 = omega (arith, simp length-map at (ap length is)) in
+      sym (get_or-map (λ (r : Row). r.2) table i d 0 (omega (arith, many))) ∙ ap (λ (l : List ℕ). get_or l i 0) is
 
 -- the rows of an identifier are rows
 bounds : ℕ → Bool

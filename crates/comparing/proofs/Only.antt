@@ -7,15 +7,16 @@ use mathlib.Core.List.{List, ◌++◌}
 use lib.ListN.{length, take, drop, take-append-drop}
 use Rattle.format.specs.Slots.{Bytes}
 use Rattle.format.specs.declared.pins.Chip.{Chip}
-use Rattle.format.specs.declared.answers.Answer.TheVariants as answer
+use Rattle.format.specs.Answers as answer
+use Rattle.format.specs.Answers.{Answer}
 use Rattle.format.proofs.Asking.{never_both}
 use Rattle.format.proofs.Demand3.{unique, only_one_list}
 use Rattle.spelling.specs.Spelling.{Put}
 use Rattle.differing.specs.Differences.{differences, lines}
 use Rattle.differing.specs.Compared.{archived}
 use Rattle.comparing.specs.Lines.{Compares, compared, first_refused, second_refused}
-use Rattle.comparing.specs.declared.Outcome.{Outcome}
-use Rattle.comparing.specs.declared.Outcome.TheVariants as outcome
+use Rattle.comparing.specs.Outcomes.{Outcome}
+use Rattle.comparing.specs.Outcomes as outcome
 
 -- a text is put in one way
 put_once : (c s t : List ℕ) (at r r' : ℕ) (d e : List ℕ) → s ≡ t → Put c at s r d → Put c at t r' e → (r ≡ r') × (d ≡ e)
@@ -27,7 +28,7 @@ put_once c s t at r r' d e q p p' =
 
 module _ (c : Chip) (b b' buf : List ℕ) (small : Bytes b) (small' : Bytes b') where
   same_refusal :
-      (t : List ℕ) (w k p k' p' : ℕ) → Bytes t → Compares c b b' buf (outcome.Refused w k p) buf → answer.Refused k p ≡ answer.Refused k' p'
+      (t : List ℕ) (w k p k' p' : ℕ) → Bytes t → Compares c b b' buf (outcome.Refused w k p) buf → ◌≡◌ {A = Answer} (answer.Refused k p) (answer.Refused k' p')
       → outcome.Refused w k p ≡ outcome.Refused w k' p'
   same_refusal t w k p k' p' s v q = cc
 

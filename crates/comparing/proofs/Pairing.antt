@@ -21,6 +21,7 @@ use Rattle.spelling.specs.Spelling.{Put}
 use Rattle.spelling.proofs.Putting.{then, put_none}
 use Rattle.differing.specs.Differences.{kind}
 use Rattle.comparing.specs.Rows.{placeds, firsts, counts, rows_text, fields_text, part_text}
+use Rattle.std.specs.Prelude.{Some, None}
 use Rattle.comparing.specs.Lines.{kind_line, pair_text, besides_text, At}
 use Rattle.comparing.proofs.Naming.{bounded}
 
@@ -86,7 +87,7 @@ kind_small (rgb r) = omega arith
 -- a pair
 module _ (one two : List ℕ) (a b : ℕ) (p q : List ℕ) where
   abbrev choice : Bool → List ℕ
-  choice t = cond t (fields_text one two a b (byte one a) ++ part_text a b p q) (kind_line a b (byte one a) (byte two b))
+  choice t = cond t (fields_text one two a b (byte one a) ++ part_text a b p q) (kind_line (Some a) (Some b) (Some (byte one a)) (Some (byte two b)))
 
   pub of_one_kind : byte one a ≡ byte two b → pair_text one two a b p q ≡ fields_text one two a b (byte one a) ++ part_text a b p q
   of_one_kind e = ap choice (eq-eqb (byte one a) (byte two b) e)
@@ -94,7 +95,7 @@ module _ (one two : List ℕ) (a b : ℕ) (p q : List ℕ) where
   pub of_two_kinds :
       {c d : List ℕ} {at r : ℕ}
       → (byte one a ≡ byte two b → ⊥)
-      → Put c at (kind_line a b (byte one a) (byte two b)) r d
+      → Put c at (kind_line (Some a) (Some b) (Some (byte one a)) (Some (byte two b))) r d
       → Put c at (pair_text one two a b p q) r d
   of_two_kinds {c} {d} {at} {r} n put = subst (λ (l : List ℕ). Put c at l r d) (sym (ap choice (ne_eqb (byte one a) (byte two b) n))) put
 
@@ -170,7 +171,7 @@ module _ (one two : List ℕ) (a b : ℕ) where
     pub first_there :
         a < length one
         → length two ≤ b
-        → Put buf at (kind_line a 65535 (byte one a) 255) r out
+        → Put buf at (kind_line (Some a) None (Some (byte one a)) None) r out
         → Put buf at (besides_text one two a b x y) r out
     first_there i j put = go x y h k
       where
@@ -182,7 +183,7 @@ module _ (one two : List ℕ) (a b : ℕ) where
     pub second_there :
         length one ≤ a
         → b < length two
-        → Put buf at (kind_line 65535 b 255 (byte two b)) r out
+        → Put buf at (kind_line None (Some b) None (Some (byte two b))) r out
         → Put buf at (besides_text one two a b x y) r out
     second_there i j put = go x y h k
       where

@@ -1,3 +1,3 @@
+pub mod Outcomes
 pub mod Rows
-pub mod Letters
 pub mod Lines

@@ -6,6 +6,8 @@ use Rattle.format.specs.Slots.{byte}
 use Rattle.spelling.specs.Spelling.{decimal, pin_or_dash}
 use Rattle.listing.specs.Lines.{line}
 use Rattle.differing.specs.Fields.{hex, ascii}
+use Rattle.comparing.specs.declared.rows.Way.{Way}
+use Rattle.comparing.specs.declared.rows.Way.TheVariants.{Byte, LowNibble, HighNibble, Word, Pin, Address, Triple, TopBit, LowBits}
 use Rattle.differing.specs.Differences.{same}
 
 -- How a field stands at its offset: 0 the byte; 1 bits 3-0; 2 bits 7-4; 3 two bytes; 4 a pin; 5 BUS TYPE, and the address behind it;
@@ -51,6 +53,18 @@ pin_code p = 16777216 + p
 
 abbrev pub code_text : ℕ → List ℕ
 code_text n = cond (ltb n 16777216) (decimal n) (pin_or_dash (n - 16777216))
+
+-- the number of a way
+abbrev pub way_number : Way → ℕ
+way_number Byte = 0
+way_number LowNibble = 1
+way_number HighNibble = 2
+way_number Word = 3
+way_number Pin = 4
+way_number Address = 5
+way_number Triple = 6
+way_number TopBit = 7
+way_number LowBits = 8
 
 -- the content of a field, from the three bytes at its offset
 unfoldable pub reading : ℕ → ℕ → ℕ → ℕ → ℕ

@@ -1,6 +1,7 @@
 // Two tables side by side: what differs between them, as text in a lent buffer.
 #![tactic(auto)]
 
+ghost use Rattle.comparing.specs.Outcomes.{which_number, outcome_of};
 ghost use Rattle.std.specs.Prelude.{◌≡◌, ◌+◌, ◌≤◌, length};
 ghost use Rattle.std.proofs.Math.Option.{Option};
 ghost use Rattle.format.specs.Slots.{written};
@@ -13,37 +14,57 @@ ghost use Rattle.differing.specs.Compared.{archived};
 ghost use Rattle.comparing.specs.Lines.{At, long, pair_text, besides_text, Compares};
 
 mod lines;
-mod names;
 mod rows;
 
-use format::answers::Answer;
+use format::answers::Refusal;
 use format::pins::Chip;
 use format::settings::{Rules, Settings};
 use lines::{put_fields, put_kind, put_part, put_rows};
 use walking::{length_at, part_at};
 use words::wide;
 
-// How long the text is; or which table is refused, with the number and the place.
+// Which of the two tables.
 #[derive(Clone, Copy)]
-pub enum Outcome {
-    Text(usize),
-    Refused(u8, u8, usize),
+pub enum Which {
+    First,
+    Second,
+}
+
+// A table that is refused.
+#[derive(Clone, Copy)]
+pub struct RefusedTable {
+    pub which: Which,
+    pub refusal: Refusal,
+}
+
+impl Which {
+    pub fn number(self) -> u8
+        ensures { result ≡ which_number self }
+    {
+        match self {
+            Which::First => 1,
+            Which::Second => 2,
+        }
+    }
 }
 
 // Puts what differs between two tables at the front of the buffer. No text is longer than 59,016 bytes.
-pub fn compare(one: &[u8], two: &[u8], out: &mut [u8; 65536], chip: Chip) -> Outcome
-    ensures { Compares chip one.now two.now out.old result out.new }
+pub fn compare(
+    one: &[u8],
+    two: &[u8],
+    out: &mut [u8; 65536],
+    chip: Chip,
+) -> Result<usize, RefusedTable>
+    ensures { Compares chip one.now two.now out.old (outcome_of result) out.new }
 {
-    let answer = reader::check(one, archived(chip));
-    let Answer::Accepted(_) = answer else {
-        let r = reader::handed_on(answer);
-        return Outcome::Refused(1, r.number, r.place);
-    };
-    let other = reader::check(two, archived(chip));
-    let Answer::Accepted(_) = other else {
-        let r = reader::handed_on(other);
-        return Outcome::Refused(2, r.number, r.place);
-    };
+    if let Err(refusal) = reader::check(one, archived(chip)) {
+        let which = Which::First;
+        return Err(RefusedTable { which, refusal });
+    }
+    if let Err(refusal) = reader::check(two, archived(chip)) {
+        let which = Which::Second;
+        return Err(RefusedTable { which, refusal });
+    }
     let mut end = put_rows(out, 0, one, two, 0, 0, 5, 8);
     let mut a: usize = 16;
     let mut b: usize = 16;
@@ -52,7 +73,7 @@ pub fn compare(one: &[u8], two: &[u8], out: &mut [u8; 65536], chip: Chip) -> Out
         a = after(one, a);
         b = after(two, b);
     }
-    Outcome::Text(end)
+    Ok(end)
 }
 
 // One chip for both tables, and the archive's rules.
@@ -87,10 +108,10 @@ fn put_next(out: &mut [u8], at: usize, one: &[u8], two: &[u8], a: usize, b: usiz
         if b < two.len() {
             return put_pair(out, at, one, two, a, b);
         }
-        return put_kind(out, at, a, 65535, one[a], 255);
+        return put_kind(out, at, Some(a), None, Some(one[a]), None);
     }
     if b < two.len() {
-        return put_kind(out, at, 65535, b, 255, two[b]);
+        return put_kind(out, at, None, Some(b), None, Some(two[b]));
     }
     at
 }
@@ -109,5 +130,5 @@ fn put_pair(out: &mut [u8], at: usize, one: &[u8], two: &[u8], a: usize, b: usiz
         let e = put_fields(out, at, one, two, a, b, wide(k));
         return put_part(out, e, a, b, part_at(one, a), part_at(two, b));
     }
-    put_kind(out, at, a, b, k, l)
+    put_kind(out, at, Some(a), Some(b), Some(k), Some(l))
 }

@@ -2,13 +2,12 @@
 ghost use Rattle.std.specs.Prelude.{◌≡◌, [], ◌∷◌, ◌++◌, ◌+◌, ◌*◌, ◌<◌, ◌≤◌, length};
 ghost use Rattle.spelling.specs.Spelling.{Put};
 ghost use Rattle.differing.specs.Fields.{hex};
-ghost use Rattle.differing.specs.Differences.{same};
 ghost use Rattle.comparing.specs.Rows.{code_text, field_line, row_text, rows_text, fields_text, part_text};
 ghost use Rattle.comparing.specs.Lines.{place_text, id_text, kind_line};
 
-use crate::names::put_name;
-use crate::rows::{content, count, first, placed};
+use crate::rows::{COUNTS, FIRSTS, PLACEDS, content, name};
 use spelling::{put, put_decimal, put_hex, put_pin_or_dash};
+use words::wide;
 
 // One byte.
 fn put_byte(out: &mut [u8], at: usize, b: u8) -> usize
@@ -26,48 +25,55 @@ fn put_dash(out: &mut [u8], at: usize, end: u8) -> usize
     put(out, at, &[45, end])
 }
 
-// An offset and a tab; 65535 stands for the missing one.
-fn put_place(out: &mut [u8], at: usize, o: usize) -> usize
+// An offset and a tab, or `-` for the missing one.
+fn put_place(out: &mut [u8], at: usize, place: Option<usize>) -> usize
     requires { at + 9 ≤ length out.old }
-    ensures { Put out.old at (place_text o ++ 9 ∷ []) result out.new × (result ≤ at + 9) }
+    ensures { Put out.old at (place_text place ++ 9 ∷ []) result out.new × (result ≤ at + 9) }
 {
-    if o == 65535 {
+    let Some(offset) = place else {
         return put_dash(out, at, 9);
-    }
-    let a = put_decimal(out, at, o);
+    };
+    let a = put_decimal(out, at, offset);
     put_byte(out, a, 9)
 }
 
-// An identifier and what ends the field; 255 stands for the missing one.
-fn put_id(out: &mut [u8], at: usize, id: u8, end: u8) -> usize
+// An identifier, or `-` for the missing one, and what ends the field.
+fn put_id(out: &mut [u8], at: usize, kind: Option<u8>, end: u8) -> usize
     requires { at + 3 ≤ length out.old }
-    ensures { Put out.old at (id_text id ++ end ∷ []) result out.new × (result ≤ at + 3) }
+    ensures { Put out.old at (id_text kind ++ end ∷ []) result out.new × (result ≤ at + 3) }
 {
-    if id == 255 {
+    let Some(id) = kind else {
         return put_dash(out, at, end);
-    }
+    };
     let a = put_hex(out, at, id);
     put_byte(out, a, end)
 }
 
 // The line of two kinds, or of an element without a partner.
-pub fn put_kind(out: &mut [u8], at: usize, a: usize, b: usize, k: u8, l: u8) -> usize
+pub fn put_kind(
+    out: &mut [u8],
+    at: usize,
+    a: Option<usize>,
+    b: Option<usize>,
+    k: Option<u8>,
+    l: Option<u8>,
+) -> usize
     requires { at + 60 ≤ length out.old }
     ensures { Put out.old at (kind_line a b k l) result out.new }
 {
     let e = put_front(out, at, a, b);
-    let f = put(out, e, &[107, 105, 110, 100, 9]);
+    let f = put(out, e, b"kind\t");
     let g = put_id(out, f, k, 9);
     put_id(out, g, l, 10)
 }
 
 // `D` and both offsets, a tab behind each.
-fn put_front(out: &mut [u8], at: usize, a: usize, b: usize) -> usize
+fn put_front(out: &mut [u8], at: usize, a: Option<usize>, b: Option<usize>) -> usize
     requires { at + 20 ≤ length out.old }
     ensures { Put out.old at (68 ∷ 9 ∷ [] ++ ((place_text a ++ 9 ∷ []) ++ (place_text b ++ 9 ∷ []))) result out.new
         × (result ≤ at + 20) }
 {
-    let e = put(out, at, &[68, 9]);
+    let e = put(out, at, b"D\t");
     let f = put_place(out, e, a);
     put_place(out, f, b)
 }
@@ -90,8 +96,8 @@ fn put_field(out: &mut [u8], at: usize, a: usize, b: usize, i: usize, v: usize, 
     requires { (at + 68 ≤ length out.old) × (a ≤ 4096) × (b ≤ 4096) × (i < 59) × (v < 16777472) × (w < 16777472) }
     ensures { Put out.old at (field_line a b i v w) result out.new }
 {
-    let e = put_front(out, at, a, b);
-    let f = put_name(out, e, i);
+    let e = put_front(out, at, Some(a), Some(b));
+    let f = put(out, e, name(i).as_bytes());
     let g = put_byte(out, f, 9);
     let h = put_content(out, g, v, 9);
     put_content(out, h, w, 10)
@@ -125,12 +131,9 @@ pub fn put_rows(
         × (from + n ≤ 59) }
     ensures { Put out.old at (rows_text one.now two.now a b from n) result out.new }
 {
-    let to = from + n;
-    let mut i = from;
     let mut end = at;
-    while i < to {
+    for i in from..from + n {
         end = put_row(out, end, one, two, a, b, i);
-        i += 1;
     }
     end
 }
@@ -148,8 +151,11 @@ pub fn put_fields(
     requires { (at + length (fields_text one.now two.now a b id) + 68 ≤ length out.old) × (a ≤ 4096) × (b ≤ 4096) × (id < 15) }
     ensures { Put out.old at (fields_text one.now two.now a b id) result out.new }
 {
-    let e = put_rows(out, at, one, two, a, b, 0, placed(id));
-    put_rows(out, e, one, two, a, b, first(id), count(id))
+    let placed = wide(PLACEDS[id]);
+    let first = wide(FIRSTS[id]);
+    let count = wide(COUNTS[id]);
+    let e = put_rows(out, at, one, two, a, b, 0, placed);
+    put_rows(out, e, one, two, a, b, first, count)
 }
 
 // Bytes in capital hex digits.
@@ -157,11 +163,9 @@ fn put_bytes(out: &mut [u8], at: usize, p: &[u8]) -> usize
     requires { at + 2 * length p.now ≤ length out.old }
     ensures { Put out.old at (hex p.now) result out.new }
 {
-    let mut i: usize = 0;
     let mut end = at;
-    while i < p.len() {
-        end = put_hex(out, end, p[i]);
-        i += 1;
+    for b in p {
+        end = put_hex(out, end, *b);
     }
     end
 }
@@ -175,39 +179,16 @@ fn put_ended(out: &mut [u8], at: usize, p: &[u8], end: u8) -> usize
     put_byte(out, e, end)
 }
 
-// Whether two parts are the same.
-fn alike(p: &[u8], q: &[u8]) -> bool
-    ensures { result ≡ same p.now q.now }
-{
-    if p.len() != q.len() {
-        return false;
-    }
-    let mut i: usize = 0;
-    while i < p.len() {
-        if p[i] != q[i] {
-            return false;
-        }
-        i += 1;
-    }
-    true
-}
-
 // The line of two variable parts.
 pub fn put_part(out: &mut [u8], at: usize, a: usize, b: usize, p: &[u8], q: &[u8]) -> usize
     requires { (at + length (part_text a b p.now q.now) + 68 ≤ length out.old) × (a ≤ 4096) × (b ≤ 4096) }
     ensures { Put out.old at (part_text a b p.now q.now) result out.new }
 {
-    if alike(p, q) {
+    if p == q {
         return at;
     }
-    let e = put_front(out, at, a, b);
-    let f = put(
-        out,
-        e,
-        &[
-            118, 97, 114, 105, 97, 98, 108, 101, 32, 112, 97, 114, 116, 9,
-        ],
-    );
+    let e = put_front(out, at, Some(a), Some(b));
+    let f = put(out, e, b"variable part\t");
     let g = put_ended(out, f, p, 9);
     put_ended(out, g, q, 10)
 }

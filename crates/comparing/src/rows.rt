@@ -1,33 +1,112 @@
 // The fields of each kind as rows of a constant table: how a field stands in the bytes, its offset, its name.
-ghost use Rattle.std.specs.Prelude.{◌≡◌, ◌+◌, ◌<◌, ◌≤◌, get_or};
+ghost use Rattle.std.specs.Prelude.{◌≡◌, ◌+◌, ◌<◌, ◌≤◌, length, get_or};
 ghost use Rattle.format.specs.Slots.{byte};
-ghost use Rattle.comparing.specs.Rows.{ways, offsets, firsts, counts, placeds, reading, code_at};
+ghost use Rattle.comparing.specs.Rows.{ways, offsets, way_number, reading, code_at, name_text};
 
 use words::wide;
 
-const WAYS: [u8; 59] = [
-    0, 0, 0, 0, 0, 0, 0, 6, 7, 8, 4, 4, 4, 1, 5, 3, 3, 3, 0, 3, 0, 1, 4, 3, 3, 3, 3, 3, 4, 4, 0, 3,
-    3, 0, 4, 2, 1, 4, 2, 1, 4, 2, 1, 4, 3, 3, 3, 4, 0, 0, 4, 3, 3, 1, 5, 0, 4, 4, 4,
+// How a field stands in the bytes at its offset.
+#[derive(Clone, Copy)]
+pub enum Way {
+    Byte,
+    LowNibble,
+    HighNibble,
+    Word,
+    Pin,
+    // An address, of which another byte is read, by the bus before it.
+    Address,
+    Triple,
+    TopBit,
+    LowBits,
+}
+
+// A field: its name, how it stands in the bytes, and at which offset.
+#[derive(Clone, Copy)]
+struct Row(&'static str, Way, u8);
+
+const ROWS: [Row; 59] = [
+    Row("string index", Way::Byte, 3),
+    Row("x pos", Way::Byte, 4),
+    Row("y pos", Way::Byte, 5),
+    Row("z pos", Way::Byte, 6),
+    Row("zone identifier", Way::Byte, 7),
+    Row("esa device type", Way::Byte, 3),
+    Row("string index", Way::Byte, 4),
+    Row("serial number", Way::Triple, 5),
+    Row("spwr", Way::TopBit, 8),
+    Row("power units", Way::LowBits, 8),
+    Row("hardware revision 0", Way::Pin, 9),
+    Row("hardware revision 1", Way::Pin, 10),
+    Row("hardware revision 2", Way::Pin, 11),
+    Row("bus type", Way::LowNibble, 8),
+    Row("device address", Way::Address, 8),
+    Row("temperature lsb read register", Way::Word, 11),
+    Row("temperature msb read register", Way::Word, 13),
+    Row("minimum value", Way::Word, 15),
+    Row("minimum temp", Way::Byte, 17),
+    Row("maximum value", Way::Word, 18),
+    Row("maximum temp", Way::Byte, 20),
+    Row("thermal analog type", Way::LowNibble, 8),
+    Row("pin", Way::Pin, 9),
+    Row("value0", Way::Word, 10),
+    Row("value25", Way::Word, 12),
+    Row("value50", Way::Word, 14),
+    Row("value75", Way::Word, 16),
+    Row("value100", Way::Word, 18),
+    Row("pwm", Way::Pin, 8),
+    Row("tach", Way::Pin, 9),
+    Row("ppr", Way::Byte, 10),
+    Row("minimum rpm", Way::Word, 11),
+    Row("maximum rpm", Way::Word, 13),
+    Row("minimum duty cycle", Way::Byte, 15),
+    Row("pin1", Way::Pin, 8),
+    Row("color1", Way::HighNibble, 9),
+    Row("purpose1", Way::LowNibble, 9),
+    Row("pin2", Way::Pin, 10),
+    Row("color2", Way::HighNibble, 11),
+    Row("purpose2", Way::LowNibble, 11),
+    Row("pin3", Way::Pin, 12),
+    Row("color3", Way::HighNibble, 13),
+    Row("purpose3", Way::LowNibble, 13),
+    Row("pin", Way::Pin, 8),
+    Row("full", Way::Word, 9),
+    Row("empty", Way::Word, 11),
+    Row("warning", Way::Word, 13),
+    Row("pin", Way::Pin, 8),
+    Row("vmax", Way::Byte, 9),
+    Row("vmin", Way::Byte, 10),
+    Row("pin", Way::Pin, 8),
+    Row("imin", Way::Word, 10),
+    Row("imax", Way::Word, 12),
+    Row("bus type", Way::LowNibble, 8),
+    Row("device address", Way::Address, 8),
+    Row("chip identifier", Way::Byte, 11),
+    Row("red", Way::Pin, 8),
+    Row("green", Way::Pin, 9),
+    Row("blue", Way::Pin, 10),
 ];
 
-const OFFSETS: [u8; 59] = [
-    3, 4, 5, 6, 7, 3, 4, 5, 8, 8, 9, 10, 11, 8, 8, 11, 13, 15, 17, 18, 20, 8, 9, 10, 12, 14, 16,
-    18, 8, 9, 10, 11, 13, 15, 8, 9, 9, 10, 11, 11, 12, 13, 13, 8, 9, 11, 13, 8, 9, 10, 8, 10, 12,
-    8, 8, 11, 8, 9, 10,
-];
+// The first of a kind's own rows, how many they are, and how many rows it has before them.
+pub const FIRSTS: [u8; 15] = [0, 13, 21, 28, 34, 43, 28, 47, 50, 13, 13, 0, 0, 53, 56];
 
-const FIRSTS: [u8; 15] = [0, 13, 21, 28, 34, 43, 28, 47, 50, 13, 13, 0, 0, 53, 56];
+pub const COUNTS: [u8; 15] = [0, 8, 7, 6, 9, 4, 6, 3, 3, 2, 2, 0, 0, 3, 3];
 
-const COUNTS: [u8; 15] = [0, 8, 7, 6, 9, 4, 6, 3, 3, 2, 2, 0, 0, 3, 3];
+pub const PLACEDS: [u8; 15] = [0, 5, 5, 5, 5, 5, 5, 5, 5, 5, 5, 0, 0, 5, 5];
 
-const PLACEDS: [u8; 15] = [0, 5, 5, 5, 5, 5, 5, 5, 5, 5, 5, 0, 0, 5, 5];
+// A row's name.
+pub fn name(i: usize) -> &'static str
+    requires { i < 59 }
+    ensures { (result.now ≡ name_text i) × (length result.now ≤ 29) }
+{
+    ROWS[i].0
+}
 
 // How a row's field stands in the bytes.
-fn way(i: usize) -> u8
+fn way_of(i: usize) -> Way
     requires { i < 59 }
-    ensures { result ≡ get_or ways i 0 }
+    ensures { way_number result ≡ get_or ways i 0 }
 {
-    WAYS[i]
+    ROWS[i].1
 }
 
 // A row's offset.
@@ -35,58 +114,31 @@ fn offset(i: usize) -> usize
     requires { i < 59 }
     ensures { (result ≡ get_or offsets i 0) × (result < 256) }
 {
-    wide(OFFSETS[i])
-}
-
-// The first of a kind's own rows.
-pub fn first(id: usize) -> usize
-    requires { id < 15 }
-    ensures { (result ≡ get_or firsts id 0) × (result < 256) }
-{
-    wide(FIRSTS[id])
-}
-
-// How many they are.
-pub fn count(id: usize) -> usize
-    requires { id < 15 }
-    ensures { (result ≡ get_or counts id 0) × (result < 256) }
-{
-    wide(COUNTS[id])
-}
-
-// How many rows it has before them.
-pub fn placed(id: usize) -> usize
-    requires { id < 15 }
-    ensures { (result ≡ get_or placeds id 0) × (result < 256) }
-{
-    wide(PLACEDS[id])
+    wide(ROWS[i].2)
 }
 
 // The byte at a place, 0 past the end.
 fn at_or_zero(t: &[u8], k: usize) -> usize
     ensures { (result ≡ byte t.now k) × (result < 256) }
 {
-    if k < t.len() {
-        return wide(t[k]);
-    }
-    0
+    wide(t.get(k).copied().unwrap_or(0))
 }
 
 // The content of three bytes.
-fn read(w: u8, x: usize, y: usize, z: usize) -> usize
+fn read(w: Way, x: usize, y: usize, z: usize) -> usize
     requires { (x < 256) × (y < 256) × (z < 256) }
-    ensures { (result ≡ reading w x y z) × (result < 16777472) }
+    ensures { (result ≡ reading (way_number w) x y z) × (result < 16777472) }
 {
     match w {
-        0 => x,
-        1 => x % 16,
-        2 => x / 16,
-        3 => x + 256 * y,
-        4 => 16777216 + x,
-        5 => if x % 16 == 3 { 16777216 + y } else { y / 2 },
-        6 => x + 256 * y + 65536 * z,
-        7 => x / 128,
-        _ => x % 128,
+        Way::Byte => x,
+        Way::LowNibble => x % 16,
+        Way::HighNibble => x / 16,
+        Way::Word => x + 256 * y,
+        Way::Pin => 16777216 + x,
+        Way::Address => if x % 16 == 3 { 16777216 + y } else { y / 2 },
+        Way::Triple => x + 256 * y + 65536 * z,
+        Way::TopBit => x / 128,
+        Way::LowBits => x % 128,
     }
 }
 
@@ -99,5 +151,5 @@ pub fn content(t: &[u8], at: usize, i: usize) -> usize
     let x = at_or_zero(t, k);
     let y = at_or_zero(t, k + 1);
     let z = at_or_zero(t, k + 2);
-    read(way(i), x, y, z)
+    read(way_of(i), x, y, z)
 }

@@ -9,6 +9,7 @@ use mathlib.Core.List.{List, [], ◌∷◌}
 use lib.ListN.{length, get_or, drop, drop_of_length-le}
 use lib.Seq.{drop-cons}
 use borrow.Author.Tests.{ltb-true, ltb-false, lt-ltb}
+use Rattle.std.specs.Prelude.{Ok}
 use Rattle.converting.specs.Outcomes.{tenths}
 use Rattle.converting.specs.Conversions.{apart, after, strict}
 use Rattle.converting.specs.Formula.{step, walk}
@@ -66,7 +67,7 @@ module _ (up : Bool) (c : ℕ) (ps : List ℕ) (five : length ps ≡ 5) where
       → tenths (step (250 * i) (get_or ps i 0) (get_or ps (i + 1) 0) c) ≡ walk up 0 ps c
   met i x l h = rw (two i l, h) at x.rest
 
-  ended : (i : ℕ) → Left up c ps i → 4 ≤ i → Over ≡ walk up 0 ps c
+  ended : (i : ℕ) → Left up c ps i → 4 ≤ i → Ok Over ≡ walk up 0 ps c
   ended i x l =
       let e : drop i ps ≡ get_or ps i 0 ∷ [] = drop-cons ps i 0 (omega arith)
       ∙ ap (λ (l : List ℕ). get_or ps i 0 ∷ l) (drop_of_length-le ps {i = suc i} (omega arith)) in
@@ -87,7 +88,7 @@ module _ (up : Bool) (c : ℕ) (ps : List ℕ) (five : length ps ≡ 5) where
         turned 2 (turned 1 (turned 0 (begun h) (omega arith) (earlier 1 (omega arith) d)) (omega arith) d) (omega arith) e
 
     -- behind the last
-    pub over_last : after up c (get_or ps 0 0) ≡ false → after up (get_or ps 4 0) c ≡ true → Over ≡ walk up 0 ps c
+    pub over_last : after up c (get_or ps 0 0) ≡ false → after up (get_or ps 4 0) c ≡ true → Ok Over ≡ walk up 0 ps c
     over_last h e = ended 4 (turned 3 (three_on h (earlier 3 (omega arith) e)) (omega arith) e) (omega arith)
 
     -- THE INTERVAL: as many points as the count comes after

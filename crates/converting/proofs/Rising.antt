@@ -6,10 +6,12 @@ use mathlib.Core.Path.{◌≡◌, refl, sym, ◌∙◌}
 use mathlib.Core.Bool.{Bool, true, false, cond, false≢true}
 use mathlib.Core.List.{List, [], ◌∷◌}
 use borrow.Author.Tests.{ltb-true, ltb-false, lt-ltb, le-ltb}
+use Rattle.std.specs.Prelude.{Result, Ok}
 use Rattle.converting.specs.Outcomes.{tenths}
 use Rattle.converting.specs.Conversions.{points, apart, after, strict, Temperature}
 use Rattle.converting.specs.Formula.{step, walk, course}
 use Rattle.converting.specs.Hotter.{NotHotter, from_under, to_over, by_tenths}
+use Rattle.format.specs.declared.answers.Rule.{Rule}
 use Rattle.converting.specs.declared.Converted.{Converted}
 use Rattle.converting.specs.declared.Converted.TheVariants.{Under}
 use Rattle.converting.specs.declared.Calibration.{Calibration}
@@ -103,14 +105,14 @@ module _ (up : Bool) (c d : ℕ) (order : after up d c ≡ false) where
           (t u : Bool)
           → after up c a ≡ t
           → after up d a ≡ u
-          → NotHotter (cond t Under (walk up 0 (a ∷ ps) c)) (cond u Under (walk up 0 (a ∷ ps) d))
+          → NotHotter (cond t (Ok Under) (walk up 0 (a ∷ ps) c)) (cond u (Ok Under) (walk up 0 (a ∷ ps) d))
       by_tests true u e f = from_under
       by_tests false true e f = absurd (false≢true (sym e ∙ before_too a f))
       by_tests false false e f = walk_rises 0 a ps str e
 
 -- along the calibration, whichever way it goes
 along :
-    {p : Calibration} {c d : ℕ} {r q : Converted} (up : Bool)
+    {p : Calibration} {c d : ℕ} {r q : Result Converted Rule} (up : Bool)
     → strict up (points p) ≡ true
     → after up d c ≡ false
     → c ≤ 1023
@@ -123,7 +125,7 @@ along {p} {c} {d} up str order l m x y =
     (course_rises up c d order p.at0.0 (p.at25.0 ∷ p.at50.0 ∷ p.at75.0 ∷ p.at100.0 ∷ []) str)
 
 -- of two counts the greater is no colder where the calibration rises, and no hotter where it falls
-module _ {p : Calibration} {c d : ℕ} {r q : Converted} (order : c ≤ d) (scale : d ≤ 1023) (x : Temperature p c r)
+module _ {p : Calibration} {c d : ℕ} {r q : Result Converted Rule} (order : c ≤ d) (scale : d ≤ 1023) (x : Temperature p c r)
     (y : Temperature p d q) where
   pub rises : strict true (points p) ≡ true → NotHotter r q
   rises str = along true str (le-ltb d c order) (omega arith) scale x y

@@ -10,9 +10,10 @@ ghost use Rattle.converting.specs.Formula.{step, course, temperature_of, meant};
 pub mod units;
 
 use crate::units::{ReadRpm, Tenths};
+use format::answers::Rule;
 use format::units::{Counts, Deciamps, Decivolts};
 
-// What a count is read as, with its unit.
+// What a count is read as, with its unit; or that it lies under 0 or over 100 degrees.
 #[derive(Clone, Copy)]
 pub enum Converted {
     Temperature(Tenths),
@@ -21,7 +22,6 @@ pub enum Converted {
     Speed(ReadRpm),
     Under,
     Over,
-    Refused(u8),
 }
 
 // The same as plain numbers, for text and tallies.
@@ -30,21 +30,19 @@ pub enum Outcome {
     Reading(u32),
     Under,
     Over,
-    Refused(u8),
 }
 
-pub fn told(answer: Converted) -> Outcome
+pub fn told(answer: Result<Converted, Rule>) -> Result<Outcome, Rule>
     ensures { result ≡ outcome_of answer }
 {
-    match answer {
-        Converted::Temperature(t) => Outcome::Reading(t.0 as u32),
-        Converted::Current(c) => Outcome::Reading(c.0 as u32),
-        Converted::Voltage(v) => Outcome::Reading(v.0 as u32),
+    Ok(match answer? {
+        Converted::Temperature(t) => Outcome::Reading(u32::from(t.0)),
+        Converted::Current(c) => Outcome::Reading(u32::from(c.0)),
+        Converted::Voltage(v) => Outcome::Reading(u32::from(v.0)),
         Converted::Speed(s) => Outcome::Reading(s.0),
         Converted::Under => Outcome::Under,
         Converted::Over => Outcome::Over,
-        Converted::Refused(number) => Outcome::Refused(number),
-    }
+    })
 }
 
 // The converter's counts at 0, 25, 50, 75 and 100 degrees.
@@ -65,35 +63,35 @@ fn between(low: u16, high: u16, count: u32) -> u16
     ((2 * ((low as u32) * (1023 - count) + (high as u32) * count) + 1023) / 2046) as u16
 }
 
-pub fn current(imin: Deciamps, imax: Deciamps, count: u32) -> Converted
+pub fn current(imin: Deciamps, imax: Deciamps, count: u32) -> Result<Converted, Rule>
     ensures { Linear deciamps imin.0 imax.0 count result }
 {
     if 1023 < count {
-        return Converted::Refused(18);
+        return Err(Rule::NoReading);
     }
-    Converted::Current(Deciamps(between(imin.0, imax.0, count)))
+    Ok(Converted::Current(Deciamps(between(imin.0, imax.0, count))))
 }
 
-pub fn voltage(vmin: Decivolts, vmax: Decivolts, count: u32) -> Converted
+pub fn voltage(vmin: Decivolts, vmax: Decivolts, count: u32) -> Result<Converted, Rule>
     ensures { Linear decivolts vmin.0 vmax.0 count result }
 {
     if 1023 < count {
-        return Converted::Refused(18);
+        return Err(Rule::NoReading);
     }
-    Converted::Voltage(Decivolts(between(vmin.0 as u16, vmax.0 as u16, count) as u8))
+    Ok(Converted::Voltage(Decivolts(between(u16::from(vmin.0), u16::from(vmax.0), count) as u8)))
 }
 
 // Of the pulses in one second.
-pub fn speed(ppr: u8, pulses: u32) -> Converted
+pub fn speed(ppr: u8, pulses: u32) -> Result<Converted, Rule>
     ensures { Speed ppr pulses result }
 {
     if 65535 < pulses {
-        return Converted::Refused(19);
+        return Err(Rule::TraceLine);
     }
     if ppr == 0 {
-        return Converted::Refused(18);
+        return Err(Rule::NoReading);
     }
-    Converted::Speed(ReadRpm(60 * pulses / (ppr as u32)))
+    Ok(Converted::Speed(ReadRpm(60 * pulses / u32::from(ppr))))
 }
 
 fn after(up: bool, a: u16, b: u16) -> bool
@@ -113,11 +111,7 @@ fn strict(up: bool, p: Calibration) -> bool
 fn apart(a: u16, b: u16) -> u32
     ensures { (result ≡ apart a b) × (result ≤ 65535) }
 {
-    if a < b {
-        (b - a) as u32
-    } else {
-        (a - b) as u32
-    }
+    u32::from(a.abs_diff(b))
 }
 
 // A count between two neighbouring points, of which the first stands at s tenths.
@@ -133,10 +127,7 @@ fn step(s: u32, a: u16, b: u16, c: u16) -> Tenths
 fn passed(up: bool, b: u16, c: u16) -> usize
     ensures { (result ≡ cond (after up b c) 1 0) × (result ≤ 1) }
 {
-    if after(up, b, c) {
-        return 1;
-    }
-    0
+    if after(up, b, c) { 1 } else { 0 }
 }
 
 // A count along a calibration that goes one way: in the interval behind the points that it comes after, which are counted and not
@@ -173,26 +164,23 @@ pub fn coded(p: Calibration, c: u16) -> u16
 }
 
 // What such a number means.
-pub fn meaning(t: u16) -> Converted
+#[tactic(auto, unfolding(crate::specs::Formula::meant))]
+pub fn meaning(t: u16) -> Result<Converted, Rule>
     ensures { result ≡ meant t }
 {
-    if t <= 1000 {
-        return Converted::Temperature(Tenths(t));
+    match t {
+        0..=1000 => Ok(Converted::Temperature(Tenths(t))),
+        1001 => Ok(Converted::Under),
+        1002 => Ok(Converted::Over),
+        _ => Err(Rule::NoReading),
     }
-    if t == 1001 {
-        return Converted::Under;
-    }
-    if t == 1002 {
-        return Converted::Over;
-    }
-    Converted::Refused(18)
 }
 
-pub fn temperature(p: Calibration, count: u32) -> Converted
+pub fn temperature(p: Calibration, count: u32) -> Result<Converted, Rule>
     ensures { Temperature p count result }
 {
     if 1023 < count {
-        return Converted::Refused(18);
+        return Err(Rule::NoReading);
     }
     meaning(coded(p, count as u16))
 }

@@ -20,7 +20,7 @@ fn digit(n: u64) -> u8
     48 + (n % 10) as u8
 }
 
-// From the last digit to the first.
+// From the last digit to the first, until none is left.
 fn spell(n: u64) -> Digits
     ensures { Spelt n result.bytes result.from }
 {

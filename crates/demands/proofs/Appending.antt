@@ -22,7 +22,7 @@ use Rattle.format.specs.declared.records.Description.{Description}
 use Rattle.format.specs.declared.records.Element.{Element}
 use Rattle.format.specs.declared.records.Element.TheVariants.{Digital, Analogue, Fan, Led, Water, Pump, Voltage, Current, Controller}
 use Rattle.format.specs.declared.records.Element.TheVariants.{Tachometer, Zone, Text, External, Rgb}
-use Rattle.format.specs.declared.answers.Written.TheVariants.{Length}
+use Rattle.format.specs.Answers.{Gives as Length}
 use Rattle.format.proofs.Slots.{starts_append, starts_split, starts_more, roomy_join}
 use Rattle.format.proofs.Lengths.{layouts_snoc, snoc_length}
 use Rattle.format.proofs.Decoding.{starts_next, stands_decoded}

@@ -17,7 +17,7 @@ use Rattle.format.specs.Verdict.{stated}
 use Rattle.format.specs.Writing.{writing, start_answer, start_leaves, append_answer, append_leaves}
 use Rattle.format.specs.declared.records.Element.{Element}
 use Rattle.format.specs.declared.records.Element.TheVariants.{Text}
-use Rattle.format.specs.declared.answers.Written.{Written}
+use Rattle.format.specs.Answers.{Written}
 use Rattle.format.proofs.KnownTables.{small_bytes}
 use Rattle.demands.specs.Runs.{Appends}
 use Rattle.demands.specs.Bargain.{Writer, KeepsWords, appends_all, writes, Demand2For, TouchesNothing, LaysOnlyFirst}

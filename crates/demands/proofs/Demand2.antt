@@ -18,8 +18,8 @@ use Rattle.format.specs.Table.{description_breaks}
 use Rattle.format.specs.Verdict.{Accepts}
 use Rattle.format.specs.Writing.{writing, start_answer, start_leaves}
 use Rattle.format.specs.declared.records.Description.{Description}
-use Rattle.format.specs.declared.answers.Written.{Written}
-use Rattle.format.specs.declared.answers.Written.TheVariants.{Length}
+use Rattle.format.specs.Answers.{Written}
+use Rattle.format.specs.Answers.{Gives as Length}
 use Rattle.format.proofs.Lengths.{fits_length}
 use Rattle.format.proofs.Written.{written_again}
 use Rattle.writer.specs.Calls.{Started}

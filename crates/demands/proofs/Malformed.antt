@@ -16,7 +16,7 @@ use Rattle.format.specs.Verdict.{stated}
 use Rattle.format.specs.Writing.{writing, or_refused, has_room, new_length, length_stands, part_breaks, append_answer}
 use Rattle.format.specs.declared.pins.Chip.{Chip}
 use Rattle.format.specs.declared.records.Element.TheVariants.{Text}
-use Rattle.format.specs.declared.answers.Written.TheVariants.{Length, Refused}
+use Rattle.format.specs.Answers.{Gives as Length, Refused}
 use Rattle.format.proofs.Kept.{OwnKept, kept_own}
 use Rattle.format.proofs.Broken.{miscoded}
 

@@ -19,11 +19,11 @@ use Rattle.format.specs.declared.settings.Rules.TheVariants.{Ordinary}
 use Rattle.format.specs.declared.pins.Chip.{Chip}
 use Rattle.format.specs.declared.pins.Chip.TheVariants.{C8051F320, C8051F321}
 use Rattle.format.specs.declared.pins.Use.TheVariants.{HardwareRevision}
-use Rattle.format.specs.declared.pins.OptionalPin.TheVariants.{Unused}
+use Rattle.std.specs.Prelude.{None}
 use Rattle.format.specs.declared.records.Description.{Description}
 use Rattle.format.specs.declared.records.Element.{Element}
 use Rattle.format.specs.declared.records.Element.TheVariants.{Fan}
-use Rattle.format.specs.declared.answers.Written.TheVariants.{Refused}
+use Rattle.format.specs.Answers.{Refused}
 use Rattle.format.proofs.Kept.{three_standing, kept_kind}
 use Rattle.format.proofs.Broken.{misstrapped, mispinned}
 use Rattle.demands.specs.Made.{MadeOf}
@@ -71,7 +71,7 @@ abbrev room30 : List ℕ
 room30 = table_a 0x01 0x10 0x80 0xff ++ 0 ∷ 0 ∷ 0 ∷ 0 ∷ 0 ∷ 0 ∷ 0 ∷ 0 ∷ 0 ∷ 0 ∷ 0 ∷ 0 ∷ 0 ∷ 0 ∷ 0 ∷ 0 ∷ []
 
 abbrev fan_on : Chip → Element
-fan_on c = Fan (fan_of (placement_of 0 0 0 0 1) (pin_of c 0x05) Unused 0 0 0 0)
+fan_on c = Fan (fan_of (placement_of 0 0 0 0 1) (pin_of c 0x05) None 0 0 0 0)
 
 pub fan_of_the_321 : append_answer C8051F320 room30 (fan_on C8051F321) [] ≡ Refused 10 16
 unfolding append_answer part_breaks own_rules

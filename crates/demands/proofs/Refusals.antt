@@ -18,8 +18,8 @@ use Rattle.format.specs.Table.{element_breaks, PassKept, Keeps}
 use Rattle.format.specs.Writing.{writing, assemble, assembled_breaks, part_breaks, or_refused, has_room, length_stands, new_length, append_answer}
 use Rattle.format.specs.declared.records.Description.{Description}
 use Rattle.format.specs.declared.records.Element.{Element}
-use Rattle.format.specs.declared.answers.Written.{Written}
-use Rattle.format.specs.declared.answers.Written.TheVariants.{Length, Refused}
+use Rattle.format.specs.Answers.{Written}
+use Rattle.format.specs.Answers.{Gives as Length, Refused}
 use Rattle.demands.proofs.Assembled.{body_roomy, kept_break}
 use Rattle.demands.specs.Made.{MadeOf}
 use Rattle.demands.proofs.Making.{makes, made, none_made}

@@ -20,8 +20,8 @@ use Rattle.format.specs.declared.pins.Chip.{Chip}
 use Rattle.format.specs.declared.settings.Settings.{Settings}
 use Rattle.format.specs.declared.settings.Rules.TheVariants.{Ordinary, Archive}
 use Rattle.format.specs.declared.records.Description.{Description}
-use Rattle.format.specs.declared.answers.Written.{Written}
-use Rattle.format.specs.declared.answers.Written.TheVariants.{Refused}
+use Rattle.format.specs.Answers.{Written}
+use Rattle.format.specs.Answers.{Refused}
 use Rattle.format.proofs.Kept.{own_kept, own_unbroken}
 use Rattle.format.proofs.Broken.{out_of_use}
 use Rattle.format.proofs.Slots.{roomy_split}

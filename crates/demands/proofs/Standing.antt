@@ -16,8 +16,8 @@ use Rattle.format.specs.Table.{element_breaks, PassKept}
 use Rattle.format.specs.Verdict.{stated}
 use Rattle.format.specs.Writing.{writing, element_slots, new_length, append_answer, append_leaves, overwritten}
 use Rattle.format.specs.declared.records.Description.{Description}
-use Rattle.format.specs.declared.answers.Written.{Written}
-use Rattle.format.specs.declared.answers.Written.TheVariants.{Length}
+use Rattle.format.specs.Answers.{Written}
+use Rattle.format.specs.Answers.{Gives as Length}
 use Rattle.format.proofs.Lengths.{layouts_append, layouts_snoc}
 use Rattle.format.proofs.Written.{length_written}
 use Rattle.format.proofs.Whole.{written_append}

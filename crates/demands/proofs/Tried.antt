@@ -16,7 +16,7 @@ use Rattle.format.specs.Known.{table_a}
 use Rattle.format.specs.declared.records.Description.{Description}
 use Rattle.format.proofs.Written.{written_fits, written_bytes}
 use Rattle.format.specs.declared.pins.Chip.{Chip}
-use Rattle.format.specs.declared.pins.OptionalPin.TheVariants.{Unused}
+use Rattle.std.specs.Prelude.{None}
 use Rattle.format.specs.Writing.{writing}
 
 abbrev pub of_a : Description
@@ -27,9 +27,9 @@ of_a =
       serial = 7;
       spwr = true;
       power = record { 0 = 0 };
-      revision0 = Unused;
-      revision1 = Unused;
-      revision2 = Unused;
+      revision0 = None;
+      revision1 = None;
+      revision2 = None;
     }
 
 -- strings 1 and 2, of no text

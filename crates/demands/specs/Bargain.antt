@@ -8,7 +8,7 @@ use Rattle.format.specs.Cleared.{cleared}
 use Rattle.format.specs.Verdict.{Accepts, stated}
 use Rattle.format.specs.declared.records.Description.{Description}
 use Rattle.format.specs.declared.records.Element.{Element}
-use Rattle.format.specs.declared.answers.Written.{Written}
+use Rattle.format.specs.Answers.{Written}
 use Rattle.writer.specs.Calls.{Started, Appended}
 use Rattle.format.specs.declared.pins.Chip.{Chip}
 use Rattle.format.specs.Writing.{writing}

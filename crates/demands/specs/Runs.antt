@@ -5,8 +5,8 @@ use Rattle.format.specs.Slots.{written}
 use Rattle.format.specs.Records.{Record, element_of}
 use Rattle.format.specs.Layout.{part, layouts, table}
 use Rattle.format.specs.declared.records.Description.{Description}
-use Rattle.format.specs.declared.answers.Written.{Written}
-use Rattle.format.specs.declared.answers.Written.TheVariants.{Length}
+use Rattle.format.specs.Answers.{Written}
+use Rattle.format.specs.Answers.{Gives as Length}
 use Rattle.writer.specs.Calls.{Appended}
 use Rattle.format.specs.declared.pins.Chip.{Chip}
 

@@ -6,7 +6,7 @@ use mathlib.Core.Bool.{true}
 use mathlib.Core.List.{[], ◌∷◌}
 use Rattle.format.specs.Records.{Record, fan, zone}
 use Rattle.format.specs.Decode.{pin_of, optional_of, description_of, placement_of, fan_of}
-use Rattle.format.specs.declared.pins.OptionalPin.TheVariants.{Unused, Used}
+use Rattle.std.specs.Prelude.{None, Some}
 use Rattle.format.specs.declared.pins.Chip.TheVariants.{C8051F320}
 use Rattle.format.specs.declared.records.Description.{Description}
 use Rattle.spelling.specs.Spelling.{decimal}
@@ -15,10 +15,10 @@ use Rattle.differing.specs.Differences.{differences, paired, descriptionwise, li
 
 -- table A's description with a serial number and a revision pin, and fan F with a place x and a zone
 abbrev a : ℕ → ℕ → Description
-a serial p = description_of 2 0 serial true 0 (optional_of C8051F320 p) Unused Unused
+a serial p = description_of 2 0 serial true 0 (optional_of C8051F320 p) None None
 
 abbrev f : ℕ → ℕ → Record
-f x z = fan (fan_of (placement_of 0 x 0xff 0xff z) (pin_of C8051F320 0x05) (Used (pin_of C8051F320 0x06)) 2 300 1500 64)
+f x z = fan (fan_of (placement_of 0 x 0xff 0xff z) (pin_of C8051F320 0x05) (Some (pin_of C8051F320 0x06)) 2 300 1500 64)
 
 described_so : lines (differences (a 7 0xff) [] (a 41 0x30) [])
     ≡ ascii "D\t0\t0\tserial number\t7\t41\nD\t0\t0\thardware revision 0\t-\tP3.0\n"

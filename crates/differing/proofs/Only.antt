@@ -10,8 +10,8 @@ use Rattle.format.specs.Records.{Record}
 use Rattle.format.specs.Verdict.{Accepts, Verdict, accepted}
 use Rattle.format.specs.declared.pins.Chip.{Chip}
 use Rattle.format.specs.declared.records.Description.{Description}
-use Rattle.format.specs.declared.answers.Answer.{Answer}
-use Rattle.format.specs.declared.answers.Answer.TheVariants.{Accepted, Refused}
+use Rattle.format.specs.Answers.{Answer}
+use Rattle.format.specs.Answers.{Gives as Accepted, Refused}
 use Rattle.format.proofs.Asking.{never_both}
 use Rattle.format.proofs.Demand3.{answered, unique, only_one_list}
 use Rattle.differing.specs.Differences.{exchanged, differences, lines}

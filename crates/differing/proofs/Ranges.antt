@@ -17,8 +17,9 @@ use Rattle.format.specs.Rules.{selected, strapped, fanned, pinned, rises}
 use Rattle.format.specs.declared.pins.Use.{Use}
 use Rattle.format.specs.declared.pins.Use.TheVariants.{FanPin, AnaloguePin, ChipSelect, StatusLed, HardwareRevision}
 use Rattle.format.specs.declared.pins.Pin.{Pin}
-use Rattle.format.specs.declared.pins.OptionalPin.{OptionalPin}
-use Rattle.format.specs.declared.pins.OptionalPin.TheVariants.{Unused, Used}
+use Rattle.std.specs.Prelude.{Option}
+use Rattle.format.specs.declared.pins.Pin.{Pin}
+use Rattle.std.specs.Prelude.{None, Some}
 use Rattle.format.specs.declared.pins.Chip.{Chip}
 use Rattle.format.specs.declared.pins.Chip.TheVariants.{C8051F320, C8051F321}
 use Rattle.format.specs.declared.records.Description.{Description}
@@ -90,9 +91,9 @@ pin_plain : (c : Chip) (u : Use) (p : Pin) → allowed c u p ≡ true → plain 
 pin_plain c u p h =
     among_plain p.0 (permitted c u) (permitted_plain c u) (and-true (of_chip c p) (among p.0 (permitted c u)) h).1
 
-optional_plain : (c : Chip) (u : Use) (p : OptionalPin) → allowed_or_unused c u p ≡ true → plain (optional_byte p) ≡ true
-optional_plain c u Unused h = refl
-optional_plain c u (Used p) h = pin_plain c u p h
+optional_plain : (c : Chip) (u : Use) (p : Option Pin) → allowed_or_unused c u p ≡ true → plain (optional_byte p) ≡ true
+optional_plain c u None h = refl
+optional_plain c u (Some p) h = pin_plain c u p h
 
 -- parts that several kinds share
 placed_in : (p : Placement) (ss : List Slot) (cs : List Content) → Rooms (placement p ++ ss) → AllIn 65536 cs → AllIn 65536 (placed p cs)

@@ -7,7 +7,7 @@ use Rattle.format.specs.declared.records.Description.{Description}
 use Rattle.format.specs.declared.pins.Chip.{Chip}
 use Rattle.format.specs.declared.settings.Settings.{Settings}
 use Rattle.format.specs.declared.settings.Rules.TheVariants.{Archive}
-use Rattle.format.specs.declared.answers.Answer.TheVariants.{Refused}
+use Rattle.format.specs.Answers.{Refused}
 use Rattle.spelling.specs.Spelling.{decimal}
 use Rattle.listing.specs.Lines.{line}
 use Rattle.differing.specs.Differences.{differences, lines}

@@ -8,7 +8,7 @@ ghost use Rattle.format.specs.Layout.{id_of, optional_byte};
 ghost use Rattle.format.specs.Decode.{decode};
 ghost use Rattle.elements.specs.Parts.{part_start};
 
-use format::pins::{Chip, OptionalPin};
+use format::pins::{Chip, Pin};
 use format::records::{Element, Placement};
 
 // The element in the bytes after a header with this identifier, its pins of this chip.
@@ -78,11 +78,11 @@ pub fn position_unknown(p: Placement) -> bool
 }
 
 // The byte of a place that may be unused.
-pub fn byte_of(p: OptionalPin) -> u8
+pub fn byte_of(p: Option<Pin>) -> u8
     ensures { result ≡ optional_byte p }
 {
     match p {
-        OptionalPin::Unused => 255,
-        OptionalPin::Used(q) => q.0,
+        None => 255,
+        Some(q) => q.0,
     }
 }

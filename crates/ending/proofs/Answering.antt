@@ -19,8 +19,8 @@ use Rattle.format.specs.Reader.{over_all, conclude, unless_misdescribed}
 use Rattle.format.specs.declared.pins.Chip.{Chip}
 use Rattle.format.specs.declared.settings.Settings.{Settings}
 use Rattle.format.specs.declared.records.Description.{Description}
-use Rattle.format.specs.declared.answers.Answer.{Answer}
-use Rattle.format.specs.declared.answers.Answer.TheVariants.{Refused}
+use Rattle.format.specs.Answers.{Answer}
+use Rattle.format.specs.Answers.{Refused}
 use Rattle.format.proofs.Kept.{broken_small, description_numbered}
 use Rattle.pass.specs.Tracks.{Flags}
 use Rattle.stream.specs.Running.{Run, going, broken, run_bytes, begin, finish}

@@ -15,8 +15,8 @@ use Rattle.format.specs.Pins.{among}
 use Rattle.format.specs.ZonesAndStrings.{Role, role, gathered, zones, strings, zone_named, string_named, zoneless, nameless}
 use Rattle.format.specs.Claims.{claims, made_at, first_claims}
 use Rattle.format.specs.declared.records.Description.{Description}
-use Rattle.format.specs.declared.answers.Answer.{Answer}
-use Rattle.format.specs.declared.answers.Answer.TheVariants.{Accepted, Refused}
+use Rattle.format.specs.Answers.{Answer}
+use Rattle.format.specs.Answers.{Gives as Accepted, Refused}
 use Rattle.flags.specs.Marks.{Marks, Lacks}
 use Rattle.flags.proofs.Marked.{marks_front}
 use Rattle.claims.specs.Taken.{HeldIs}

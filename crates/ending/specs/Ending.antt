@@ -7,7 +7,7 @@ use Rattle.format.specs.Table.{description_breaks}
 use Rattle.format.specs.Reader.{over_all, conclude, unless_misdescribed}
 use Rattle.format.specs.declared.settings.Settings.{Settings}
 use Rattle.format.specs.declared.records.Description.{Description}
-use Rattle.format.specs.declared.answers.Answer.{Answer}
+use Rattle.format.specs.Answers.{Answer}
 use Rattle.claims.specs.Taken.{HeldIs}
 use Rattle.claims.specs.declared.Held.{Held}
 use Rattle.pass.specs.Tracks.{Flags}

@@ -2,6 +2,8 @@
 // stopped; then the rules over the whole table, 13, 14 and 15, whose places are the first ones by number.
 #![tactic(auto)]
 
+ghost use Rattle.format.specs.Answers.{rule_number};
+ghost use Rattle.ending.specs.Stopped.{ended};
 ghost use Rattle.std.specs.Prelude.{◌≡◌, ◌%◌};
 ghost use Rattle.pass.specs.Tracks.{flags};
 ghost use Rattle.ending.specs.Ending.{LackingIs, AloneIs, OverIs, PassedIs, VerdictIs};
@@ -9,9 +11,24 @@ ghost use Rattle.ending.specs.Ending.{LackingIs, AloneIs, OverIs, PassedIs, Verd
 use claims::Held;
 use closing::Way;
 use flags::lacks;
-use format::answers::Answer;
+use format::answers::Rule;
 use pass::State;
 use words::wide;
+
+// Where a rule stopped the pass. Its number comes from the lent state, which holds any number.
+#[derive(Clone, Copy)]
+pub struct Stop {
+    pub number: u8,
+    pub place: usize,
+}
+
+// By a rule, at a place.
+fn by(rule: Rule, place: usize) -> Result<usize, Stop>
+    ensures { result ≡ Err (record { number = rule_number rule; place = place }) }
+{
+    let number = rule.number();
+    Err(Stop { number, place })
+}
 
 // The first place of a number that is named and not declared; 0 where there is none.
 fn lacking(used: &[bool; 256], seen: &[bool; 256], places: &[u16; 256]) -> usize
@@ -24,16 +41,16 @@ fn lacking(used: &[bool; 256], seen: &[bool; 256], places: &[u16; 256]) -> usize
 }
 
 // A description without elements: 14 and 15.
-fn alone(string: u8, held: Held) -> Answer
-    ensures { AloneIs string held result }
+fn alone(string: u8, held: Held) -> Result<usize, Stop>
+    ensures { AloneIs string held (ended result) }
 {
     if string != 0 {
-        return Answer::Refused(14, 0);
+        return by(Rule::NoString, 0);
     }
     if held.clash != 65536 {
-        return Answer::Refused(15, held.clash);
+        return by(Rule::Clash, held.clash);
     }
-    Answer::Accepted(0)
+    Ok(0)
 }
 
 // The rules over the whole table: 13, 14, 15.
@@ -46,33 +63,33 @@ fn concluded(
     su: &[bool; 256],
     zp: &[u16; 256],
     sp: &[u16; 256],
-) -> Answer
+) -> Result<usize, Stop>
     ensures { OverIs string s (flags zs.now ss.now zu.now su.now) zp.now
-        sp.now result }
+        sp.now (ended result) }
 {
     let z = lacking(zu, zs, zp);
     if z != 0 {
-        return Answer::Refused(13, z);
+        return by(Rule::NoZone, z);
     }
     let mut seen = *ss;
     seen[0] = true;
     let i = wide(string);
     if !seen[i] {
-        return Answer::Refused(14, 0);
+        return by(Rule::NoString, 0);
     }
     let t = lacking(su, &seen, sp);
     if t != 0 {
-        return Answer::Refused(14, t);
+        return by(Rule::NoString, t);
     }
     let held = s.held;
     if held.clash != 65536 {
-        return Answer::Refused(15, held.clash);
+        return by(Rule::Clash, held.clash);
     }
-    Answer::Accepted(s.count)
+    Ok(s.count)
 }
 
 // The number of a rule is a byte.
-fn rule(stop: usize) -> u8
+fn byte_of(stop: usize) -> u8
     ensures { result ≡ stop % 256 }
 {
     (stop % 256) as u8
@@ -89,12 +106,15 @@ fn passed(
     su: &[bool; 256],
     zp: &[u16; 256],
     sp: &[u16; 256],
-) -> Answer
+) -> Result<usize, Stop>
     ensures { PassedIs w bare string (flags zs.now ss.now zu.now su.now)
-        zp.now sp.now result }
+        zp.now sp.now (ended result) }
 {
     if w.stop != 0 {
-        return Answer::Refused(rule(w.stop), w.at);
+        return Err(Stop {
+            number: byte_of(w.stop),
+            place: w.at,
+        });
     }
     let s = w.state;
     if bare {
@@ -103,7 +123,7 @@ fn passed(
     }
     let u = w.under;
     if u.len != 0 {
-        return Answer::Refused(6, w.at);
+        return by(Rule::ElementLength, w.at);
     }
     concluded(string, s, zs, ss, zu, su, zp, sp)
 }
@@ -118,23 +138,23 @@ pub fn verdict(
     su: &[bool; 256],
     zp: &[u16; 256],
     sp: &[u16; 256],
-) -> Answer
+) -> Result<usize, Stop>
     ensures { VerdictIs n.now first.now
-        (flags zs.now ss.now zu.now su.now) zp.now sp.now result }
+        (flags zs.now ss.now zu.now su.now) zp.now sp.now (ended result) }
 {
     let count = n[2];
     if count < 16 {
-        return Answer::Refused(1, 0);
+        return by(Rule::Under16Bytes, 0);
     }
     if first[0] != 1 {
-        return Answer::Refused(2, 0);
+        return by(Rule::Revision, 0);
     }
     let told = wide(first[1]) + 256 * wide(first[2]);
     if told != count {
-        return Answer::Refused(3, 0);
+        return by(Rule::TableLength, 0);
     }
     if 4096 < told {
-        return Answer::Refused(3, 0);
+        return by(Rule::TableLength, 0);
     }
     passed(
         states::way_of(n),

@@ -19,8 +19,9 @@ use Rattle.format.specs.Decode.{external_of, rgb_of, description_of, read_fan}
 use Rattle.format.specs.declared.pins.Chip.{Chip}
 use Rattle.format.specs.declared.pins.Chip.TheVariants.{C8051F320, C8051F321}
 use Rattle.format.specs.declared.pins.Pin.{Pin}
-use Rattle.format.specs.declared.pins.OptionalPin.{OptionalPin}
-use Rattle.format.specs.declared.pins.OptionalPin.TheVariants.{Unused, Used}
+use Rattle.std.specs.Prelude.{Option}
+use Rattle.format.specs.declared.pins.Pin.{Pin}
+use Rattle.std.specs.Prelude.{None, Some}
 use Rattle.format.specs.declared.records.Description.{Description}
 use Rattle.format.specs.declared.records.Address.{Address}
 use Rattle.format.specs.declared.records.Address.TheVariants.{Bus, Select}
@@ -30,7 +31,7 @@ use Rattle.format.specs.declared.records.Element.TheVariants.{Digital, Analogue,
 use Rattle.format.specs.declared.records.Element.TheVariants.{Tachometer, External, Rgb}
 use Rattle.format.proofs.Kept.{and-true}
 use Rattle.format.proofs.EachKind.{pin_only}
-use Rattle.numbers.specs.declared.MaybeElement.TheVariants.{Element as Found}
+use Rattle.std.specs.Prelude.{Some as Found}
 use Rattle.numbers.specs.From.{pick_chip, address_from, element_from, description_from}
 use Rattle.numbered.specs.Into.{padded, chip_number, kind_of, address_of, motor_numbers, element_into, description_into}
 
@@ -57,11 +58,11 @@ module _ (c : Chip) where
   pin_back : (p : Pin) → of_chip c p ≡ true → pin_of (named c) p.0 ≡ p
   pin_back p h = ap (λ (k : Chip). pin_of k p.0) (chip_back c) ∙ sym (pin_only c p.0 p refl h)
 
-  optional_back : (p : OptionalPin) → standing c p ≡ true → optional_of (named c) (optional_byte p) ≡ p
-  optional_back Unused h = refl
-  optional_back (Used p) h =
+  optional_back : (p : Option Pin) → standing c p ≡ true → optional_of (named c) (optional_byte p) ≡ p
+  optional_back None h = refl
+  optional_back (Some p) h =
       let q = and-true (of_chip c p) (not (eqb p.0 0xff)) h in
-      rw (not-true (eqb p.0 0xff) q.1) (ap Used (pin_back p q.0))
+      rw (not-true (eqb p.0 0xff) q.1) (ap Some (pin_back p q.0))
 
   back : (a : Address) → chosen c a ≡ true → address_from (named c) (eqb (kind_of a) 0) (address_of a) ≡ a
   back (Bus a) h = refl
@@ -72,7 +73,7 @@ module _ (c : Chip) where
   address_back bus a h = back a (and-true (of_its_bus bus a) (chosen c a) h).1
 
   lamp_back : (l : Lamp) → standing c l.pin ≡ true → lamp_of (optional_of (named c) (optional_byte l.pin)) l.colour l.purpose ≡ l
-  lamp_back l h = ap (λ (p : OptionalPin). lamp_of p l.colour l.purpose) (optional_back l.pin h)
+  lamp_back l h = ap (λ (p : Option Pin). lamp_of p l.colour l.purpose) (optional_back l.pin h)
 
   -- the numbers of a fan and of a pump
   motor_back : (f : PwmFan) → of_its_motor c f ≡ true → read_fan (named c) (byte (padded (motor_numbers f) (chip_number c))) ≡ f

@@ -6,12 +6,12 @@ use mathlib.Core.Path.{◌≡◌, sym, ◌∙◌, ap}
 use mathlib.Core.List.{List}
 use Rattle.format.specs.Slots.{Bytes}
 use Rattle.format.specs.declared.pins.Chip.{Chip}
-use Rattle.format.specs.declared.answers.Answer.TheVariants.{Refused as RefusedTable}
+use Rattle.format.specs.Answers.{Refused as RefusedTable}
 use Rattle.reader.proofs.Bounds.{value_bound}
 use Rattle.differing.specs.Compared.{archived}
 use Rattle.differing.proofs.Bound.{text_bound}
 use Rattle.comparing.specs.Lines.{Compares, compared, first_refused, second_refused}
-use Rattle.comparing.specs.declared.Outcome.{Outcome}
+use Rattle.comparing.specs.Outcomes.{Outcome}
 use Rattle.comparing.proofs.Only.{only_outcome}
 use Rattle.esa.specs.Differences.{packed_outcome, Fitted, DiffFor}
 

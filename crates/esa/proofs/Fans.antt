@@ -6,11 +6,11 @@ use mathlib.Core.Path.{◌≡◌, sym, ◌∙◌, ap}
 use mathlib.Core.List.{List, []}
 use Rattle.format.specs.Slots.{Bytes}
 use Rattle.format.specs.declared.settings.Settings.{Settings}
-use Rattle.format.specs.declared.answers.Answer.TheVariants.{Refused as RefusedTable}
+use Rattle.format.specs.Answers.{Refused as RefusedTable}
 use Rattle.format.proofs.Lengths.{at_most_96}
 use Rattle.reader.proofs.Bounds.{value_bound}
 use Rattle.fans.specs.InZone.{Zones, seen, refused}
-use Rattle.fans.specs.declared.Zoned.{Zoned}
+use Rattle.fans.specs.InZone.{Zoned}
 use Rattle.fans.proofs.Answering.{never_more}
 use Rattle.fans.proofs.Only.{only_in_zone}
 use Rattle.esa.specs.Fans.{packed_zoned, Bounded, FanFor}

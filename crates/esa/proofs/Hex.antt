@@ -5,9 +5,9 @@ use native.Mathlib.Omega.{arith}
 use mathlib.Core.Path.{◌≡◌, sym, ◌∙◌, ap}
 use mathlib.Core.List.{List}
 use Rattle.format.specs.Slots.{Bytes}
-use Rattle.format.specs.Answers.{value_of_written}
+use Rattle.format.specs.Answers.{value_of}
 use Rattle.format.specs.declared.pins.Chip.{Chip}
-use Rattle.format.specs.declared.answers.Written.{Written}
+use Rattle.format.specs.Answers.{Written}
 use Rattle.reader.proofs.Bounds.{value_bound}
 use Rattle.hextext.specs.Text.{hex_of}
 use Rattle.hextext.specs.Moved.{moving, Moved, done, refused, no_room}
@@ -21,12 +21,12 @@ use Rattle.esa.specs.Writing.{packed_written}
 use Rattle.esa.specs.Hex.{HexFor, UnhexFor}
 
 module _ (chip : Chip) where
-  pub hex_bound : (b c : List ℕ) (w : Written) (after : List ℕ) → Moved chip b (hex_of b) c w after → value_of_written w ≤ 65538
+  pub hex_bound : (b c : List ℕ) (w : Written) (after : List ℕ) → Moved chip b (hex_of b) c w after → value_of w ≤ 65538
   hex_bound b c w after (done v h) = omega (arith, hex_length b, accepted_short v)
   hex_bound b c w after (refused v) = omega (arith, value_bound (moving chip) b _ v)
   hex_bound b c w after (no_room v h) = omega arith
 
-  pub unhex_bound : (t c : List ℕ) (w : Written) (after : List ℕ) → FromHex chip t c w after → value_of_written w ≤ 65538
+  pub unhex_bound : (t c : List ℕ) (w : Written) (after : List ℕ) → FromHex chip t c w after → value_of w ≤ 65538
   unhex_bound t c w after (malformed m) = bad_bound m
   unhex_bound t c w after (sent m (done v h)) = omega (arith, accepted_short v)
   unhex_bound t c w after (sent {b = b} m (refused v)) = omega (arith, value_bound (moving chip) b _ v)

@@ -7,8 +7,8 @@ use lib.ListN.{length}
 use Rattle.format.specs.Slots.{Bytes}
 use Rattle.format.specs.declared.settings.Settings.{Settings}
 use Rattle.labels.specs.Called.{Found}
-use Rattle.labels.specs.declared.Source.{Source}
-use Rattle.labels.specs.declared.Source.TheVariants.{Text, Lent, Refused}
+use Rattle.labels.specs.Called.{Source}
+use Rattle.labels.specs.Called.{Text, Lent, Refused}
 use Rattle.labels.proofs.Giving.{found_room, found_refused}
 use Rattle.labels.proofs.Only.{only_find}
 use Rattle.esa.specs.Labels.{packed_label, Fitting, LabelFor}

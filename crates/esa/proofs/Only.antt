@@ -11,13 +11,13 @@ use Rattle.format.specs.Slots.{Bytes}
 use Rattle.format.specs.Layout.{id_of}
 use Rattle.format.specs.Writing.{start_leaves, append_leaves}
 use Rattle.format.specs.declared.records.Element.{Element}
-use Rattle.format.specs.declared.answers.Described.{Described}
-use Rattle.format.specs.declared.answers.Asked.{Asked}
-use Rattle.format.specs.declared.answers.Asked.TheVariants.{Element as Gave, Refused as NotGiven}
-use Rattle.format.specs.declared.answers.Written.{Written}
+use Rattle.format.specs.Answers.{Described}
+use Rattle.format.specs.Answers.{Asked}
+use Rattle.format.specs.Answers.{Gives as Gave, Refused as NotGiven}
+use Rattle.format.specs.Answers.{Written}
 use Rattle.format.proofs.Demand3.{unique}
 use Rattle.format.proofs.Asking.{describes_unique, gives_unique}
-use Rattle.reader.specs.declared.Placed.{Placed}
+use Rattle.reader.specs.PartPlace.{Placed}
 use Rattle.reader.proofs.PartPlaces.{only_place}
 use Rattle.esa.specs.Face.{packed, Checked, packed_asked, AskedFor, PartFor}
 use Rattle.esa.specs.Fields.{packed_described, described_leaves, fields_leave, DescribedFor, FieldsFor}
@@ -26,8 +26,7 @@ use Rattle.esa.specs.Writing.{packed_written, RewrittenFor, RemovedFor, StartedF
 use Rattle.rewriting.proofs.Only.{only_rewrite}
 use Rattle.removing.proofs.Only.{only_remove}
 use Rattle.numbers.specs.From.{description_from, element_from}
-use Rattle.numbers.specs.declared.MaybeElement.{MaybeElement}
-use Rattle.numbers.specs.declared.MaybeElement.TheVariants.{Element as Found, Unknown}
+use Rattle.std.specs.Prelude.{Option as Maybe, Some as Found, None as Unknown}
 use Rattle.format.specs.declared.settings.Settings.{Settings}
 use Rattle.format.specs.declared.pins.Chip.{Chip}
 
@@ -123,7 +122,7 @@ one_unique c b e p r r' after after' a a' =
     (a.number ∙ ap packed_written same ∙ sym a'.number, a.appended.leaves ∙ ap leaves same ∙ sym a'.appended.leaves)
 
 as_unique :
-    (c : Chip) (f : MaybeElement) (b p : List ℕ) (r r' : ℕ) (after after' : List ℕ)
+    (c : Chip) (f : Maybe Element) (b p : List ℕ) (r r' : ℕ) (after after' : List ℕ)
     → AppendedAs c f b p r after
     → AppendedAs c f b p r' after'
     → (r ≡ r') × (after ≡ after')

@@ -8,19 +8,19 @@ use lib.ListN.{length}
 use borrow.Author.Tests.{eq-eqb, ne_eqb}
 use Rattle.format.specs.Slots.{Bytes}
 use Rattle.format.specs.Layout.{id_of}
-use Rattle.format.specs.Answers.{place_of_described, place_of_asked}
+use Rattle.format.specs.Answers.{place_of}
 use Rattle.format.specs.Asked.{Describes, described, undescribed, Gives}
 use Rattle.format.specs.declared.records.Element.{Element as Case}
-use Rattle.format.specs.declared.answers.Answer.TheVariants.{Refused as RefusedTable}
-use Rattle.format.specs.declared.answers.Described.{Described}
-use Rattle.format.specs.declared.answers.Asked.{Asked}
-use Rattle.format.specs.declared.answers.Asked.TheVariants.{Element, Refused as NotGiven}
+use Rattle.format.specs.Answers.{Refused as RefusedTable}
+use Rattle.format.specs.Answers.{Described}
+use Rattle.format.specs.Answers.{Asked}
+use Rattle.format.specs.Answers.{Gives as Element, Refused as NotGiven}
 use Rattle.format.proofs.Asking.{gives_unique}
 use Rattle.format.proofs.Strings.{given_text}
 use Rattle.reader.specs.Answered.{GivesElement, GivesPart}
 use Rattle.reader.specs.PartPlace.{GivesPlace}
-use Rattle.reader.specs.declared.Placed.{Placed}
-use Rattle.reader.specs.declared.Placed.TheVariants.{At, Refused}
+use Rattle.reader.specs.PartPlace.{Placed}
+use Rattle.reader.specs.PartPlace.{At, Refused}
 use Rattle.reader.proofs.Bounds.{value_bound, place_bound}
 use Rattle.reader.proofs.PartPlaces.{placed_bound, part_bound}
 use Rattle.esa.specs.Face.{packs, packed_asked}
@@ -29,7 +29,7 @@ use Rattle.esa.specs.Places.{packed_placed, PlacedFor, packed_text, TextPlaced, 
 use Rattle.format.specs.declared.settings.Settings.{Settings}
 
 -- the description
-describes_bound : (σ : Settings) (b : List ℕ) (a : Described) → Describes σ b a → place_of_described a ≤ 4096
+describes_bound : (σ : Settings) (b : List ℕ) (a : Described) → Describes σ b a → place_of a ≤ 4096
 describes_bound σ b a (described d rs c) = omega arith
 describes_bound σ b a (undescribed {j = j} {p = p} v) = value_bound σ b (RefusedTable j p) v
 
@@ -37,7 +37,7 @@ module _ (σ : Settings) (b : List ℕ) (a a' : Described) (h : Describes σ b a
   pub describes_as : Describes σ b a'
   describes_as = subst (λ (x : Described). Describes σ b x) is h
 
-  pub described_bound : place_of_described a' ≤ 4096
+  pub described_bound : place_of a' ≤ 4096
   described_bound = describes_bound σ b a' describes_as
 
   pub described_for :
@@ -49,7 +49,7 @@ module _ (σ : Settings) (b : List ℕ) (k : ℕ) (a a' : Asked) (g : GivesEleme
   pub gives_as : GivesElement σ b k a'
   gives_as = subst (λ (x : Asked). GivesElement σ b k x) is g
 
-  pub asked_bound : place_of_asked a' ≤ 4096
+  pub asked_bound : place_of a' ≤ 4096
   asked_bound = place_bound σ b k a' gives_as.beside gives_as.gives
 
   -- with the part that was asked for by itself

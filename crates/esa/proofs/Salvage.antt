@@ -11,8 +11,8 @@ use Rattle.format.specs.Slots.{Bytes}
 use Rattle.format.specs.declared.pins.Chip.{Chip}
 use Rattle.saving.specs.Saving.{taken, salvageable}
 use Rattle.saving.specs.Lines.{new_table, new_text, answer}
-use Rattle.saving.specs.declared.Salvaged.{Salvaged}
-use Rattle.saving.specs.declared.Salvaged.TheVariants.{Done, Refused}
+use Rattle.saving.specs.Salvaged.{Salvaged}
+use Rattle.saving.specs.Salvaged.{Done, Refused}
 use Rattle.saving.proofs.Bounds.{table_short}
 use Rattle.saving.proofs.Texts.{text_short}
 use Rattle.salvaging.specs.Salvages.{Salvages}

@@ -12,8 +12,8 @@ use Rattle.format.specs.Answers.{value_of}
 use Rattle.format.specs.declared.pins.Chip.{Chip}
 use Rattle.format.specs.declared.settings.Settings.{Settings}
 use Rattle.format.specs.declared.records.Description.{Description}
-use Rattle.format.specs.declared.answers.Answer.{Answer}
-use Rattle.format.specs.declared.answers.Answer.TheVariants.{Accepted, Refused}
+use Rattle.format.specs.Answers.{Answer}
+use Rattle.format.specs.Answers.{Gives as Accepted, Refused}
 use Rattle.reader.proofs.Bounds.{value_bound}
 use Rattle.pinsheet.specs.Sheet.{Claimant}
 use Rattle.sheets.specs.Lines.{Leaves, filled, kept}

@@ -8,8 +8,8 @@ use Rattle.format.specs.Answers.{value_of}
 use Rattle.format.specs.Writing.{writing}
 use Rattle.format.specs.declared.pins.Chip.{Chip}
 use Rattle.format.specs.declared.settings.Settings.{Settings}
-use Rattle.format.specs.declared.answers.Answer.{Answer}
-use Rattle.format.specs.declared.answers.Answer.TheVariants.{Accepted, Refused}
+use Rattle.format.specs.Answers.{Answer}
+use Rattle.format.specs.Answers.{Gives as Accepted, Refused}
 use Rattle.reader.proofs.Bounds.{value_bound}
 use Rattle.readying.specs.Starting.{StartIs, begun, refused}
 use Rattle.readying.proofs.Only.{start_only}

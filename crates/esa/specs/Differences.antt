@@ -3,8 +3,8 @@
 use Rattle.std.specs.Prelude.{ℕ, ◌+◌, ◌*◌, ◌≤◌, ◌≡◌, List}
 use Rattle.format.specs.declared.pins.Chip.{Chip}
 use Rattle.comparing.specs.Lines.{Compares}
-use Rattle.comparing.specs.declared.Outcome.{Outcome}
-use Rattle.comparing.specs.declared.Outcome.TheVariants.{Text, Refused}
+use Rattle.comparing.specs.Outcomes.{Outcome}
+use Rattle.comparing.specs.Outcomes.{Text, Refused}
 use Rattle.esa.specs.Face.{packs}
 
 -- beside 0 the length of the text; beside a refusal its place, and 65,536 times 1 or 2, the table that is refused

@@ -4,10 +4,10 @@ use Rattle.std.specs.Prelude.{ℕ, ◌+◌, ◌*◌, ◌≡◌, List, length}
 use Rattle.format.specs.Layout.{id_of}
 use Rattle.format.specs.Verdict.{Verdict}
 use Rattle.format.specs.Asked.{Gives}
-use Rattle.format.specs.Answers.{number_of, value_of, number_of_asked, place_of_asked}
-use Rattle.format.specs.declared.answers.Answer.{Answer}
-use Rattle.format.specs.declared.answers.Asked.{Asked}
-use Rattle.format.specs.declared.answers.Asked.TheVariants.{Element, Refused as NotGiven}
+use Rattle.format.specs.Answers.{number_of, value_of, place_of}
+use Rattle.format.specs.Answers.{Answer}
+use Rattle.format.specs.Answers.{Asked}
+use Rattle.format.specs.Answers.{Gives as Element, Refused as NotGiven}
 use Rattle.format.specs.declared.settings.Settings.{Settings}
 
 abbrev pub packs : ℕ → ℕ → ℕ
@@ -25,10 +25,10 @@ pub record Checked (σ : Settings) (b : List ℕ) (r : ℕ) : Type 0 where
 -- the same of an element: beside 0 its identifier
 abbrev pub beside_asked : Asked → ℕ
 beside_asked (Element e) = id_of e
-beside_asked (NotGiven k p) = place_of_asked (NotGiven k p)
+beside_asked (NotGiven k p) = p
 
 abbrev pub packed_asked : Asked → ℕ
-packed_asked a = packs (number_of_asked a) (beside_asked a)
+packed_asked a = packs (number_of a) (beside_asked a)
 
 pub record AskedFor (σ : Settings) (b : List ℕ) (k r : ℕ) : Type 0 where
   pub answer : Asked

@@ -3,8 +3,8 @@
 use Rattle.std.specs.Prelude.{ℕ, ◌+◌, ◌*◌, ◌≤◌, ◌≡◌, Bool, cond, List}
 use Rattle.format.specs.declared.settings.Settings.{Settings}
 use Rattle.fans.specs.InZone.{Zones}
-use Rattle.fans.specs.declared.Zoned.{Zoned}
-use Rattle.fans.specs.declared.Zoned.TheVariants.{Seen, Refused}
+use Rattle.fans.specs.InZone.{Zoned}
+use Rattle.format.specs.Answers.{Gives as Seen, Refused}
 use Rattle.esa.specs.Face.{packs}
 
 -- beside 0: twice the number of elements visited, and 1 more where there is one

@@ -1,19 +1,19 @@
 -- The description and element k as 32 numbers in a lent place.
 -- Assumes nothing.
 use Rattle.std.specs.Prelude.{ℕ, ◌≡◌, List}
-use Rattle.format.specs.Answers.{number_of_described, place_of_described}
+use Rattle.format.specs.Answers.{number_of, place_of}
 use Rattle.format.specs.Asked.{Describes, Gives}
-use Rattle.format.specs.declared.answers.Described.{Described}
-use Rattle.format.specs.declared.answers.Described.TheVariants.{Description, Refused as NotDescribed}
-use Rattle.format.specs.declared.answers.Asked.{Asked}
-use Rattle.format.specs.declared.answers.Asked.TheVariants.{Element, Refused as NotGiven}
+use Rattle.format.specs.Answers.{Described}
+use Rattle.format.specs.Answers.{Gives as Description, Refused as NotDescribed}
+use Rattle.format.specs.Answers.{Asked}
+use Rattle.format.specs.Answers.{Gives as Element, Refused as NotGiven}
 use Rattle.numbered.specs.Into.{description_into, element_into}
 use Rattle.esa.specs.Face.{packs, packed_asked}
 use Rattle.format.specs.declared.settings.Settings.{Settings}
 use Rattle.format.specs.declared.pins.Chip.{Chip}
 
 abbrev pub packed_described : Described → ℕ
-packed_described a = packs (number_of_described a) (place_of_described a)
+packed_described a = packs (number_of a) (place_of a)
 
 -- what is left in the place: the numbers, or with a refusal what stood there
 abbrev pub described_leaves : Chip → Described → List ℕ → List ℕ

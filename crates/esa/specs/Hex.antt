@@ -2,7 +2,7 @@
 -- Assumes nothing.
 use Rattle.std.specs.Prelude.{ℕ, ◌≡◌, List}
 use Rattle.format.specs.declared.pins.Chip.{Chip}
-use Rattle.format.specs.declared.answers.Written.{Written}
+use Rattle.format.specs.Answers.{Written}
 use Rattle.hextext.specs.Text.{hex_of}
 use Rattle.hextext.specs.Moved.{Moved}
 use Rattle.fromhex.specs.FromHex.{FromHex}

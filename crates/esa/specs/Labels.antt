@@ -2,8 +2,8 @@
 -- Assumes nothing.
 use Rattle.std.specs.Prelude.{ℕ, ◌+◌, ◌*◌, ◌≤◌, ◌≡◌, cond, List, length, ltb}
 use Rattle.labels.specs.Called.{Found}
-use Rattle.labels.specs.declared.Source.{Source}
-use Rattle.labels.specs.declared.Source.TheVariants.{Text, Lent, Refused}
+use Rattle.labels.specs.Called.{Source}
+use Rattle.labels.specs.Called.{Text, Lent, Refused}
 use Rattle.esa.specs.Face.{packs}
 use Rattle.format.specs.declared.settings.Settings.{Settings}
 

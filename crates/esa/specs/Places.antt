@@ -6,11 +6,11 @@ use Rattle.format.specs.Layout.{id_of}
 use Rattle.format.specs.Utf16.{well_formed}
 use Rattle.format.specs.Asked.{Gives}
 use Rattle.format.specs.declared.records.Element.TheVariants.{Text}
-use Rattle.format.specs.declared.answers.Asked.{Asked}
-use Rattle.format.specs.declared.answers.Asked.TheVariants.{Element, Refused as NotGiven}
+use Rattle.format.specs.Answers.{Asked}
+use Rattle.format.specs.Answers.{Gives as Element, Refused as NotGiven}
 use Rattle.reader.specs.PartPlace.{GivesPlace}
-use Rattle.reader.specs.declared.Placed.{Placed}
-use Rattle.reader.specs.declared.Placed.TheVariants.{At, Refused}
+use Rattle.reader.specs.PartPlace.{Placed}
+use Rattle.reader.specs.PartPlace.{At, Refused}
 use Rattle.esa.specs.Face.{packs}
 use Rattle.format.specs.declared.settings.Settings.{Settings}
 

@@ -2,8 +2,8 @@
 -- Assumes nothing.
 use Rattle.std.specs.Prelude.{ℕ, ◌+◌, ◌*◌, ◌≤◌, ◌≡◌, List}
 use Rattle.format.specs.declared.pins.Chip.{Chip}
-use Rattle.saving.specs.declared.Salvaged.{Salvaged}
-use Rattle.saving.specs.declared.Salvaged.TheVariants.{Done, Refused}
+use Rattle.saving.specs.Salvaged.{Salvaged}
+use Rattle.saving.specs.Salvaged.{Done, Refused}
 use Rattle.salvaging.specs.Salvages.{Salvages}
 use Rattle.esa.specs.Face.{packs}
 

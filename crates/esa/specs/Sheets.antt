@@ -5,7 +5,7 @@ use Rattle.format.specs.Records.{Record}
 use Rattle.format.specs.Writing.{writing}
 use Rattle.format.specs.declared.pins.Chip.{Chip}
 use Rattle.format.specs.declared.records.Description.{Description}
-use Rattle.format.specs.declared.answers.Answer.{Answer}
+use Rattle.format.specs.Answers.{Answer}
 use Rattle.pinsheet.specs.Sheet.{Claimant}
 use Rattle.sheets.specs.Lines.{Leaves}
 use Rattle.esa.specs.Face.{packed}

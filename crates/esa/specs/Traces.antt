@@ -3,7 +3,7 @@
 use Rattle.std.specs.Prelude.{ℕ, ◌≡◌, List}
 use Rattle.format.specs.Writing.{writing}
 use Rattle.format.specs.declared.pins.Chip.{Chip}
-use Rattle.format.specs.declared.answers.Answer.{Answer}
+use Rattle.format.specs.Answers.{Answer}
 use Rattle.readying.specs.Starting.{StartIs}
 use Rattle.esa.specs.Face.{packed}
 

@@ -33,11 +33,8 @@ ghost use Rattle.esa.specs.Sheets.{SheetFor};
 ghost use Rattle.esa.specs.Hex.{HexFor, UnhexFor};
 ghost use Rattle.esa.specs.Salvage.{SalvagedFor};
 
-use format::answers::{Asked, Described};
 use format::pins::Chip;
 use format::settings::{Rules, Settings};
-use numbers::MaybeElement;
-use reader::Placed;
 
 mod packing;
 
@@ -54,12 +51,12 @@ pub fn esa_describe(table: &[u8], settings: u64, numbers: &mut [u8; 32]) -> u64
 {
     let s = settings_of(settings);
     match reader::description(table, s) {
-        Described::Description(d) => {
+        Ok(d) => {
             let chip = s.chip;
             *numbers = numbered::description(d, chip);
             0
         }
-        Described::Refused(k, p) => packing::pack(k, p),
+        Err(refusal) => packing::refused(refusal),
     }
 }
 
@@ -76,12 +73,12 @@ pub fn esa_fields(table: &[u8], k: usize, settings: u64, numbers: &mut [u8; 32])
 {
     let s = settings_of(settings);
     match reader::element(table, k, s) {
-        Asked::Element(e) => {
+        Ok(e) => {
             let chip = s.chip;
             *numbers = numbered::element(e, reader::part(table, k, s), chip);
             packing::pack(0, words::wide(elements::id_of(e)))
         }
-        Asked::Refused(j, p) => packing::pack(j, p),
+        Err(refusal) => packing::refused(refusal),
     }
 }
 
@@ -98,8 +95,8 @@ pub fn esa_part(table: &[u8], k: usize, settings: u64) -> u64
     ensures { PlacedFor (settings_of settings) table.now k result }
 {
     match reader::part_place(table, k, settings_of(settings)) {
-        Placed::At(p, n) => packing::span(p, n),
-        Placed::Refused(j, p) => packing::pack(j, p),
+        Ok(span) => packing::span(span.place, span.len),
+        Err(refusal) => packing::refused(refusal),
     }
 }
 
@@ -109,13 +106,13 @@ pub fn esa_text(table: &[u8], k: usize, settings: u64) -> u64
 {
     let s = settings_of(settings);
     match reader::element(table, k, s) {
-        Asked::Element(e) => {
+        Ok(e) => {
             if elements::id_of(e) != 0x0c {
                 return 0;
             }
             text(table, k, s)
         }
-        Asked::Refused(j, p) => packing::pack(j, p),
+        Err(refusal) => packing::refused(refusal),
     }
 }
 
@@ -290,7 +287,7 @@ pub fn esa_start(buffer: &mut [u8], settings: u64, numbers: &[u8; 32]) -> u64
     ensures { StartedFor (chip_of settings) buffer.old numbers.now result buffer.new }
 {
     let chip = chip_of(settings);
-    packing::written(writer::start(buffer, numbers::description(numbers), chip))
+    packing::answer(writer::start(buffer, numbers::description(numbers), chip))
 }
 
 // Appends the element of this identifier in the numbers, with its variable part. Beside 0 stands the new length, beside a
@@ -301,8 +298,8 @@ pub fn esa_append(buffer: &mut [u8], id: u8, settings: u64, numbers: &[u8; 32], 
 {
     let chip = chip_of(settings);
     match numbers::element(id, numbers) {
-        MaybeElement::Element(e) => packing::written(writer::append(buffer, e, part, chip)),
-        MaybeElement::Unknown => 7,
+        Some(e) => packing::answer(writer::append(buffer, e, part, chip)),
+        None => 7,
     }
 }
 
@@ -311,14 +308,14 @@ pub fn esa_append(buffer: &mut [u8], id: u8, settings: u64, numbers: &[u8; 32], 
 pub fn esa_rewrite(table: &[u8], settings: u64, out: &mut [u8]) -> u64
     ensures { RewrittenFor (chip_of settings) table.now out.old result out.new }
 {
-    packing::written(rewriting::rewrite(table, out, chip_of(settings)))
+    packing::answer(rewriting::rewrite(table, out, chip_of(settings)))
 }
 
 // Takes element k out of the lent table, by the writer's rules. Beside 0 stands the new length, beside a refusal its place.
 pub fn esa_remove(table: &mut [u8], k: usize, settings: u64) -> u64
     ensures { RemovedFor (chip_of settings) table.old k result table.new }
 {
-    packing::written(removing::remove(table, k, chip_of(settings)))
+    packing::answer(removing::remove(table, k, chip_of(settings)))
 }
 
 // What can be saved of a damaged table, at the front of the buffer, and its lines at the front of the other, by the writer's rules.
@@ -335,7 +332,7 @@ pub fn esa_salvage(file: &[u8], settings: u64, out: &mut [u8], lines: &mut [u8; 
 pub fn esa_hex(table: &[u8], settings: u64, out: &mut [u8]) -> u64
     ensures { HexFor (chip_of settings) table.now out.old result out.new }
 {
-    packing::moved(tohex::to_hex(table, out, chip_of(settings)))
+    packing::answer(tohex::to_hex(table, out, chip_of(settings)))
 }
 
 // The table that a text in Intel HEX sends, at the front of the buffer, if the archive's rules accept it. Beside 0 stands its length,
@@ -343,7 +340,7 @@ pub fn esa_hex(table: &[u8], settings: u64, out: &mut [u8]) -> u64
 pub fn esa_unhex(text: &[u8], settings: u64, out: &mut [u8]) -> u64
     ensures { UnhexFor (chip_of settings) text.now out.old result out.new }
 {
-    packing::moved(fromhex::from_hex(text, out, chip_of(settings)))
+    packing::answer(fromhex::from_hex(text, out, chip_of(settings)))
 }
 
 // The listing of a table at the front of the buffer. The answer is its length in bytes.
@@ -389,11 +386,11 @@ fn text(table: &[u8], k: usize, s: Settings) -> u64
     ensures { TextPlaced s table.now k result }
 {
     match reader::part_place(table, k, s) {
-        Placed::At(p, _) => {
+        Ok(span) => {
             let text = parts::text(reader::part(table, k, s));
-            packing::span(p + 3, text.len())
+            packing::span(span.place + 3, text.len())
         }
-        Placed::Refused(j, p) => packing::pack(j, p),
+        Err(refusal) => packing::refused(refusal),
     }
 }
 

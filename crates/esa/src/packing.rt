@@ -1,60 +1,53 @@
 // Answers as one number: the number of 'What comes back', and 256 times what stands beside it.
 ghost use Rattle.std.specs.Prelude.{◌≡◌, ◌+◌, ◌≤◌, ◌<◌};
-ghost use Rattle.format.specs.Answers.{value_of, place_of_asked, value_of_written};
+ghost use Rattle.format.specs.Answers.{told, rule_number, value_of, place_of};
+ghost use Rattle.labels.specs.Called.{source_of, sourced};
+ghost use Rattle.comparing.specs.Outcomes.{outcome_of};
+ghost use Rattle.saving.specs.Salvaged.{salvaged as salvaged_of};
 ghost use Rattle.esa.specs.Face.{packs, packed, packed_asked};
 ghost use Rattle.esa.specs.Places.{span as span_of};
 ghost use Rattle.esa.specs.Labels.{within as withinOf, shown as shownOf, packed_label, Fitting};
 ghost use Rattle.esa.specs.Fans.{one_if, packed_zoned, Bounded};
 ghost use Rattle.esa.specs.Differences.{packed_outcome, Fitted};
 ghost use Rattle.esa.specs.Blocks.{packed_block, packed_pair, packed_entries};
-ghost use Rattle.esa.specs.Writing.{packed_written};
 ghost use Rattle.esa.specs.Salvage.{packed_salvaged, SalvageFits};
 
-use comparing::Outcome;
-use fans::Zoned;
-use format::answers::{Answer, Asked, Written};
+use comparing::RefusedTable;
+use fans::Visit;
+use format::answers::Refusal;
+use format::records::{Element, RegisterPair};
 use labels::Source;
-use parts::{MaybeBlock, MaybeEntries, MaybePair};
-use saving::Salvaged;
+use parts::SpeedBlock;
+use saving::Lengths;
 
-// Of a check: beside 0 the number of elements.
-pub fn answer(a: Answer) -> u64
-    requires { value_of a ≤ 4096 }
-    ensures { result ≡ packed a }
+// Of a check beside 0 the number of elements, of the writer, of Intel HEX and of a removal the new length. A text is longer than a table,
+// and the number of a line may be over 4,096.
+pub fn answer(a: Result<usize, Refusal>) -> u64
+    requires { value_of (told a) ≤ 65538 }
+    ensures { result ≡ packed (told a) }
 {
     match a {
-        Answer::Accepted(n) => pack(0, n),
-        Answer::Refused(k, p) => pack(k, p),
+        Ok(n) => pack(0, n),
+        Err(refusal) => refused(refusal),
     }
+}
+
+// The number of the rule, and beside it the place.
+pub fn refused(refusal: Refusal) -> u64
+    requires { refusal.place ≤ 65538 }
+    ensures { result ≡ packs (rule_number refusal.rule) refusal.place }
+{
+    pack(refusal.rule.number(), refusal.place)
 }
 
 // Of an element: beside 0 its identifier.
-pub fn asked(a: Asked) -> u64
-    requires { place_of_asked a ≤ 4096 }
-    ensures { result ≡ packed_asked a }
+pub fn asked(a: Result<Element, Refusal>) -> u64
+    requires { place_of (told a) ≤ 4096 }
+    ensures { result ≡ packed_asked (told a) }
 {
     match a {
-        Asked::Element(e) => pack(0, words::wide(elements::id_of(e))),
-        Asked::Refused(k, p) => pack(k, p),
-    }
-}
-
-// Of the writer: beside 0 the new length.
-pub fn written(w: Written) -> u64
-    requires { value_of_written w ≤ 4096 }
-    ensures { result ≡ packed_written w }
-{
-    moved(w)
-}
-
-// Of moving a table into Intel HEX and back, the same: a text is longer than a table, and the number of a line may be over 4,096.
-pub fn moved(w: Written) -> u64
-    requires { value_of_written w ≤ 65538 }
-    ensures { result ≡ packed_written w }
-{
-    match w {
-        Written::Length(n) => pack(0, n),
-        Written::Refused(k, p) => pack(k, p),
+        Ok(e) => pack(0, words::wide(elements::id_of(e))),
+        Err(refusal) => refused(refusal),
     }
 }
 
@@ -67,14 +60,23 @@ pub fn span(place: usize, len: usize) -> u64
 }
 
 // Of a label: beside 0 from which slice it is, where in it and how long; `lent` is the length of the lent name.
-pub fn label(s: Source, lent: usize) -> u64
-    requires { Fitting s }
-    ensures { result ≡ packed_label s lent }
+pub fn label(found: Result<Source, Refusal>, lent: usize) -> u64
+    requires { Fitting (sourced found) }
+    ensures { result ≡ packed_label (sourced found) lent }
 {
-    match s {
+    match found {
+        Ok(source) => called(source, lent),
+        Err(refusal) => refused(refusal),
+    }
+}
+
+fn called(source: Source, lent: usize) -> u64
+    requires { Fitting (source_of source) }
+    ensures { result ≡ packed_label (source_of source) lent }
+{
+    match source {
         Source::Text(place, len) => within(0, place, len),
         Source::Lent => within(1, 0, shown(lent)),
-        Source::Refused(j, p) => pack(j, p),
     }
 }
 
@@ -94,13 +96,13 @@ fn shown(len: usize) -> usize
 }
 
 // Of a zone: beside 0 how many elements were visited, and whether there is a fan or a pump.
-pub fn zoned(z: Zoned) -> u64
-    requires { Bounded z }
-    ensures { result ≡ packed_zoned z }
+pub fn zoned(z: Result<Visit, Refusal>) -> u64
+    requires { Bounded (told z) }
+    ensures { result ≡ packed_zoned (told z) }
 {
     match z {
-        Zoned::Seen(v) => pack(0, 2 * v.count + one_if(v.hit)),
-        Zoned::Refused(j, p) => pack(j, p),
+        Ok(v) => pack(0, 2 * v.count + one_if(v.hit)),
+        Err(refusal) => refused(refusal),
     }
 }
 
@@ -111,54 +113,58 @@ fn one_if(found: bool) -> usize
 }
 
 // Of two tables: beside 0 the length of the text, beside a refusal its place and which table is refused.
-pub fn outcome(o: Outcome) -> u64
-    requires { Fitted o }
-    ensures { result ≡ packed_outcome o }
+pub fn outcome(o: Result<usize, RefusedTable>) -> u64
+    requires { Fitted (outcome_of o) }
+    ensures { result ≡ packed_outcome (outcome_of o) }
 {
     match o {
-        Outcome::Text(n) => pack(0, n),
-        Outcome::Refused(w, k, p) => pack(k, p + 65536 * words::wide(w)),
+        Ok(n) => pack(0, n),
+        Err(r) => {
+            let refusal = r.refusal;
+            let place = refusal.place + 65536 * words::wide(r.which.number());
+            pack(refusal.rule.number(), place)
+        }
     }
 }
 
 // Of salvage: beside 0 the length of the new table and that of the text of the lines.
-pub fn salvaged(s: Salvaged) -> u64
-    requires { SalvageFits s }
-    ensures { result ≡ packed_salvaged s }
+pub fn salvaged(s: Result<Lengths, Refusal>) -> u64
+    requires { SalvageFits (salvaged_of s) }
+    ensures { result ≡ packed_salvaged (salvaged_of s) }
 {
     match s {
-        Salvaged::Done(n, m) => pack(0, n + 65536 * m),
-        Salvaged::Refused(k, p) => pack(k, p),
+        Ok(l) => pack(0, l.table + 65536 * l.lines),
+        Err(refusal) => refused(refusal),
     }
 }
 
 // SPEED and ENTRIES.
-pub fn block(b: MaybeBlock) -> u64
+pub fn block(b: Option<SpeedBlock>) -> u64
     ensures { result ≡ packed_block b }
 {
     match b {
-        MaybeBlock::Block(s) => pack(0, words::wide(s.speed.0) + 256 * words::wide(s.entries)),
-        MaybeBlock::Nothing => 17,
+        Some(s) => pack(0, words::wide(s.speed.0) + 256 * words::wide(s.entries)),
+        None => 17,
     }
 }
 
 // Address and data.
-pub fn pair(p: MaybePair) -> u64
+pub fn pair(p: Option<RegisterPair>) -> u64
     ensures { result ≡ packed_pair p }
 {
     match p {
-        MaybePair::Pair(q) => pack(0, (q.address as usize) + 65536 * (q.data as usize)),
-        MaybePair::Nothing => 17,
+        Some(q) => pack(0, (q.address as usize) + 65536 * (q.data as usize)),
+        None => 17,
     }
 }
 
 // ENTRIES.
-pub fn entries(e: MaybeEntries) -> u64
+pub fn entries(e: Option<u8>) -> u64
     ensures { result ≡ packed_entries e }
 {
     match e {
-        MaybeEntries::Entries(n) => pack(0, words::wide(n)),
-        MaybeEntries::Nothing => 17,
+        Some(n) => pack(0, words::wide(n)),
+        None => 17,
     }
 }
 

@@ -3,10 +3,9 @@
 // names the chip.
 #![tactic(auto)]
 
-use fans::{Visit, Zoned};
+use fans::Visit;
 use format::settings::Settings;
-use options::Options;
-use options::numerals::MaybeNumber;
+use options::Chosen;
 use sending::{read_input, refuse};
 use std::io;
 use std::rt::Env;
@@ -16,12 +15,8 @@ fn misuse(rt: &impl Eprint) -> io::Result<()> {
 }
 
 fn show(rt: &impl Print, v: Visit) -> io::Result<()> {
-    let count = v.count;
-    if v.hit {
-        println!(rt; "yes\t{count}")
-    } else {
-        println!(rt; "no\t{count}")
-    }
+    let seen = if v.hit { "yes" } else { "no" };
+    println!(rt; "{seen}\t{}", v.count)
 }
 
 // 4,097 bytes of input are enough: a longer table is refused by the first of them (2) or by its length (3).
@@ -29,44 +24,20 @@ fn answer(rt: &(impl Input + Print), zone: u8, settings: Settings) -> io::Result
     let mut input = [0u8; 4097];
     let n = read_input(rt, &mut input)?;
     match fans::in_zone(&input[..n], zone, settings) {
-        Zoned::Seen(v) => show(rt, v),
-        Zoned::Refused(number, place) => refuse(rt, number, place),
-    }
-}
-
-// The word is the number of the zone.
-fn read_zone(
-    rt: &(impl Input + Print + Eprint),
-    word: &[u8],
-    settings: Settings,
-) -> io::Result<()> {
-    match options::numerals::below(word, 256) {
-        MaybeNumber::Number(zone) => answer(rt, zone as u8, settings),
-        MaybeNumber::Nothing => misuse(rt),
+        Ok(v) => show(rt, v),
+        Err(refusal) => refuse(rt, refusal),
     }
 }
 
 // The one word behind the options.
-fn ask(
-    rt: &(impl Env + Input + Print + Eprint),
-    settings: Settings,
-    first: usize,
-    count: usize,
-) -> io::Result<()> {
-    if first >= count {
-        return misuse(rt);
+fn ask(rt: &(impl Env + Input + Print + Eprint), chosen: Chosen) -> io::Result<()> {
+    match options::number_behind(rt, chosen.next, 1, 256) {
+        Some(zone) => answer(rt, zone as u8, chosen.settings),
+        None => misuse(rt),
     }
-    if count - first > 1 {
-        return misuse(rt);
-    }
-    let mut word = [0u8; 4096];
-    let length = options::read_word(rt, first, &mut word);
-    read_zone(rt, &word[..length], settings)
 }
 
 fn main(rt: HostRuntime) -> io::Result<()> {
-    match options::ordinary(options::read(&rt)) {
-        Options::Chosen(settings, first) => ask(&rt, settings, first, options::count_words(&rt)),
-        Options::Misused(m) => options::complain(&rt, m),
-    }
+    let chosen = options::ordinary(options::read(&rt));
+    options::run(&rt, chosen, |chosen| ask(&rt, chosen))
 }

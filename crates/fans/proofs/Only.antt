@@ -8,13 +8,13 @@ use Rattle.format.specs.Records.{Record}
 use Rattle.format.specs.Verdict.{Accepts}
 use Rattle.format.specs.declared.settings.Settings.{Settings}
 use Rattle.format.specs.declared.records.Description.{Description}
-use Rattle.format.specs.declared.answers.Answer.TheVariants.{Refused as RefusedTable}
+use Rattle.format.specs.Answers.{Refused as RefusedTable}
 use Rattle.format.proofs.Demand3.{unique, only_one_list}
 use Rattle.format.proofs.Asking.{never_both}
 use Rattle.fans.specs.InZone.{in_zone, Shown, Zones, seen, refused}
 use Rattle.fans.specs.declared.Visit.{Visit}
-use Rattle.fans.specs.declared.Zoned.{Zoned}
-use Rattle.fans.specs.declared.Zoned.TheVariants.{Seen}
+use Rattle.fans.specs.InZone.{Zoned}
+use Rattle.format.specs.Answers.{Gives as Seen}
 
 pub only_in_zone : (σ : Settings) (b : List ℕ) (z : ℕ) (r r' : Zoned) → Bytes b → Zones σ b z r → Zones σ b z r' → r ≡ r'
 only_in_zone σ b z r r' small (seen d rs a) (seen d' rs' a') =

@@ -8,12 +8,12 @@ use mathlib.Core.List.{List, [], ◌∷◌}
 use Rattle.format.specs.Records.{Record, fan, pump, zone, string}
 use Rattle.format.specs.Decode.{pin_of, placement_of, fan_of}
 use Rattle.format.specs.declared.pins.Chip.TheVariants.{C8051F320}
-use Rattle.format.specs.declared.pins.OptionalPin.TheVariants.{Unused}
+use Rattle.std.specs.Prelude.{None}
 use Rattle.format.specs.declared.records.PwmFan.{PwmFan}
 use Rattle.fans.specs.InZone.{visit, in_zone}
 
 abbrev motor_of : ℕ → PwmFan
-motor_of z = fan_of (placement_of 0 0 0 0 z) (pin_of C8051F320 0x05) Unused 0 0 0 0
+motor_of z = fan_of (placement_of 0 0 0 0 z) (pin_of C8051F320 0x05) None 0 0 0 0
 
 abbrev rows : List Record
 rows =

@@ -12,13 +12,13 @@ use Rattle.format.specs.Layout.{layout}
 use Rattle.format.specs.Verdict.{stated, Accepts, Verdict, accepted}
 use Rattle.format.specs.declared.settings.Settings.{Settings}
 use Rattle.format.specs.declared.records.Description.{Description}
-use Rattle.format.specs.declared.answers.Answer.TheVariants.{Accepted}
+use Rattle.format.specs.Answers.{Gives as Accepted}
 use Rattle.format.proofs.Lengths.{at_most_96}
 use Rattle.walking.specs.Walk.{Walk}
 use Rattle.walking.proofs.Left.{Next, next, onward, ended}
 use Rattle.fans.specs.InZone.{motor_in, visit, in_zone, Shown, Zones, seen}
 use Rattle.fans.specs.declared.Visit.{Visit}
-use Rattle.fans.specs.declared.Zoned.TheVariants.{Seen}
+use Rattle.format.specs.Answers.{Gives as Seen}
 use Rattle.fans.proofs.Walking.{sought, stops}
 
 abbrev pub Sought : ℕ → List Record → ℕ → List Record → List Record → Type 0

@@ -8,10 +8,10 @@ use Rattle.format.specs.Records.{external, rgb}
 use Rattle.format.specs.Verdict.{Accepts, Verdict}
 use Rattle.format.specs.declared.settings.Settings.{Settings}
 use Rattle.format.specs.declared.records.Description.{Description}
-use Rattle.format.specs.declared.answers.Answer.TheVariants.{Refused as RefusedTable}
+use Rattle.format.specs.Answers.{Refused as RefusedTable}
 use Rattle.fans.specs.declared.Visit.{Visit}
-use Rattle.fans.specs.declared.Zoned.{Zoned}
-use Rattle.fans.specs.declared.Zoned.TheVariants.{Seen, Refused}
+use Rattle.format.specs.Answers.{Answered}
+use Rattle.format.specs.Answers.{Gives as Seen, Refused}
 
 -- a 'fan or pump of the zone', 03h or 06h
 abbrev pub motor_in : ℕ → Record → Bool
@@ -63,6 +63,10 @@ pub record Shown (b : List ℕ) : Type 0 where
   pub description : Description
   pub records : List Record
   pub accepts : Accepts settings b description records
+
+-- what the last visit gave, or the table's refusal
+abbrev pub Zoned : Type 0
+Zoned = Answered Visit
 
 -- 'The public form checks the table first. Refusals: the reader's.'
 pub data Zones (σ : Settings) (b : List ℕ) (z : ℕ) : Zoned → Type 0 where

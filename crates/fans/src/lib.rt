@@ -3,6 +3,7 @@
 #![tactic(auto)]
 
 ghost use Rattle.std.specs.Prelude.{◌≡◌, List, ◌+◌, ◌<◌};
+ghost use Rattle.format.specs.Answers.{told};
 ghost use Rattle.format.specs.Slots.{Fits};
 ghost use Rattle.format.specs.Records.{Record};
 ghost use Rattle.format.specs.Layout.{layout};
@@ -11,10 +12,9 @@ ghost use Rattle.format.specs.declared.settings.Settings.{Settings};
 ghost use Rattle.format.specs.declared.records.Description.{Description};
 ghost use Rattle.fans.specs.InZone.{motor_in, visit, in_zone, Shown, Zones};
 
-use format::answers::Answer;
+use format::answers::Refusal;
 use format::settings::Settings;
-use reader::handed_on;
-use walking::length_at;
+use walking::{Places, length_at};
 
 // Whether the element that was visited last is a fan or a pump of the zone, and how many were visited.
 #[derive(Clone, Copy)]
@@ -23,23 +23,12 @@ pub struct Visit {
     pub count: usize,
 }
 
-// What the last visit gave, or the table's refusal.
-#[derive(Clone, Copy)]
-pub enum Zoned {
-    Seen(Visit),
-    Refused(u8, usize),
-}
-
 // Is there a fan or a pump in this zone? The table is checked first.
-pub fn in_zone(table: &[u8], zone: u8, settings: Settings) -> Zoned
-    ensures { Zones settings table.now zone result }
+pub fn in_zone(table: &[u8], zone: u8, settings: Settings) -> Result<Visit, Refusal>
+    ensures { Zones settings table.now zone (told result) }
 {
-    let answer = reader::check(table, settings);
-    let Answer::Accepted(_) = answer else {
-        let r = handed_on(answer);
-        return Zoned::Refused(r.number, r.place);
-    };
-    Zoned::Seen(seek(table, zone))
+    reader::check(table, settings)?;
+    Ok(seek(table, zone))
 }
 
 // The same of a table whose acceptance is shown: nothing is checked again, and no element behind the first fan or pump of the zone is
@@ -48,16 +37,13 @@ pub fn seek(t: &[u8], zone: u8) -> Visit
     requires { Shown t.now }
     ensures { (σ : Settings) (d : Description) (rs : List Record) → Accepts σ t.now d rs → result ≡ in_zone zone rs }
 {
-    let mut at: usize = 16;
-    let mut count: usize = 0;
-    while at < t.len() {
-        let to = at + length_at(t, at);
-        let v = step(&t[at..to], zone, count);
+    let mut count = 0;
+    for at in Places::of(t) {
+        let v = step(&t[at..at + length_at(t, at)], zone, count);
         if v.hit {
             return v;
         }
         count = v.count;
-        at = to;
     }
     Visit { hit: false, count }
 }

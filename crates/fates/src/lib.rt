@@ -1,11 +1,8 @@
-// What becomes of each element of a damaged table, noted in two lent arrays: what is kept, and the changes in the order made. An element
-// that is kept is held as twice its place, and one more where its string index is cleared.
+// What becomes of each element of a damaged table, noted in two lent arrays: what is kept, and the changes in the order made.
 #![tactic(auto)]
 
-ghost use Rattle.std.specs.Prelude.{◌≡◌, ◌+◌, ◌*◌, ◌/◌, ◌<◌};
+ghost use Rattle.std.specs.Prelude.{◌≡◌, ◌<◌};
 ghost use Rattle.fates.specs.Noted.{Settles};
-
-use words::wide;
 
 // It stays; it is left out by a rule; its string index is cleared.
 #[derive(Clone, Copy)]
@@ -15,6 +12,21 @@ pub enum Fate {
     Mends,
 }
 
+// An element that is kept: its old place, and whether its string index is cleared.
+#[derive(Clone, Copy)]
+pub struct Kept {
+    pub place: u16,
+    pub cleared: bool,
+}
+
+// A change: the old place of an element, the number of the rule, and whether its string index is cleared; else it is left out.
+#[derive(Clone, Copy)]
+pub struct Note {
+    pub place: u16,
+    pub number: u8,
+    pub cleared: bool,
+}
+
 // How many are kept, and how many changes there are.
 #[derive(Clone, Copy)]
 pub struct Counts {
@@ -22,31 +34,43 @@ pub struct Counts {
     pub lines: usize,
 }
 
-// One element more. A change is held as its place, the number of its rule and whether it is a clearing, in one number.
+// One element more.
 pub fn settle(
-    kept: &mut [usize; 96],
-    log: &mut [usize; 1649],
+    kept: &mut [Kept; 96],
+    log: &mut [Note; 1649],
     n: Counts,
-    held: usize,
+    held: Kept,
     fate: Fate,
 ) -> Counts
-    requires { (n.kept < 96) × (n.lines < 1649) × (held < 8192) }
+    requires { (n.kept < 96) × (n.lines < 1649) × (held.place < 4096) }
     ensures { Settles kept.old log.old n held fate result kept.new log.new }
 {
     let i = n.kept;
     let j = n.lines;
+    let place = held.place;
     match fate {
         Fate::Stays => {
             kept[i] = held;
             counted(i + 1, j)
         }
         Fate::Leaves(k) => {
-            log[j] = 1024 * (held / 2) + 2 * wide(k);
+            log[j] = Note {
+                place,
+                number: k,
+                cleared: false,
+            };
             counted(i, j + 1)
         }
         Fate::Mends => {
-            kept[i] = 2 * (held / 2) + 1;
-            log[j] = 1024 * (held / 2) + 29;
+            kept[i] = Kept {
+                place,
+                cleared: true,
+            };
+            log[j] = Note {
+                place,
+                number: 14,
+                cleared: true,
+            };
             counted(i + 1, j + 1)
         }
     }

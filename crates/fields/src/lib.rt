@@ -7,13 +7,13 @@ ghost use Rattle.format.specs.Slots.{byte};
 ghost use Rattle.format.specs.Decode.{optional_of, read_placement, pick_address, read_digital, read_analogue, read_fan, read_lamp, read_led};
 ghost use Rattle.format.specs.Decode.{read_water, read_voltage, read_current, read_device, read_external, read_rgb, read_description};
 
-use format::pins::{Chip, OptionalPin, Pin};
+use format::pins::{Chip, Pin};
 use format::records::{
     Address, AnalogueSensor, BusDevice, CurrentSensor, Description, DigitalSensor, ExternalRgb,
     Lamp, Placement, PwmFan, RgbLed, StatusLed, VoltageSensor, WaterLevel,
 };
 use format::units::{Centimetres, Counts, Deciamps, Decivolts, Degrees, FourMilliamps, Rpm};
-use words::{wide32, word};
+use words::word;
 
 // 01h
 pub fn digital(b: &[u8], chip: Chip) -> DigitalSensor
@@ -165,7 +165,7 @@ pub fn description(t: &[u8], chip: Chip) -> Description
     Description {
         device: t[3],
         string: t[4],
-        serial: wide32(t[5]) + 256 * wide32(t[6]) + 65536 * wide32(t[7]),
+        serial: u32::from(t[5]) + 256 * u32::from(t[6]) + 65536 * u32::from(t[7]),
         spwr: 128 <= t[8],
         power: FourMilliamps(t[8] % 128),
         revision0: optional(t[9], chip),
@@ -200,14 +200,10 @@ fn address(bus: u8, b: u8, chip: Chip) -> Address
 }
 
 // A place that may be unused.
-pub fn optional(b: u8, chip: Chip) -> OptionalPin
+pub fn optional(b: u8, chip: Chip) -> Option<Pin>
     ensures { result ≡ optional_of chip b }
 {
-    if b == 255 {
-        OptionalPin::Unused
-    } else {
-        OptionalPin::Used(Pin(b, chip))
-    }
+    if b == 255 { None } else { Some(Pin(b, chip)) }
 }
 
 fn lamp(b: &[u8], i: usize, chip: Chip) -> Lamp

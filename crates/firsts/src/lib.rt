@@ -5,19 +5,11 @@
 ghost use Rattle.std.specs.Prelude.{◌≡◌, ◌<◌};
 ghost use Rattle.firsts.specs.Firsts.{noted, pick, lesser, LeastTo};
 
-use words::wide;
-
-fn wide16(x: u16) -> usize
-    ensures { result ≡ x }
-{
-    x as usize
-}
-
 // A number is named at a place.
 pub fn note(l: &mut [u16; 256], n: u8, at: u16)
     ensures { l.new ≡ noted l.old n at }
 {
-    let i = wide(n);
+    let i = usize::from(n);
     if l[i] == 0 {
         l[i] = at;
     }
@@ -43,7 +35,7 @@ fn better(best: usize, seen: bool, place: u16) -> usize
     if seen {
         return best;
     }
-    lesser(best, wide16(place))
+    lesser(best, usize::from(place))
 }
 
 // The least place of a number that is named and not declared; 0 where there is none.
@@ -51,10 +43,8 @@ pub fn least(l: &[u16; 256], seen: &[bool; 256]) -> usize
     ensures { LeastTo 256 l.now seen.now result }
 {
     let mut best: usize = 0;
-    let mut i: usize = 0;
-    while i < 256 {
+    for i in 0..256 {
         best = better(best, seen[i], l[i]);
-        i += 1;
     }
     best
 }

@@ -2,7 +2,6 @@
 -- Assumes nothing.
 use Prim.Native.Nat.{ℕ, zero, suc, ◌+◌, ◌<◌}
 use native.Mathlib.Omega.{arith}
-use native.Mathlib.Numerals.{add-one}
 use mathlib.Core.Path.{◌≡◌, refl, sym}
 use mathlib.Core.Bool.{Bool, true, false, ◌&&◌, ◌||◌, not, false≢true}
 use mathlib.Core.List.{List}
@@ -55,10 +54,3 @@ one_owed (suc n) u s h = go (lacks_to n u s) refl (get_or u n false) refl (get_o
     go false p true q false r k f = (n, omega arith, q, r)
     go false p true q true r k f = absurd (false≢true k)
     go false p false q b r k f = absurd (false≢true k)
-
--- one turn of the search
-pub lacks_turn :
-    (u s : List Bool) (i : ℕ) {bad : Bool}
-    → bad ≡ lacks_to i u s
-    → bad || (get_or u i false && not (get_or s i false)) ≡ lacks_to (i + 1) u s
-lacks_turn u s i h = rw (add-one, h)

@@ -14,11 +14,9 @@ pub fn lacks(used: &[bool; 256], seen: &[bool; 256]) -> bool
 fn lacks_one(used: &[bool; 256], seen: &[bool; 256]) -> bool
     ensures { result ≡ lacks_to 256 used.now seen.now }
 {
-    let mut i: usize = 0;
     let mut bad = false;
-    while i < 256 {
+    for i in 0..256 {
         bad = bad | (used[i] & !seen[i]);
-        i += 1;
     }
     bad
 }

@@ -22,7 +22,7 @@ use Rattle.format.specs.declared.settings.Settings.{Settings}
 use Rattle.format.specs.declared.settings.Rules.{Rules}
 use Rattle.format.specs.declared.settings.Rules.TheVariants.{Ordinary, Archive}
 use Rattle.format.specs.declared.records.Description.{Description}
-use Rattle.format.specs.declared.answers.Answer.{Answer}
+use Rattle.format.specs.Answers.{Answer}
 use Rattle.format.proofs.Kept.{own_kept, own_unbroken}
 
 -- a test or its opposite

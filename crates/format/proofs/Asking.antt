@@ -13,12 +13,12 @@ use Rattle.format.specs.Verdict.{Accepts, Verdict, accepted}
 use Rattle.format.specs.Reader.{verdict_of}
 use Rattle.format.specs.Asked.{nth, Describes, described, undescribed, Gives, given, past, ungiven}
 use Rattle.format.specs.declared.records.Description.{Description as Fields}
-use Rattle.format.specs.declared.answers.Answer.{Answer}
-use Rattle.format.specs.declared.answers.Answer.TheVariants.{Accepted, Refused}
-use Rattle.format.specs.declared.answers.Described.{Described}
-use Rattle.format.specs.declared.answers.Described.TheVariants.{Description, Refused as NotDescribed}
-use Rattle.format.specs.declared.answers.Asked.{Asked}
-use Rattle.format.specs.declared.answers.Asked.TheVariants.{Element, Refused as NotGiven}
+use Rattle.format.specs.Answers.{Answer}
+use Rattle.format.specs.Answers.{Gives as Accepted, Refused}
+use Rattle.format.specs.Answers.{Described}
+use Rattle.format.specs.Answers.{Gives as Description, Refused as NotDescribed}
+use Rattle.format.specs.Answers.{Asked}
+use Rattle.format.specs.Answers.{Gives as Element, Refused as NotGiven}
 use Rattle.format.proofs.Theorem.{meets, only, one_list, accepts_passed}
 use Rattle.format.specs.declared.settings.Settings.{Settings}
 

@@ -12,8 +12,8 @@ use Rattle.format.specs.Reader.{verdict_of}
 use Rattle.format.specs.Known.{table_a}
 use Rattle.format.specs.Bargain.{KeepsWords, TurnsAllAway, RepliesOnly, InventsCount}
 use Rattle.format.specs.declared.records.Description.{Description}
-use Rattle.format.specs.declared.answers.Answer.{Answer}
-use Rattle.format.specs.declared.answers.Answer.TheVariants.{Accepted, Refused}
+use Rattle.format.specs.Answers.{Answer}
+use Rattle.format.specs.Answers.{Gives as Accepted, Refused}
 use Rattle.format.proofs.Theorem.{meets}
 use Rattle.format.proofs.KnownTables.{small_bytes, known_tables}
 use Rattle.format.proofs.Demand3.{unique, accepted_exactly}

@@ -29,32 +29,33 @@ use Rattle.format.specs.declared.pins.Chip.TheVariants.{C8051F320, C8051F321}
 use Rattle.format.specs.declared.pins.Use.{Use}
 use Rattle.format.specs.declared.pins.Use.TheVariants.{FanPin, AnaloguePin, ChipSelect, StatusLed, HardwareRevision}
 use Rattle.format.specs.declared.pins.Pin.{Pin}
-use Rattle.format.specs.declared.pins.OptionalPin.{OptionalPin}
-use Rattle.format.specs.declared.pins.OptionalPin.TheVariants.{Unused, Used}
+use Rattle.std.specs.Prelude.{Option}
+use Rattle.format.specs.declared.pins.Pin.{Pin}
+use Rattle.std.specs.Prelude.{None, Some}
 use Rattle.format.specs.declared.settings.Settings.{Settings}
 use Rattle.format.specs.declared.settings.Rules.{Rules}
 use Rattle.format.specs.declared.records.Description.{Description}
 use Rattle.format.specs.declared.records.PwmFan.{PwmFan}
 use Rattle.format.specs.declared.records.Address.{Address}
 use Rattle.format.specs.declared.records.Address.TheVariants.{Bus, Select}
-use Rattle.format.specs.declared.answers.Answer.TheVariants.{Accepted}
+use Rattle.format.specs.Answers.{Gives as Accepted}
 use Rattle.format.proofs.Kept.{and-true, OwnKept, own_kept, kept_own, own_unbroken, then_against, description_kept, kept_description}
 use Rattle.format.proofs.KnownTables.{small_bytes, chips_apart}
 use Rattle.format.proofs.Demand3.{unique, only_one_list}
 
 -- What does not look at the chip.
 module _ (c : Chip) where
-  slot_on : (p : OptionalPin) → optional_pin_slot (optional_on c p) ≡ optional_pin_slot p
-  slot_on Unused = refl
-  slot_on (Used p) = refl
+  slot_on : (p : Option Pin) → optional_pin_slot (optional_on c p) ≡ optional_pin_slot p
+  slot_on None = refl
+  slot_on (Some p) = refl
 
-  unused_on : (p : OptionalPin) → unused (optional_on c p) ≡ unused p
-  unused_on Unused = refl
-  unused_on (Used p) = refl
+  unused_on : (p : Option Pin) → unused (optional_on c p) ≡ unused p
+  unused_on None = refl
+  unused_on (Some p) = refl
 
-  used_on : (p : OptionalPin) → own_used (optional_on c p) ≡ own_used p
-  used_on Unused = refl
-  used_on (Used p) = refl
+  used_on : (p : Option Pin) → own_used (optional_on c p) ≡ own_used p
+  used_on None = refl
+  used_on (Some p) = refl
 
   address_on_lem : (a : Address) → address (address_on c a) ≡ address a
   address_on_lem (Bus a) = refl
@@ -203,9 +204,9 @@ module _ (c : Chip) where
   contested_on : (d : Description) (rs : List Record) → contested (description_on c d) (records_on c rs) ≡ contested d rs
   contested_on d rs = rw (used_on d.revision0, used_on d.revision1, used_on d.revision2, claims_from_on 16 rs) refl
 
-  used_pin_on : (p : OptionalPin) → used_pin (optional_on c p) ≡ used_pin p
-  used_pin_on Unused = refl
-  used_pin_on (Used p) = refl
+  used_pin_on : (p : Option Pin) → used_pin (optional_on c p) ≡ used_pin p
+  used_pin_on None = refl
+  used_pin_on (Some p) = refl
 
   fan_pins_on : (r : Record) → fan_pins (record_on c r) ≡ fan_pins r
   fan_pins_on (digital d) = refl
@@ -270,12 +271,12 @@ allowed_larger u p h =
     rw (only_large (listed u))
     (only_among small p.0 (listed u) (and-true (of_chip small p) (among p.0 (permitted small u)) h).1)
 
-optional_larger : (u : Use) (p : OptionalPin) → allowed_or_unused small u p ≡ true → allowed_or_unused large u (optional_on large p) ≡ true
-optional_larger u Unused h = refl
-optional_larger u (Used p) h = allowed_larger u p h
+optional_larger : (u : Use) (p : Option Pin) → allowed_or_unused small u p ≡ true → allowed_or_unused large u (optional_on large p) ≡ true
+optional_larger u None h = refl
+optional_larger u (Some p) h = allowed_larger u p h
 
 three_larger :
-    (u : Use) (p q r : OptionalPin)
+    (u : Use) (p q r : Option Pin)
     → allowed_or_unused small u p && (allowed_or_unused small u q && allowed_or_unused small u r) ≡ true
     → allowed_or_unused large u (optional_on large p) &&
     (allowed_or_unused large u (optional_on large q) && allowed_or_unused large u (optional_on large r)) ≡ true
@@ -288,9 +289,9 @@ selected_larger : (a : Address) → selected small a ≡ true → selected large
 selected_larger (Bus a) h = refl
 selected_larger (Select p) h = allowed_larger ChipSelect p h
 
-rises_on : (p : Pin) (q : OptionalPin) → rises p q ≡ true → rises (pin_on large p) (optional_on large q) ≡ true
-rises_on p Unused h = refl
-rises_on p (Used q) h = h
+rises_on : (p : Pin) (q : Option Pin) → rises p q ≡ true → rises (pin_on large p) (optional_on large q) ≡ true
+rises_on p None h = refl
+rises_on p (Some q) h = h
 
 fanned_larger : (f : PwmFan) → fanned small f ≡ true → fanned large (motor_on large f) ≡ true
 fanned_larger f h =

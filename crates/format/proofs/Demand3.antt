@@ -11,8 +11,8 @@ use Rattle.format.specs.Records.{Record}
 use Rattle.format.specs.Verdict.{Accepts, Verdict, accepted}
 use Rattle.format.specs.Reader.{verdict_of}
 use Rattle.format.specs.declared.records.Description.{Description}
-use Rattle.format.specs.declared.answers.Answer.{Answer}
-use Rattle.format.specs.declared.answers.Answer.TheVariants.{Accepted, Refused}
+use Rattle.format.specs.Answers.{Answer}
+use Rattle.format.specs.Answers.{Gives as Accepted, Refused}
 use Rattle.format.proofs.Theorem.{meets, only, one_list, accepts_passed}
 use Rattle.format.specs.declared.settings.Settings.{Settings}
 

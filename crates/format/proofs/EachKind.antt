@@ -20,8 +20,9 @@ use Rattle.format.specs.Decode.{read_external, read_rgb, read_description}
 use Rattle.format.specs.declared.pins.Chip.{Chip}
 use Rattle.format.specs.declared.pins.Chip.TheVariants.{C8051F320, C8051F321}
 use Rattle.format.specs.declared.pins.Pin.{Pin}
-use Rattle.format.specs.declared.pins.OptionalPin.{OptionalPin}
-use Rattle.format.specs.declared.pins.OptionalPin.TheVariants.{Unused, Used}
+use Rattle.std.specs.Prelude.{Option}
+use Rattle.format.specs.declared.pins.Pin.{Pin}
+use Rattle.std.specs.Prelude.{None, Some}
 use Rattle.format.specs.declared.records.Description.{Description}
 use Rattle.format.specs.declared.records.Placement.{Placement}
 use Rattle.format.specs.declared.records.DigitalSensor.{DigitalSensor}
@@ -68,12 +69,12 @@ module _ (c : Chip) where
   pub pin_only : (b : ℕ) (p : Pin) → Holds b (pin_slot p) → of_chip c p ≡ true → p ≡ pin_of c b
   pin_only b p h k = λ i. pin_of (sym (same_chip_lem c p.1 k) i) (sym h i)
 
-  optional_only : (b : ℕ) (p : OptionalPin) → Holds b (optional_pin_slot p) → standing c p ≡ true → p ≡ optional_of c b
-  optional_only b Unused h k = rw h refl
-  optional_only b (Used p) h k =
+  optional_only : (b : ℕ) (p : Option Pin) → Holds b (optional_pin_slot p) → standing c p ≡ true → p ≡ optional_of c b
+  optional_only b None h k = rw h refl
+  optional_only b (Some p) h k =
       let q = and-true (of_chip c p) (not (eqb p.0 0xff)) k in
       let n : eqb b 0xff ≡ false = rw h (not-true (eqb p.0 0xff) q.1) in
-      rw n (ap Used (pin_only b p h q.0))
+      rw n (ap Some (pin_only b p h q.0))
 
   optional_fits : (b : ℕ) → Holds b (optional_pin_slot (optional_of c b))
   optional_fits b = go (eqb b 0xff) refl

@@ -16,8 +16,9 @@ use Rattle.format.specs.Verdict.{Accepts}
 use Rattle.format.specs.declared.pins.Chip.{Chip}
 use Rattle.format.specs.declared.pins.Use.TheVariants.{FanPin}
 use Rattle.format.specs.declared.pins.Pin.{Pin}
-use Rattle.format.specs.declared.pins.OptionalPin.{OptionalPin}
-use Rattle.format.specs.declared.pins.OptionalPin.TheVariants.{Unused, Used}
+use Rattle.std.specs.Prelude.{Option}
+use Rattle.format.specs.declared.pins.Pin.{Pin}
+use Rattle.std.specs.Prelude.{None, Some}
 use Rattle.format.specs.declared.settings.Settings.{Settings}
 use Rattle.format.specs.declared.records.Description.{Description}
 use Rattle.format.specs.declared.records.PwmFan.{PwmFan}
@@ -25,9 +26,9 @@ use Rattle.format.proofs.Kept.{and-true, own_kept, own_unbroken, against_unbroke
 use Rattle.format.proofs.Growing.{last_snoc}
 
 -- within one element
-two_rise : (p : ℕ) (q : Pin) (t : OptionalPin) → ltb p q.0 ≡ true → rises q t ≡ true → rise p (q.0 ∷ used_pin t) ≡ true
-two_rise p q Unused h k = simp h
-two_rise p q (Used r) h k = simp (h, k)
+two_rise : (p : ℕ) (q : Pin) (t : Option Pin) → ltb p q.0 ≡ true → rises q t ≡ true → rise p (q.0 ∷ used_pin t) ≡ true
+two_rise p q None h k = simp h
+two_rise p q (Some r) h k = simp (h, k)
 
 fan_within :
     (c : Chip) (f : PwmFan) (p : ℕ) → pinned c (fan f) ≡ true → ltb p f.pwm.0 ≡ true → rise p (f.pwm.0 ∷ used_pin f.tachometer)

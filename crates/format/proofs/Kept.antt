@@ -20,8 +20,9 @@ use Rattle.format.specs.declared.pins.Chip.TheVariants.{C8051F320, C8051F321}
 use Rattle.format.specs.declared.pins.Use.{Use}
 use Rattle.format.specs.declared.pins.Use.TheVariants.{FanPin, AnaloguePin, ChipSelect, StatusLed, HardwareRevision}
 use Rattle.format.specs.declared.pins.Pin.{Pin}
-use Rattle.format.specs.declared.pins.OptionalPin.{OptionalPin}
-use Rattle.format.specs.declared.pins.OptionalPin.TheVariants.{Unused, Used}
+use Rattle.std.specs.Prelude.{Option as Optional}
+use Rattle.format.specs.declared.pins.Pin.{Pin}
+use Rattle.std.specs.Prelude.{None, Some}
 use Rattle.format.specs.declared.settings.Settings.{Settings}
 use Rattle.format.specs.declared.records.Address.{Address}
 use Rattle.format.specs.declared.records.Address.TheVariants.{Bus, Select}
@@ -226,12 +227,12 @@ module _ (c : Chip) where
           absurd (false≢true (sym (none_permits c u) ∙ (rw (eqb-true p.0 0xff e) at m)))
       go false e = refl
 
-  allowed_standing : (u : Use) (p : OptionalPin) → allowed_or_unused c u p ≡ true → standing c p ≡ true
-  allowed_standing u Unused h = refl
-  allowed_standing u (Used p) h = simp (allowed_chip u p h, allowed_used u p h)
+  allowed_standing : (u : Use) (p : Optional Pin) → allowed_or_unused c u p ≡ true → standing c p ≡ true
+  allowed_standing u None h = refl
+  allowed_standing u (Some p) h = simp (allowed_chip u p h, allowed_used u p h)
 
   pub three_standing :
-      (u : Use) (p q r : OptionalPin)
+      (u : Use) (p q r : Optional Pin)
       → allowed_or_unused c u p && (allowed_or_unused c u q && allowed_or_unused c u r) ≡ true
       → standing c p && (standing c q && standing c r) ≡ true
   three_standing u p q r h =

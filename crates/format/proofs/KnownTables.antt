@@ -17,8 +17,8 @@ use Rattle.format.specs.Reader.{verdict_of, pass, step}
 use Rattle.format.specs.Known.{Row, starred, twofold, zoned, of_pins, apart, of_the_fan_list, retired, texts}
 use Rattle.format.specs.WaterKit.{water_kit, many_pairs, light_retired}
 use Rattle.format.specs.EachRule.{each_rule, full_table}
-use Rattle.format.specs.declared.answers.Answer.{Answer}
-use Rattle.format.specs.declared.answers.Answer.TheVariants.{Accepted, Refused}
+use Rattle.format.specs.Answers.{Answer}
+use Rattle.format.specs.Answers.{Gives as Accepted, Refused}
 use Rattle.format.proofs.Kept.{and-true}
 use Rattle.format.proofs.Theorem.{meets}
 use Rattle.format.specs.declared.pins.Chip.{Chip}

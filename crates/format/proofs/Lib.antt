@@ -24,5 +24,6 @@ pub mod Demand3
 pub mod BadReaders
 pub mod Chips
 pub mod NamedChip
+pub mod Refusals
 pub mod Archive
 pub mod FanList

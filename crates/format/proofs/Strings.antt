@@ -19,8 +19,8 @@ use Rattle.format.specs.Table.{PassKept}
 use Rattle.format.specs.Asked.{nth, Gives, given, past, ungiven}
 use Rattle.format.specs.declared.settings.Settings.{Settings}
 use Rattle.format.specs.declared.records.Element.TheVariants.{Text}
-use Rattle.format.specs.declared.answers.Asked.{Asked}
-use Rattle.format.specs.declared.answers.Asked.TheVariants.{Element}
+use Rattle.format.specs.Answers.{Asked}
+use Rattle.format.specs.Answers.{Gives as Element}
 use Rattle.format.proofs.Kept.{and-true, OwnKept, own_kept, own_unbroken}
 use Rattle.format.proofs.Whole.{written_whole}
 

@@ -21,8 +21,8 @@ use Rattle.format.specs.Decode.{read_description}
 use Rattle.format.specs.Reader.{Result, halted, through, pass, or_refuse, over_all, conclude, unless_misdescribed, after_description}
 use Rattle.format.specs.Reader.{or_refuse_at0, verdict_of}
 use Rattle.format.specs.declared.records.Description.{Description}
-use Rattle.format.specs.declared.answers.Answer.{Answer}
-use Rattle.format.specs.declared.answers.Answer.TheVariants.{Refused}
+use Rattle.format.specs.Answers.{Answer}
+use Rattle.format.specs.Answers.{Refused}
 use Rattle.format.proofs.Slots.{bytes_drop, starts_count, starts_roomy}
 use Rattle.format.proofs.Kept.{and-true, described_kind}
 use Rattle.format.proofs.Opening.{opened_only, opened_fits, opened_facts, table_split, table_join}

@@ -19,7 +19,7 @@ use Rattle.format.specs.Verdict.{Verdict, Accepts, accepted}
 use Rattle.format.specs.Cleared.{cleared_byte, cleared}
 use Rattle.format.specs.Decode.{content, decode, read_description}
 use Rattle.format.specs.declared.records.Description.{Description}
-use Rattle.format.specs.declared.answers.Answer.TheVariants.{Accepted}
+use Rattle.format.specs.Answers.{Gives as Accepted}
 use Rattle.format.proofs.Slots.{starts_over}
 use Rattle.format.proofs.Kept.{and-true}
 use Rattle.format.proofs.EachKind.{description_only}

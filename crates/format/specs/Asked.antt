@@ -8,11 +8,11 @@ use Rattle.format.specs.Layout.{part}
 use Rattle.format.specs.Verdict.{Accepts, Verdict}
 use Rattle.format.specs.declared.settings.Settings.{Settings}
 use Rattle.format.specs.declared.records.Description.{Description as Fields}
-use Rattle.format.specs.declared.answers.Answer.TheVariants.{Refused as RefusedTable}
-use Rattle.format.specs.declared.answers.Described.{Described}
-use Rattle.format.specs.declared.answers.Described.TheVariants.{Description, Refused as NotDescribed}
-use Rattle.format.specs.declared.answers.Asked.{Asked}
-use Rattle.format.specs.declared.answers.Asked.TheVariants.{Element, Refused as NotGiven}
+use Rattle.format.specs.Answers.{Refused as RefusedTable}
+use Rattle.format.specs.Answers.{Described}
+use Rattle.format.specs.Answers.{Gives as Description, Refused as NotDescribed}
+use Rattle.format.specs.Answers.{Asked}
+use Rattle.format.specs.Answers.{Gives as Element, Refused as NotGiven}
 
 -- 'Elements are numbered from 0'
 abbrev pub nth : List Record → ℕ → Option Record

@@ -6,8 +6,8 @@ use Rattle.format.specs.Records.{Record}
 use Rattle.format.specs.Verdict.{Accepts, Verdict}
 use Rattle.format.specs.declared.settings.Settings.{Settings}
 use Rattle.format.specs.declared.records.Description.{Description}
-use Rattle.format.specs.declared.answers.Answer.{Answer}
-use Rattle.format.specs.declared.answers.Answer.TheVariants.{Accepted, Refused}
+use Rattle.format.specs.Answers.{Answer}
+use Rattle.format.specs.Answers.{Gives as Accepted, Refused}
 
 -- a check as a function: it keeps its words where every list of bytes gets the verdict
 abbrev pub KeepsWords : Settings → (List ℕ → Answer) → Type 0

@@ -7,8 +7,9 @@ use Rattle.format.specs.Decode.{pin_of, digital_of, analogue_of, fan_of, lamp_of
 use Rattle.format.specs.Decode.{external_of, rgb_of, description_of}
 use Rattle.format.specs.declared.pins.Chip.{Chip}
 use Rattle.format.specs.declared.pins.Pin.{Pin}
-use Rattle.format.specs.declared.pins.OptionalPin.{OptionalPin}
-use Rattle.format.specs.declared.pins.OptionalPin.TheVariants.{Unused, Used}
+use Rattle.std.specs.Prelude.{Option}
+use Rattle.format.specs.declared.pins.Pin.{Pin}
+use Rattle.std.specs.Prelude.{None, Some}
 use Rattle.format.specs.declared.settings.Settings.{Settings}
 use Rattle.format.specs.declared.records.Description.{Description}
 use Rattle.format.specs.declared.records.Lamp.{Lamp}
@@ -24,9 +25,9 @@ with_chip c s = record { chip = c; rules = s.rules }
 abbrev pub pin_on : Chip → Pin → Pin
 pin_on c p = pin_of c p.0
 
-abbrev pub optional_on : Chip → OptionalPin → OptionalPin
-optional_on c Unused = Unused
-optional_on c (Used p) = Used (pin_on c p)
+abbrev pub optional_on : Chip → Option Pin → Option Pin
+optional_on c None = None
+optional_on c (Some p) = Some (pin_on c p)
 
 abbrev pub address_on : Chip → Address → Address
 address_on c (Bus a) = Bus a

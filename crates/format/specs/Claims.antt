@@ -7,8 +7,9 @@ use Rattle.format.specs.Records.{string, external, rgb}
 use Rattle.format.specs.Layout.{layout}
 use Rattle.format.specs.Rules.{unless_kept}
 use Rattle.format.specs.declared.pins.Pin.{Pin}
-use Rattle.format.specs.declared.pins.OptionalPin.{OptionalPin}
-use Rattle.format.specs.declared.pins.OptionalPin.TheVariants.{Unused, Used}
+use Rattle.std.specs.Prelude.{Option as Optional}
+use Rattle.format.specs.declared.pins.Pin.{Pin}
+use Rattle.std.specs.Prelude.{None, Some}
 use Rattle.format.specs.declared.records.Description.{Description}
 use Rattle.format.specs.declared.records.PwmFan.{PwmFan}
 use Rattle.format.specs.declared.records.Address.{Address}
@@ -63,9 +64,9 @@ first_clash earlier (m ∷ ms) = unless_kept (not (clashes m.what earlier)) m.pl
 abbrev pub own : Pin → Claim
 own p = claim alone p.0
 
-abbrev pub own_used : OptionalPin → List Claim
-own_used Unused = []
-own_used (Used p) = own p ∷ []
+abbrev pub own_used : Optional Pin → List Claim
+own_used None = []
+own_used (Some p) = own p ∷ []
 
 -- 'P0.3 and P0.4 for bus types 0 to 2, P0.0 to P0.2 for SPI', then 'a chip select being one' of its own pins. Claims are
 -- made by records that keep 9, and so the address tells the bus type

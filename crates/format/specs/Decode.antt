@@ -8,8 +8,9 @@ use Rattle.format.specs.Records.{zone, string, external, rgb}
 use Rattle.format.specs.Verdict.{stated}
 use Rattle.format.specs.declared.pins.Chip.{Chip}
 use Rattle.format.specs.declared.pins.Pin.{Pin}
-use Rattle.format.specs.declared.pins.OptionalPin.{OptionalPin}
-use Rattle.format.specs.declared.pins.OptionalPin.TheVariants.{Unused, Used}
+use Rattle.std.specs.Prelude.{Option as Optional}
+use Rattle.format.specs.declared.pins.Pin.{Pin}
+use Rattle.std.specs.Prelude.{None, Some}
 use Rattle.format.specs.declared.records.Description.{Description}
 use Rattle.format.specs.declared.records.Placement.{Placement}
 use Rattle.format.specs.declared.records.DigitalSensor.{DigitalSensor}
@@ -31,11 +32,11 @@ use Rattle.format.specs.declared.records.Address.TheVariants.{Bus, Select}
 abbrev pub pin_of : Chip → ℕ → Pin
 pin_of c b = record { 0 = b; 1 = c }
 
-abbrev pub pick_pin : Bool → Pin → OptionalPin
-pick_pin true p = Unused
-pick_pin false p = Used p
+abbrev pub pick_pin : Bool → Pin → Optional Pin
+pick_pin true p = None
+pick_pin false p = Some p
 
-abbrev pub optional_of : Chip → ℕ → OptionalPin
+abbrev pub optional_of : Chip → ℕ → Optional Pin
 optional_of c b = pick_pin (eqb b 0xff) (pin_of c b)
 
 -- each record by its numbers and pins, in the order of its fields
@@ -70,7 +71,7 @@ analogue_of p t pin a b c d e =
       at100 = record { 0 = e };
     }
 
-abbrev pub fan_of : Placement → Pin → OptionalPin → ℕ → ℕ → ℕ → ℕ → PwmFan
+abbrev pub fan_of : Placement → Pin → Optional Pin → ℕ → ℕ → ℕ → ℕ → PwmFan
 fan_of p pwm t ppr a b duty =
     record {
       placement = p;
@@ -82,7 +83,7 @@ fan_of p pwm t ppr a b duty =
       duty = duty;
     }
 
-abbrev pub lamp_of : OptionalPin → ℕ → ℕ → Lamp
+abbrev pub lamp_of : Optional Pin → ℕ → ℕ → Lamp
 lamp_of pin c u = record { pin = pin; colour = c; purpose = u }
 
 abbrev pub led_of : Placement → Lamp → Lamp → Lamp → StatusLed
@@ -109,7 +110,7 @@ external_of d i = record { device = d; identifier = i }
 abbrev pub rgb_of : Placement → Pin → Pin → Pin → RgbLed
 rgb_of p r g b = record { placement = p; red = r; green = g; blue = b }
 
-abbrev pub description_of : ℕ → ℕ → ℕ → Bool → ℕ → OptionalPin → OptionalPin → OptionalPin → Description
+abbrev pub description_of : ℕ → ℕ → ℕ → Bool → ℕ → Optional Pin → Optional Pin → Optional Pin → Description
 description_of k s n f u a b c =
     record {
       device = k;

@@ -4,7 +4,7 @@
 use Rattle.std.specs.Prelude.{ℕ, zero, suc, List, [], ◌∷◌, ◌++◌}
 use Rattle.format.specs.Known.{Row, ◌gives◌, table_of, after, zone_z, zone1, fan_f, lamp_l, led_l, sensor_n, string_n, string_s}
 use Rattle.format.specs.WaterKit.{zeros, levels_w, pump_p}
-use Rattle.format.specs.declared.answers.Answer.TheVariants.{Accepted, Refused}
+use Rattle.format.specs.Answers.{Gives as Accepted, Refused}
 
 -- strings, and zone descriptors, numbered from n down to 1
 abbrev pub strings : ℕ → List ℕ

@@ -4,12 +4,13 @@
 use Rattle.std.specs.Prelude.{ℕ, Bool, true, ◌&&◌, List, [], ◌∷◌, ◌++◌, ltb}
 use Rattle.format.specs.Records.{Record, digital, analogue, fan, led, water, pump, voltage, current, controller, tachometer, zone}
 use Rattle.format.specs.Records.{string, external, rgb}
-use Rattle.format.specs.declared.pins.OptionalPin.{OptionalPin}
-use Rattle.format.specs.declared.pins.OptionalPin.TheVariants.{Unused, Used}
+use Rattle.std.specs.Prelude.{Option}
+use Rattle.format.specs.declared.pins.Pin.{Pin}
+use Rattle.std.specs.Prelude.{None, Some}
 
-abbrev pub used_pin : OptionalPin → List ℕ
-used_pin Unused = []
-used_pin (Used p) = p.0 ∷ []
+abbrev pub used_pin : Option Pin → List ℕ
+used_pin None = []
+used_pin (Some p) = p.0 ∷ []
 
 -- those of one element, in field order; 'chip selects are not counted'
 abbrev pub fan_pins : Record → List ℕ

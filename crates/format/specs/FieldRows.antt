@@ -8,7 +8,7 @@ use Rattle.format.specs.Records.{Block, Record, digital, analogue, fan, led, wat
 use Rattle.format.specs.Records.{zone, string, external, rgb}
 use Rattle.format.specs.declared.pins.Chip.{Chip}
 use Rattle.format.specs.declared.pins.Pin.{Pin}
-use Rattle.format.specs.declared.pins.OptionalPin.TheVariants.{Unused, Used}
+use Rattle.std.specs.Prelude.{None, Some}
 use Rattle.format.specs.declared.records.Description.{Description}
 use Rattle.format.specs.declared.records.Placement.{Placement}
 use Rattle.format.specs.declared.records.RegisterPair.{RegisterPair}
@@ -101,7 +101,7 @@ field_rows c =
     holds fan (record {
       placement = placed;
       pwm = pin_at c 0x36;
-      tachometer = Used (pin_at c 0x37);
+      tachometer = Some (pin_at c 0x37);
       ppr = 0x38;
       minrpm = record { 0 = 0x4241 };
       maxrpm = record { 0 = 0x4443 };
@@ -113,7 +113,7 @@ field_rows c =
     holds fan (record {
       placement = placed;
       pwm = pin_at c 0x36;
-      tachometer = Unused;
+      tachometer = None;
       ppr = 0x38;
       minrpm = record { 0 = 0x4241 };
       maxrpm = record { 0 = 0x4443 };
@@ -124,9 +124,9 @@ field_rows c =
     ∷ 0x36 ∷ 0x12 ∷ 0x37 ∷ 0x45 ∷ 0x38 ∷ 0x78 ∷ []
     holds led (record {
       placement = placed;
-      one = record { pin = Used (pin_at c 0x36); colour = 1; purpose = 2 };
-      two = record { pin = Used (pin_at c 0x37); colour = 4; purpose = 5 };
-      three = record { pin = Used (pin_at c 0x38); colour = 7; purpose = 8 };
+      one = record { pin = Some (pin_at c 0x36); colour = 1; purpose = 2 };
+      two = record { pin = Some (pin_at c 0x37); colour = 4; purpose = 5 };
+      three = record { pin = Some (pin_at c 0x38); colour = 7; purpose = 8 };
     }))
     -- Table 18
     ∷ (0x05 ∷ 0x0f ∷ 0x00 ∷ 0x31 ∷ 0x32 ∷ 0x33 ∷ 0x34 ∷ 0x35
@@ -144,7 +144,7 @@ field_rows c =
     holds pump (record {
       placement = placed;
       pwm = pin_at c 0x36;
-      tachometer = Used (pin_at c 0x37);
+      tachometer = Some (pin_at c 0x37);
       ppr = 0x38;
       minrpm = record { 0 = 0x4241 };
       maxrpm = record { 0 = 0x4443 };
@@ -213,9 +213,9 @@ description_row c spwr =
       serial = 0x434241;
       spwr = spwr;
       power = record { 0 = 0x36 };
-      revision0 = Used (pin_at c 0x37);
-      revision1 = Used (pin_at c 0x38);
-      revision2 = Unused;
+      revision0 = Some (pin_at c 0x37);
+      revision1 = Some (pin_at c 0x38);
+      revision2 = None;
     }
 
 -- a position with FFh where a test is true

@@ -7,8 +7,8 @@ use Rattle.format.specs.declared.pins.Chip.{Chip}
 use Rattle.format.specs.declared.pins.Chip.TheVariants.{C8051F320, C8051F321}
 use Rattle.format.specs.declared.settings.Rules.{Rules}
 use Rattle.format.specs.declared.settings.Rules.TheVariants.{Ordinary, Archive}
-use Rattle.format.specs.declared.answers.Answer.{Answer}
-use Rattle.format.specs.declared.answers.Answer.TheVariants.{Accepted, Refused}
+use Rattle.format.specs.Answers.{Answer}
+use Rattle.format.specs.Answers.{Gives as Accepted, Refused}
 
 -- table A without its last byte, but for byte 0, byte 1, byte 3, byte 4, byte 8 and byte 9
 abbrev pub head_with : ℕ → ℕ → ℕ → ℕ → ℕ → ℕ → List ℕ

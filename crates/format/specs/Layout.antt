@@ -5,8 +5,9 @@ use Rattle.format.specs.Slots.{Slot, whole, low, high, halves, flag, reserved, w
 use Rattle.format.specs.Records.{Block, Record, digital, analogue, fan, led, water, pump, voltage, current, controller, tachometer}
 use Rattle.format.specs.Records.{zone, string, external, rgb, element_of}
 use Rattle.format.specs.declared.pins.Pin.{Pin}
-use Rattle.format.specs.declared.pins.OptionalPin.{OptionalPin}
-use Rattle.format.specs.declared.pins.OptionalPin.TheVariants.{Unused, Used}
+use Rattle.std.specs.Prelude.{Option}
+use Rattle.format.specs.declared.pins.Pin.{Pin}
+use Rattle.std.specs.Prelude.{None, Some}
 use Rattle.format.specs.declared.records.Description.{Description}
 use Rattle.format.specs.declared.records.Placement.{Placement}
 use Rattle.format.specs.declared.records.PwmFan.{PwmFan}
@@ -24,11 +25,11 @@ abbrev pub pin_slot : Pin → Slot
 pin_slot p = whole p.0
 
 -- FFh where the place is unused
-abbrev pub optional_byte : OptionalPin → ℕ
-optional_byte Unused = 0xff
-optional_byte (Used p) = p.0
+abbrev pub optional_byte : Option Pin → ℕ
+optional_byte None = 0xff
+optional_byte (Some p) = p.0
 
-abbrev pub optional_pin_slot : OptionalPin → Slot
+abbrev pub optional_pin_slot : Option Pin → Slot
 optional_pin_slot p = whole (optional_byte p)
 
 -- Table 4, the description, in a table of so many bytes

@@ -4,8 +4,9 @@ use Rattle.std.specs.Prelude.{ℕ, Bool, true, false, ◌&&◌, ◌||◌, not, L
 use Rattle.format.specs.declared.pins.Use.{Use}
 use Rattle.format.specs.declared.pins.Use.TheVariants.{FanPin, AnaloguePin, ChipSelect, StatusLed, HardwareRevision}
 use Rattle.format.specs.declared.pins.Pin.{Pin}
-use Rattle.format.specs.declared.pins.OptionalPin.{OptionalPin}
-use Rattle.format.specs.declared.pins.OptionalPin.TheVariants.{Unused, Used}
+use Rattle.std.specs.Prelude.{Option}
+use Rattle.format.specs.declared.pins.Pin.{Pin}
+use Rattle.std.specs.Prelude.{None, Some}
 use Rattle.format.specs.declared.pins.Chip.{Chip}
 use Rattle.format.specs.declared.pins.Chip.TheVariants.{C8051F320, C8051F321}
 
@@ -66,15 +67,15 @@ abbrev pub allowed : Chip → Use → Pin → Bool
 allowed c u p = of_chip c p && among p.0 (permitted c u)
 
 -- 'FFh means unused. Only hardware revision, tachometer and status LED pins may be unused'
-abbrev pub unused : OptionalPin → Bool
-unused Unused = true
-unused (Used p) = false
+abbrev pub unused : Option Pin → Bool
+unused None = true
+unused (Some p) = false
 
-abbrev pub allowed_or_unused : Chip → Use → OptionalPin → Bool
-allowed_or_unused c u Unused = true
-allowed_or_unused c u (Used p) = allowed c u p
+abbrev pub allowed_or_unused : Chip → Use → Option Pin → Bool
+allowed_or_unused c u None = true
+allowed_or_unused c u (Some p) = allowed c u p
 
 -- what stands in a place that may be unused: nothing, where the byte is FFh, or a pin of the named chip
-abbrev pub standing : Chip → OptionalPin → Bool
-standing c Unused = true
-standing c (Used p) = of_chip c p && not (eqb p.0 0xff)
+abbrev pub standing : Chip → Option Pin → Bool
+standing c None = true
+standing c (Some p) = of_chip c p && not (eqb p.0 0xff)

@@ -12,8 +12,9 @@ use Rattle.format.specs.Utf16.{well_formed}
 use Rattle.format.specs.declared.units.Counts.{Counts}
 use Rattle.format.specs.declared.pins.Use.TheVariants.{FanPin, AnaloguePin, ChipSelect, StatusLed, HardwareRevision}
 use Rattle.format.specs.declared.pins.Pin.{Pin}
-use Rattle.format.specs.declared.pins.OptionalPin.{OptionalPin}
-use Rattle.format.specs.declared.pins.OptionalPin.TheVariants.{Unused, Used}
+use Rattle.std.specs.Prelude.{Option as Optional}
+use Rattle.format.specs.declared.pins.Pin.{Pin}
+use Rattle.std.specs.Prelude.{None, Some}
 use Rattle.format.specs.declared.pins.Chip.{Chip}
 use Rattle.format.specs.declared.settings.Settings.{Settings}
 use Rattle.format.specs.declared.settings.Rules.{Rules}
@@ -172,9 +173,9 @@ selected c (Bus a) = true
 selected c (Select p) = allowed c ChipSelect p
 
 -- 'PWM before tachometer .. in strictly rising order of the fan list'
-abbrev pub rises : Pin → OptionalPin → Bool
-rises p Unused = true
-rises p (Used q) = ltb p.0 q.0
+abbrev pub rises : Pin → Optional Pin → Bool
+rises p None = true
+rises p (Some q) = ltb p.0 q.0
 
 -- 10 of a fan and of a pump
 abbrev pub fanned : Chip → PwmFan → Bool

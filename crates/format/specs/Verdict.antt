@@ -13,8 +13,8 @@ use Rattle.format.specs.Table.{element_breaks, description_breaks, PassKept, Kee
 use Rattle.format.specs.declared.pins.Chip.{Chip}
 use Rattle.format.specs.declared.settings.Settings.{Settings}
 use Rattle.format.specs.declared.records.Description.{Description}
-use Rattle.format.specs.declared.answers.Answer.{Answer}
-use Rattle.format.specs.declared.answers.Answer.TheVariants.{Accepted, Refused}
+use Rattle.format.specs.Answers.{Answer}
+use Rattle.format.specs.Answers.{Gives as Accepted, Refused}
 
 -- the length that stands in bytes 1-2 of a table, and of an element
 abbrev pub stated : List ℕ → ℕ

@@ -4,7 +4,7 @@
 use Rattle.std.specs.Prelude.{ℕ, zero, suc, List, [], ◌∷◌, ◌++◌}
 use Rattle.format.specs.Known.{Row, ◌gives◌, table_a, table_of, after, zone1, sensor_t, by_rules}
 use Rattle.format.specs.declared.settings.Rules.{Rules}
-use Rattle.format.specs.declared.answers.Answer.TheVariants.{Accepted, Refused}
+use Rattle.format.specs.Answers.{Gives as Accepted, Refused}
 
 -- a water level in zone 1 on this pin, with these bytes of FULL, EMPTY and WARNING
 abbrev pub levels_w : ℕ → List ℕ → List ℕ

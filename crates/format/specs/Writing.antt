@@ -17,8 +17,8 @@ use Rattle.format.specs.declared.records.Description.{Description}
 use Rattle.format.specs.declared.records.Element.{Element}
 use Rattle.format.specs.declared.records.Element.TheVariants.{Digital, Analogue, Fan, Led, Water, Pump, Voltage, Current}
 use Rattle.format.specs.declared.records.Element.TheVariants.{Controller, Tachometer, Zone, Text, External, Rgb}
-use Rattle.format.specs.declared.answers.Written.{Written}
-use Rattle.format.specs.declared.answers.Written.TheVariants.{Length, Refused}
+use Rattle.format.specs.Answers.{Written}
+use Rattle.format.specs.Answers.{Gives as Length, Refused}
 
 -- the record of an element and its part, where the part is one of its kind: none, blocks that fill it, or any bytes
 abbrev pub assemble : Element → List ℕ → Option Record

@@ -1,30 +1,82 @@
-// What the calls answer. specs/Answers gives each case its number and value of 'What comes back'.
-use crate::records::{Description, Element};
+// What the calls answer: a value, or a refusal with its rule and its place.
 
-// Of a check: accepted, with the number of elements; or the number and the place of a refusal.
-#[derive(Clone, Copy)]
-pub enum Answer {
-    Accepted(usize),
-    Refused(u8, usize),
+ghost use Rattle.std.specs.Prelude.{◌≡◌};
+ghost use Rattle.format.specs.Answers.{rule_number};
+
+// The rules that a call can refuse by. specs/Answers gives each its number of 'What comes back'.
+#[derive(Clone, Copy, PartialEq, Eq)]
+pub enum Rule {
+    Under16Bytes,
+    Revision,
+    TableLength,
+    DeviceType,
+    Power,
+    ElementLength,
+    Identifier,
+    Layout,
+    Code,
+    Pin,
+    TooMany,
+    Twice,
+    NoZone,
+    NoString,
+    Clash,
+    NoRoom,
+    PastTheLast,
+    NoReading,
+    TraceLine,
+    AfterTheEnd,
+    Hex,
+    StillNamed,
+    Retired,
+    Lost,
+    TooLarge,
 }
 
-// Of asking for the description.
-#[derive(Clone, Copy)]
-pub enum Described {
-    Description(Description),
-    Refused(u8, usize),
+// The rule that is broken, and where: the place of an element, or 0.
+#[derive(Clone, Copy, PartialEq, Eq)]
+pub struct Refusal {
+    pub rule: Rule,
+    pub place: usize,
 }
 
-// Of asking for element k.
-#[derive(Clone, Copy)]
-pub enum Asked {
-    Element(Element),
-    Refused(u8, usize),
-}
+impl Rule {
+    pub fn number(self) -> u8
+        ensures { result ≡ rule_number self }
+    {
+        match self {
+            Rule::Under16Bytes => 1,
+            Rule::Revision => 2,
+            Rule::TableLength => 3,
+            Rule::DeviceType => 4,
+            Rule::Power => 5,
+            Rule::ElementLength => 6,
+            Rule::Identifier => 7,
+            Rule::Layout => 8,
+            Rule::Code => 9,
+            Rule::Pin => 10,
+            Rule::TooMany => 11,
+            Rule::Twice => 12,
+            Rule::NoZone => 13,
+            Rule::NoString => 14,
+            Rule::Clash => 15,
+            Rule::NoRoom => 16,
+            Rule::PastTheLast => 17,
+            Rule::NoReading => 18,
+            Rule::TraceLine => 19,
+            Rule::AfterTheEnd => 20,
+            Rule::Hex => 21,
+            Rule::StillNamed => 22,
+            Rule::Retired => 23,
+            Rule::Lost => 24,
+            Rule::TooLarge => 25,
+        }
+    }
 
-// Of the writer: done, with the new length.
-#[derive(Clone, Copy)]
-pub enum Written {
-    Length(usize),
-    Refused(u8, usize),
+    // A refusal by this rule at a place.
+    pub fn at(self, place: usize) -> Refusal
+        ensures { result ≡ record { rule = self; place = place } }
+    {
+        Refusal { rule: self, place }
+    }
 }

@@ -1,5 +1,5 @@
 // The records of a table. They hold no revision, no length and no reserved place: the layout supplies these.
-use crate::pins::{OptionalPin, Pin};
+use crate::pins::Pin;
 use crate::units::{Centimetres, Counts, Deciamps, Decivolts, Degrees, FourMilliamps, Rpm};
 
 // The table description (000, Table 4).
@@ -10,9 +10,9 @@ pub struct Description {
     pub serial: u32,
     pub spwr: bool,
     pub power: FourMilliamps,
-    pub revision0: OptionalPin,
-    pub revision1: OptionalPin,
-    pub revision2: OptionalPin,
+    pub revision0: Option<Pin>,
+    pub revision1: Option<Pin>,
+    pub revision2: Option<Pin>,
 }
 
 // What every element but a string and a zone descriptor begins with: its name, its position and its zone.
@@ -64,7 +64,7 @@ pub struct AnalogueSensor {
 pub struct PwmFan {
     pub placement: Placement,
     pub pwm: Pin,
-    pub tachometer: OptionalPin,
+    pub tachometer: Option<Pin>,
     pub ppr: u8,
     pub minrpm: Rpm,
     pub maxrpm: Rpm,
@@ -74,7 +74,7 @@ pub struct PwmFan {
 // One of the three lamps of a status LED.
 #[derive(Clone, Copy)]
 pub struct Lamp {
-    pub pin: OptionalPin,
+    pub pin: Option<Pin>,
     pub colour: u8,
     pub purpose: u8,
 }

@@ -26,15 +26,17 @@ use Rattle.blocks.specs.declared.Part.{Part}
 use Rattle.blocks.proofs.EachKind.{two, three}
 use Rattle.blocks.proofs.Faults.{speed_fault, pairs_fault}
 use Rattle.claims.specs.declared.Claims.{Claims}
-use Rattle.found.specs.Judged.{own_fault, FansAre, Judged, ClaimsOf, BusClaims, DeviceFound}
+use Rattle.found.specs.Judged.{own_fault, FansAre, Finding, Together, Judged, ClaimsOf, BusClaims, DeviceFound}
 use Rattle.found.specs.declared.Fans.{Fans}
-use Rattle.found.specs.declared.Found.{Found}
+use Rattle.std.specs.Prelude.{Option as Optional, None, Result}
+use Rattle.format.specs.Answers.{fault_of}
+use Rattle.format.specs.declared.answers.Rule.{Rule}
 
 -- a record that breaks no rule by itself keeps 10
 own_pinned : (s : Settings) (x : Record) → own_fault s (some x) ≡ 0 → pinned s.chip x ≡ true
 own_pinned s x h = (own_kept s x (zero_none (own_rules s x) (own_numbered s x) h)).pins_10
 
-module _ (s : Settings) (id : ℕ) (c : List ℕ) (r : Found) where
+module _ (s : Settings) (id : ℕ) (c : List ℕ) (r : Finding) where
   -- no record is there
   pub none_there : decode s.chip id c ≡ none → r.fault ≡ 8 → Judged s id c r
   none_there d p =
@@ -72,18 +74,18 @@ module _ (s : Settings) (id : ℕ) (c : List ℕ) (r : Found) where
     wrong_length h p = none_there (d ∙ rw (ne_eqb (length c) n h) refl) p
 
     pub right_length :
-        (x : X) {fault : ℕ} {claims : Claims} {fans : Fans}
+        (x : X) {kept : Result (Unit {0}) Rule} {claims : Claims} {fans : Optional Fans}
         → length c ≡ n
         → leb 5 n ≡ true
         → x ≡ read (byte c)
-        → fault ≡ own_fault s (some (kind x))
+        → fault_of kept ≡ own_fault s (some (kind x))
         → ClaimsOf (kind x) claims
         → FansAre fans (fan_pins (kind x))
-        → (r.fault ≡ fault) × (r.claims ≡ claims) × (r.fans ≡ fans)
+        → Together kept claims fans r
         → Judged s id c r
     right_length x l m e p f g q =
-        judged (kind x) (d ∙ rw (eq-eqb (length c) n l, ← e) refl) (omega (arith, leb-true 5 n m)) (q.0 ∙ p) (λ z. rw q.1 f)
-        (λ z. rw q.2 g)
+        judged (kind x) (d ∙ rw (eq-eqb (length c) n l, ← e) refl) (omega (arith, leb-true 5 n m)) (q.fault ∙ p) (λ z. rw (q.claimed z) f)
+        (λ z. rw (q.counted z) g)
 
   -- a device on a bus, by its fixed bytes and what its part says
   device_judged :
@@ -98,7 +100,7 @@ module _ (s : Settings) (id : ℕ) (c : List ℕ) (r : Found) where
   device_judged kind (some a) d l p f g = judged (kind a) d l p (λ n. f n a) (λ n. g n a)
 
 -- what is found of a device: 8 by its part, or what its fixed fields say
-module _ (s : Settings) (d : BusDevice) (part : Part) (r : Found) where
+module _ (s : Settings) (d : BusDevice) (part : Part) (r : Finding) where
   pub found_8 : part.whole ≡ false → r.fault ≡ 8 → DeviceFound s d part r
   found_8 w p =
       record {
@@ -125,28 +127,28 @@ module _ (s : Settings) (d : BusDevice) (part : Part) (r : Found) where
       }
 
   pub found_whole :
-      (e : BusDevice) {fault : ℕ} {claims : Claims} {fans : Fans}
+      (e : BusDevice) {kept : Result (Unit {0}) Rule} {claims : Claims} {fans : Optional Fans}
       → part.whole ≡ true
       → part.full ≡ true
       → e ≡ d
-      → DeviceBreaks s e true fault
+      → DeviceBreaks s e true (fault_of kept)
       → BusClaims e.address claims
-      → fans.any ≡ false
-      → (r.fault ≡ fault) × (r.claims ≡ claims) × (r.fans ≡ fans)
+      → fans ≡ None
+      → Together kept claims fans r
       → DeviceFound s d part r
   found_whole e w u q b f g p =
       record {
         misshapen = λ v. absurd (false≢true (sym v ∙ w));
-        breaks = λ _. rw (p.0, u, ← q) b;
-        claimed = λ _. rw (p.1, ← q) f;
-        counted = λ _. rw p.2 g;
+        breaks = λ _. rw (p.fault, u, ← q) b;
+        claimed = λ z. rw (p.claimed z, ← q) f;
+        counted = λ z. rw (p.counted z) g;
       }
 
 -- the part of an element, as the code takes it
 pub rest : (n : ℕ) (b : List ℕ) → take (length b - n) (drop n b) ≡ drop n b
 rest n b = take_all (length b - n) (drop n b) (omega (arith, length-drop n b))
 
-module _ (s : Settings) (c : List ℕ) (r : Found) where
+module _ (s : Settings) (c : List ℕ) (r : Finding) where
   -- with no room for the fixed bytes no record is there
   pub controller_short : length c < 8 → r.fault ≡ 8 → Judged s 9 c r
   unfolding decode

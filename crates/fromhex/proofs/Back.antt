@@ -8,9 +8,9 @@ use lib.Seq.{take-append_seam}
 use Rattle.format.specs.Slots.{Bytes}
 use Rattle.format.specs.Verdict.{Verdict}
 use Rattle.format.specs.declared.pins.Chip.{Chip}
-use Rattle.format.specs.declared.answers.Answer.TheVariants.{Accepted}
-use Rattle.format.specs.declared.answers.Written.{Written}
-use Rattle.format.specs.declared.answers.Written.TheVariants.{Length, Refused}
+use Rattle.format.specs.Answers.{Gives as Accepted}
+use Rattle.format.specs.Answers.{Written}
+use Rattle.format.specs.Answers.{Gives as Length, Refused}
 use Rattle.hextext.specs.Text.{hex_of}
 use Rattle.hextext.specs.Meaning.{Means, bytes}
 use Rattle.hextext.specs.Moved.{moving, Moved, done, refused, no_room}

@@ -2,26 +2,24 @@
 -- Assumes nothing.
 use Prim.Native.Nat.{ℕ, ◌<◌}
 use native.Mathlib.Omega.{arith}
-use mathlib.Core.Path.{◌≡◌}
+use mathlib.Core.Path.{◌≡◌, refl}
 use mathlib.Core.List.{List}
 use lib.ListN.{length}
 use Rattle.format.specs.Slots.{byte}
 use Rattle.format.specs.Verdict.{Verdict, unrevised, missized}
 use Rattle.format.specs.declared.settings.Settings.{Settings}
-use Rattle.format.specs.declared.answers.Answer.TheVariants.{Refused}
+use Rattle.format.specs.Answers.{Refused}
 use Rattle.hextext.specs.Meaning.{Meaning, bytes, bad}
-use Rattle.fromhex.specs.declared.Walked.{Walked}
-use Rattle.fromhex.specs.declared.Walked.TheVariants.{Bytes, Bad}
+use Rattle.std.specs.Prelude.{Ok, Err}
+use Rattle.fromhex.specs.declared.BadLine.{BadLine}
 use Rattle.fromhex.specs.Reading.{Said, sends, fails}
 
 module _ {Is : Meaning → Type 0} {b : List ℕ} where
-  pub said_bytes : {r : Walked} {n : ℕ} → Said Is b r → r ≡ Bytes n → Is (bytes b) × (length b ≡ n)
-  said_bytes (sends i) e = (i, cc)
-  said_bytes (fails i) e = let z : ◌≡◌ {A = ℕ} 0 1 = cc in absurd (omega arith)
+  pub said_bytes : {n : ℕ} → Said Is b (Ok n) → Is (bytes b) × (length b ≡ n)
+  said_bytes (sends i) = (i, refl)
 
-  pub said_bad : {r : Walked} {l : ℕ} → Said Is b r → r ≡ Bad l → Is (bad l)
-  said_bad {l = l} (fails {l = k} i) e = let same : k ≡ l = cc in rw same at i
-  said_bad (sends i) e = let z : ◌≡◌ {A = ℕ} 0 1 = cc in absurd (omega arith)
+  pub said_bad : {e : BadLine} → Said Is b (Err e) → Is (bad e.line)
+  said_bad (fails i) = i
 
 module _ (σ : Settings) (b : List ℕ) (h : 4096 < length b) where
   pub long_unrevised : (byte b 0 ≡ 1 → ⊥) → Verdict σ b (Refused 2 0)

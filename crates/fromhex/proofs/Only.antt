@@ -6,7 +6,7 @@ use mathlib.Core.Path.{◌≡◌, refl}
 use mathlib.Core.List.{List, [], ◌∷◌, ◌++◌}
 use Rattle.format.specs.Slots.{Bytes}
 use Rattle.format.specs.declared.pins.Chip.{Chip}
-use Rattle.format.specs.declared.answers.Written.{Written}
+use Rattle.format.specs.Answers.{Written}
 use Rattle.hextext.specs.Meaning.{Front, none, more, bytes, bad, whole, Means, means}
 use Rattle.hextext.proofs.Only.{one_meaning}
 use Rattle.hextext.proofs.Moving.{only_moved}

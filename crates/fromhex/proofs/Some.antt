@@ -9,6 +9,7 @@ use lib.ListN.{length, take, drop, length-append, get_or-append}
 use lib.Seq.{get_or_at}
 use lib.Dec.{ltb, eqb}
 use borrow.Author.Tests.{ltb-true, ltb-false, eqb-true, eqb-false}
+use Rattle.std.specs.Prelude.{Option, Some, None}
 use Rattle.format.specs.Slots.{byte}
 use Rattle.hextext.specs.Text.{data_line, end_line}
 use Rattle.hextext.specs.Meaning.{Front, none, more, Meaning, bytes, bad, Ends, Means, means}
@@ -60,7 +61,7 @@ pairs_at t (suc n) k h = go (ltb k n) refl (pairs_at t n k)
         rw same (get_or_at (pairs t n) (pair_at t (9 + 2 * n)) [] 0 n (pairs_length t n))
 
 -- so a data record at an address begins it or not
-opening : (a : ℕ) (t : List ℕ) → (n : ℕ) × (into : List ℕ) × Opens a t into n
+opening : (a : ℕ) (t : List ℕ) → (m : Option ℕ) × (into : List ℕ) × Opens a t into m
 opening a t = go (ltb 65535 a) (eqb (pair_at t 1) 0) refl refl
   where
     n : ℕ
@@ -69,13 +70,13 @@ opening a t = go (ltb 65535 a) (eqb (pair_at t 1) 0) refl refl
     long : n ≤ length (pairs t n)
     long = omega (arith, pairs_length t n)
 
-    spelled : (x : Bool) → a < 65536 → 1 ≤ n → Begins t (data_line a (take n (pairs t n))) x → (m : ℕ) × (into : List ℕ) × Opens a t into m
-    spelled true h h' s = (n, pairs t n, judged t (pairs t n) n long (pairs_at t n) h h' (omega (arith, pair_below t 1)) s)
-    spelled false h h' s = (0, pairs t n, misjudged t (pairs t n) n long (pairs_at t n) refl s)
+    spelled : (x : Bool) → a < 65536 → 1 ≤ n → Begins t (data_line a (take n (pairs t n))) x → (m : Option ℕ) × (into : List ℕ) × Opens a t into m
+    spelled true h h' s = (Some n, pairs t n, judged t (pairs t n) n long (pairs_at t n) h h' (omega (arith, pair_below t 1)) s)
+    spelled false h h' s = (None, pairs t n, misjudged t (pairs t n) n long (pairs_at t n) refl s)
 
-    go : (x y : Bool) → ltb 65535 a ≡ x → eqb n 0 ≡ y → (m : ℕ) × (into : List ℕ) × Opens a t into m
-    go true y e f = (0, [], far (ltb-true 65535 a e))
-    go false true e f = (0, [], empty (eqb-true n 0 f))
+    go : (x y : Bool) → ltb 65535 a ≡ x → eqb n 0 ≡ y → (m : Option ℕ) × (into : List ℕ) × Opens a t into m
+    go true y e f = (None, [], far (ltb-true 65535 a e))
+    go false true e f = (None, [], empty (eqb-true n 0 f))
     go false false e f =
         let s = beginning t (data_line a (take n (pairs t n))) in
         let some : 1 ≤ n = omega (arith, eqb-false n 0 f) in
@@ -96,11 +97,11 @@ going zero k t b rest f h = absurd (omega arith)
 going (suc n) k t b rest f h = let o = opening (length b) rest in go o.0 o.1 o.2 (λ j s c r g i. going n j s c r g i)
   where
     go :
-        (i : ℕ) (into : List ℕ)
+        (i : Option ℕ) (into : List ℕ)
         → Opens (length b) rest into i
         → ((j : ℕ) (s c r : List ℕ) → Front j s c → length r < n → (m : Meaning) × Means (s ++ r) m)
         → (m : Meaning) × Means (t ++ rest) m
-    go i into (opens s l e) again =
+    go (Some i) into (opens s l e) again =
         let d = take i into in
         let line = data_line (length b) d in
         let r = drop (12 + 2 * i) rest in
@@ -108,7 +109,7 @@ going (suc n) k t b rest f h = let o = opening (length b) rest in go o.0 o.1 o.2
         let w = again (suc k) (t ++ line) (b ++ d) r (more d f s) shorter in
         let is : t ++ line ++ r ≡ t ++ rest = append_assoc t line r ∙ ap (λ (x : List ℕ). t ++ x) (sym e) in
         (w.0, rw is at w.1)
-    go i into (opens_not h') again = let w = ending k b rest h' in (w.0, means f w.1)
+    go None into (opens_not h') again = let w = ending k b rest h' in (w.0, means f w.1)
 
 pub some_meaning : (t : List ℕ) → (m : Meaning) × Means t m
 some_meaning t = going (suc (length t)) 0 [] [] t none (omega arith)

@@ -13,7 +13,8 @@ use Rattle.format.specs.Writing.{overwritten}
 use Rattle.hextext.specs.Text.{data_line, end_line}
 use Rattle.hextext.specs.Meaning.{Line, data_record, end_record, Front, more, bytes, bad, Ends, whole, stops, after, Means, means}
 use Rattle.hextext.proofs.Spelled.{line_length}
-use Rattle.fromhex.specs.declared.Walked.{Walked}
+use Rattle.std.specs.Prelude.{Some, None, Result}
+use Rattle.fromhex.specs.declared.BadLine.{BadLine}
 use Rattle.fromhex.specs.Reading.{Begins, begins, begins_not, NoData, Opens, opens, opens_not}
 use Rattle.fromhex.specs.Reading.{Said, sends, fails, Kept, kept, over, Midway, Through}
 
@@ -42,7 +43,7 @@ module _ {k : ℕ} {b t : List ℕ} where
   ends_bad (begins_not h) h' = stops (no_line (length b) h' h)
 
 pub concluded :
-    {k : ℕ} {s b rest : List ℕ} {r : Walked} → Front k s b → Said (Ends k b rest) b r → Said (Means (s ++ rest)) b r
+    {k : ℕ} {s b rest : List ℕ} {r : Result ℕ BadLine} → Front k s b → Said (Ends k b rest) b r → Said (Means (s ++ rest)) b r
 concluded f (sends e) = sends (means f e)
 concluded f (fails e) = fails (means f e)
 
@@ -63,17 +64,15 @@ module _ {b table : List ℕ} (d : List ℕ) where
   kept_first h k = over (omega (arith, length-append b d)) (kept_head h k ∙ sym (get_or-append b d 0 0 (omega arith)))
 
 -- one turn
-pub closed : {a n : ℕ} {t into : List ℕ} → Opens a t into n → n ≡ 0 → NoData a t
-closed (opens s l e) h = absurd (omega (arith, s.some))
-closed (opens_not h') h = h'
+pub closed : {a : ℕ} {t into : List ℕ} → Opens a t into None → NoData a t
+closed (opens_not h) = h
 
 -- the text from a place on
 pub rest_is : {at k n : ℕ} {t table : List ℕ} → Midway t at k n table → take (length t - at) (drop at t) ≡ drop at t
 rest_is {at} {t = t} w = take_all (length t - at) (drop at t) (omega (arith, length-drop at t))
 
-pub advances : (t into : List ℕ) (at : ℕ) {n m : ℕ} → Opens n (drop at t) into m → (m ≡ 0 → ⊥) → at < length t
-advances t into at (opens_not h') h = absurd (h refl)
-advances t into at {n} {m} (opens s l e) h =
+pub advances : (t into : List ℕ) (at : ℕ) {n m : ℕ} → Opens n (drop at t) into (Some m) → at < length t
+advances t into at {n} {m} (opens s l e) =
     let line = data_line n (take m into) in
     omega (
       arith,
@@ -84,23 +83,20 @@ advances t into at {n} {m} (opens s l e) h =
     )
 
 pub finished :
-    {t into table : List ℕ} {at k n m : ℕ} {r : Walked} (w : Midway t at k n table)
-    → Opens n (drop at t) into m
-    → m ≡ 0
+    {t into table : List ℕ} {at k n : ℕ} {r : Result ℕ BadLine} (w : Midway t at k n table)
+    → Opens n (drop at t) into None
     → ((b : List ℕ) → length b ≡ n → NoData n (drop at t) → Said (Ends k b (drop at t)) b r)
     → Through t table r
-finished {t} {at = at} w o h says =
-    let said = concluded w.front (says w.b w.count (closed o h)) in
+finished {t} {at = at} w o says =
+    let said = concluded w.front (says w.b w.count (closed o)) in
     record { b = w.b; said = rw (take-append-drop at t) at said; holds = w.holds }
 
 pub turned :
     {t into table table' : List ℕ} {at k n m : ℕ} (w : Midway t at k n table)
-    → Opens n (drop at t) into m
-    → (m ≡ 0 → ⊥)
+    → Opens n (drop at t) into (Some m)
     → Kept (w.b ++ take m into) table'
     → Midway t (at + (12 + 2 * m)) (k + 1) (n + m) table'
-turned w (opens_not h') h holds = absurd (h refl)
-turned {t = t} {into = into} {at = at} {k = k} {n = n} {m = m} w (opens s l e) h holds =
+turned {t = t} {into = into} {at = at} {k = k} {n = n} {m = m} w (opens s l e) holds =
     let d = take m into in
     let size = line_length n d in
     let line : take (12 + 2 * m) (drop at t) ≡ data_line n d =

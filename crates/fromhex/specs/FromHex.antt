@@ -2,8 +2,8 @@
 -- Assumes nothing.
 use Rattle.std.specs.Prelude.{ℕ, List}
 use Rattle.format.specs.declared.pins.Chip.{Chip}
-use Rattle.format.specs.declared.answers.Written.{Written}
-use Rattle.format.specs.declared.answers.Written.TheVariants.{Refused}
+use Rattle.format.specs.Answers.{Written}
+use Rattle.format.specs.Answers.{Refused}
 use Rattle.hextext.specs.Meaning.{Means, bytes, bad}
 use Rattle.hextext.specs.Moved.{Moved}
 

@@ -10,9 +10,9 @@ use Rattle.format.specs.Layout.{table}
 use Rattle.format.specs.Verdict.{Verdict, accepted}
 use Rattle.format.specs.declared.pins.Chip.{Chip}
 use Rattle.format.specs.declared.settings.Settings.{Settings}
-use Rattle.format.specs.declared.answers.Answer.TheVariants.{Accepted, Refused as RefusedTable}
-use Rattle.format.specs.declared.answers.Written.{Written}
-use Rattle.format.specs.declared.answers.Written.TheVariants.{Length}
+use Rattle.format.specs.Answers.{Gives as Accepted, Refused as RefusedTable}
+use Rattle.format.specs.Answers.{Written}
+use Rattle.format.specs.Answers.{Gives as Length}
 use Rattle.format.proofs.Demand3.{unique}
 use Rattle.format.proofs.Lengths.{fits_length}
 use Rattle.spelling.specs.Spelling.{Put}

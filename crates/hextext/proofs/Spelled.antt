@@ -13,7 +13,7 @@ use lib.Dec.{ltb}
 use borrow.Author.Tests.{ltb-true, ltb-false}
 use Rattle.format.specs.Slots.{Bytes, byte}
 use Rattle.spelling.specs.Spelling.{hex_digit, hex_pair}
-use Rattle.hextext.specs.Text.{hex_text, sum, checksum, data_line, end_line}
+use Rattle.hextext.specs.Text.{hex_text, checksum, data_line, end_line}
 use Rattle.hextext.specs.Meaning.{Sent}
 use Rattle.hextext.specs.Digits.{digit_value, pair_at}
 
@@ -51,17 +51,10 @@ text_append : (s t : List ℕ) → hex_text (s ++ t) ≡ hex_text s ++ hex_text 
 text_append [] t = refl
 text_append (b ∷ s) t = ap (λ (l : List ℕ). hex_pair b ++ l) (text_append s t)
 
-sum_append : (s t : List ℕ) → sum (s ++ t) ≡ sum s + sum t
-sum_append [] t = omega arith
-sum_append (b ∷ s) t = omega (arith, sum_append s t)
-
 -- one byte more
 module _ (d : List ℕ) (i : ℕ) (h : i < length d) where
   pub text_next : hex_text (take (i + 1) d) ≡ hex_text (take i d) ++ hex_pair (byte d i)
   text_next = rw (add-one, take-suc d i 0 h) (text_append (take i d) (byte d i ∷ []))
-
-  pub sum_next : sum (take (i + 1) d) ≡ sum (take i d) + byte d i
-  sum_next = rw (add-one, take-suc d i 0 h) (omega (arith, sum_append (take i d) (byte d i ∷ [])))
 
 pub line_length : (a : ℕ) (d : List ℕ) → length (data_line a d) ≡ 12 + 2 * length d
 unfolding data_line

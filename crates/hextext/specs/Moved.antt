@@ -5,9 +5,9 @@ use Rattle.format.specs.Verdict.{Verdict}
 use Rattle.format.specs.declared.pins.Chip.{Chip}
 use Rattle.format.specs.declared.settings.Settings.{Settings}
 use Rattle.format.specs.declared.settings.Rules.TheVariants.{Archive}
-use Rattle.format.specs.declared.answers.Answer.TheVariants.{Accepted, Refused as RefusedTable}
-use Rattle.format.specs.declared.answers.Written.{Written}
-use Rattle.format.specs.declared.answers.Written.TheVariants.{Length, Refused}
+use Rattle.format.specs.Answers.{Gives as Accepted, Refused as RefusedTable}
+use Rattle.format.specs.Answers.{Written}
+use Rattle.format.specs.Answers.{Gives as Length, Refused}
 
 -- 'Moving .. use[s] the archive reader' (12/14); the caller names the chip
 abbrev pub moving : Chip → Settings

@@ -8,7 +8,7 @@ ghost use Rattle.hextext.specs.Digits.{PutDigits, PutLine};
 use spelling::{put, put_hex};
 
 // The line of the end record: `:00000001FF` and a line feed.
-pub const END: [u8; 12] = [58, 48, 48, 48, 48, 48, 48, 48, 49, 70, 70, 10];
+pub const END: [u8; 12] = *b":00000001FF\n";
 
 // The line of a data record.
 pub fn put_data(out: &mut [u8], at: usize, address: usize, bytes: &[u8]) -> usize
@@ -19,11 +19,11 @@ pub fn put_data(out: &mut [u8], at: usize, address: usize, bytes: &[u8]) -> usiz
     let high = address / 256;
     let low = address % 256;
     let total = n + high + low + sum_of(bytes);
-    let a = put(out, at, &[58]);
+    let a = put(out, at, b":");
     let b = put_bytes(out, a, &[n as u8, high as u8, low as u8, 0]);
     let c = put_bytes(out, b, bytes);
     let d = put_hex(out, c, complement(total));
-    put(out, d, &[10])
+    put(out, d, b"\n")
 }
 
 // Two capital hex digits for each byte.
@@ -32,10 +32,8 @@ fn put_bytes(out: &mut [u8], at: usize, bytes: &[u8]) -> usize
     ensures { PutDigits out.old at bytes.now result out.new }
 {
     let mut end = at;
-    let mut i = 0;
-    while i < bytes.len() {
-        end = put_hex(out, end, bytes[i]);
-        i += 1;
+    for b in bytes {
+        end = put_hex(out, end, *b);
     }
     end
 }
@@ -45,13 +43,7 @@ fn sum_of(bytes: &[u8]) -> usize
     requires { length bytes.now ≤ 255 }
     ensures { (result ≡ sum bytes.now) × (result ≤ 65025) }
 {
-    let mut total: usize = 0;
-    let mut i = 0;
-    while i < bytes.len() {
-        total += bytes[i] as usize;
-        i += 1;
-    }
-    total
+    bytes.iter().map(|b| usize::from(*b)).sum()
 }
 
 // What brings a sum to a multiple of 256.

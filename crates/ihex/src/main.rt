@@ -2,18 +2,9 @@
 // number, place, with tabs. The option --chip names the chip.
 #![tactic(auto)]
 
-use format::answers::Written;
 use format::settings::Settings;
-use options::Options;
-use sending::{read_input, refuse, send};
+use sending::{answer, read_input};
 use std::io;
-
-fn answer(rt: &impl Print, written: Written, out: &[u8]) -> io::Result<()> {
-    match written {
-        Written::Length(n) => send(rt, n, out),
-        Written::Refused(k, p) => refuse(rt, k, p),
-    }
-}
 
 // 4,097 bytes of input are enough: a longer table is refused by the first of them (2) or by its length (3). The text of 4,096 bytes is 256
 // lines of 44 characters and the end record.
@@ -27,8 +18,6 @@ fn hex(rt: &(impl Input + Print), settings: Settings) -> io::Result<()> {
 }
 
 fn main(rt: HostRuntime) -> io::Result<()> {
-    match options::ordinary(options::read_alone(&rt)) {
-        Options::Chosen(settings, _) => hex(&rt, settings),
-        Options::Misused(m) => options::complain(&rt, m),
-    }
+    let chosen = options::ordinary(options::read_alone(&rt));
+    options::run(&rt, chosen, |chosen| hex(&rt, chosen.settings))
 }

@@ -18,7 +18,7 @@ use Rattle.format.specs.declared.pins.Chip.{Chip}
 use Rattle.format.specs.declared.settings.Settings.{Settings}
 use Rattle.blocks.specs.declared.Part.{Part}
 use Rattle.found.specs.Judged.{Judged, DeviceFound}
-use Rattle.found.specs.declared.Found.{Found}
+use Rattle.found.specs.Judged.{Finding}
 use Rattle.found.proofs.Judging.{controller_short, controller_judged, tachometer_short, tachometer_judged, external_short, external_judged}
 use Rattle.rules.proofs.Units.{all_units}
 use Rattle.underway.specs.Under.{is_good, is_high, whole_units, Holds, UnderIs}
@@ -49,7 +49,7 @@ pub after_header :
 after_header head v h i a b =
     get_or-take 27 (drop 3 head) i 0 a ∙ get_or-drop 3 head i 0 ∙ h.same (3 + i) (omega arith) (omega arith) ∙ sym (get_or-drop 3 v i 0)
 
-module _ (s : Settings) (u : Under) (head : List ℕ) (part : Part) (r : Found)
+module _ (s : Settings) (u : Under) (head : List ℕ) (part : Part) (r : Finding)
     (f : DeviceFound s (read_device s.chip (byte (take 27 (drop 3 head)))) part r)
   where
     found_of : (v : List ℕ) → UnderIs u head v → 10 < length v → DeviceFound s (read_device s.chip (byte (drop 3 v))) part r

@@ -8,7 +8,7 @@ use Rattle.format.specs.declared.settings.Settings.{Settings}
 use Rattle.blocks.specs.Cutting.{SpeedPart, PairsPart}
 use Rattle.blocks.specs.declared.Part.{Part}
 use Rattle.found.specs.Judged.{Judged}
-use Rattle.found.specs.declared.Found.{Found}
+use Rattle.found.specs.Judged.{Finding}
 use Rattle.underway.specs.Under.{CutIs, UnderIs}
 use Rattle.underway.specs.declared.Under.{Under}
 
@@ -25,7 +25,7 @@ pub record PairsIs (n : ℕ) (u : Under) (r : Part) : Type 0 where
   pub says : (v : List ℕ) → u.len ≡ length v → CutTo 0 n u v → PairsPart n (drop 12 v) r
 
 -- a whole element is judged as if all its bytes were there
-pub record DeviceIs (s : Settings) (id : ℕ) (u : Under) (head : List ℕ) (r : Found) : Type 0 where
+pub record DeviceIs (s : Settings) (id : ℕ) (u : Under) (head : List ℕ) (r : Finding) : Type 0 where
   pub judged : (v : List ℕ) → UnderIs u head v → byte v 0 ≡ id → Judged s id (drop 3 v) r
 
 pub record TextIs (u : Under) (head : List ℕ) (r : ℕ) : Type 0 where

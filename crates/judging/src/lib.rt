@@ -3,9 +3,12 @@
 #![tactic(auto)]
 
 ghost use Rattle.std.specs.Prelude.{◌≤◌};
+ghost use Rattle.format.specs.Answers.{fault_of};
+ghost use Rattle.found.specs.Judged.{finding};
 ghost use Rattle.judging.specs.Whole.{SpeedIs, PairsIs, DeviceIs, TextIs, NumberIs};
 
 use blocks::Part;
+use format::answers::Rule;
 use format::settings::Settings;
 use found::Found;
 use underway::Under;
@@ -33,27 +36,27 @@ fn pairs_part(u: Under, blocks: usize) -> Part
 }
 
 // 09h
-pub fn controller(u: Under, head: &[u8; 30], s: Settings) -> Found
+pub fn controller(u: Under, head: &[u8; 30], s: Settings) -> Result<Found, Rule>
     requires { u.at ≤ 10000 }
-    ensures { DeviceIs s 9 u head.now result }
+    ensures { DeviceIs s 9 u head.now (finding result) }
 {
     let h = &head[..];
     found::device_found(&h[3..30], speed_part(u), s)
 }
 
 // 0Ah
-pub fn tachometer(u: Under, head: &[u8; 30], s: Settings) -> Found
+pub fn tachometer(u: Under, head: &[u8; 30], s: Settings) -> Result<Found, Rule>
     requires { u.at ≤ 10000 }
-    ensures { DeviceIs s 10 u head.now result }
+    ensures { DeviceIs s 10 u head.now (finding result) }
 {
     let h = &head[..];
     found::device_found(&h[3..30], pairs_part(u, 2), s)
 }
 
 // 0Dh, whose chip must be identified
-pub fn external(u: Under, head: &[u8; 30], s: Settings) -> Found
+pub fn external(u: Under, head: &[u8; 30], s: Settings) -> Result<Found, Rule>
     requires { u.at ≤ 10000 }
-    ensures { DeviceIs s 13 u head.now result }
+    ensures { DeviceIs s 13 u head.now (finding result) }
 {
     let h = &head[..];
     let blocks = pairs_part(u, 3);
@@ -64,17 +67,15 @@ pub fn external(u: Under, head: &[u8; 30], s: Settings) -> Found
     found::device_found(&h[3..30], part, s)
 }
 
-// 0Ch: 8, 9 or 0.
-pub fn text(u: Under, head: &[u8; 30]) -> u8
-    ensures { TextIs u head.now result }
+// 0Ch: 8 or 9.
+pub fn text(u: Under, head: &[u8; 30]) -> Result<(), Rule>
+    ensures { TextIs u head.now (fault_of result) }
 {
     if u.len < 6 {
-        return 8;
+        return Err(Rule::Layout);
     }
-    rules::text_rules(
-        head[3],
-        (u.len % 2 == 0) & ((u.mark % 2 == 0) & (u.mark < 2)),
-    )
+    let good = (u.len % 2 == 0) & ((u.mark % 2 == 0) & (u.mark < 2));
+    rules::text_rules(head[3], good)
 }
 
 // Its number; 0 where there is none.

@@ -4,31 +4,10 @@
 // printed to the second program.
 #![tactic(auto)]
 
-use format::answers::Answer;
 use format::pins::Chip;
 use format::settings::{Rules, Settings};
-use sending::send;
+use sending::{Hex, send};
 use std::io;
-
-// Of a digit from 0 to 15; no other is asked for.
-fn digit(d: u8) -> u8 {
-    match d {
-        0..=9 => b'0' + d,
-        10..=15 => b'A' + (d - 10),
-        _ => b'?',
-    }
-}
-
-fn print_byte(rt: &impl Print, b: u8) -> io::Result<()> {
-    rt.write_all(&[digit(b / 16), digit(b % 16)])
-}
-
-fn print_table(rt: &impl Print, table: &[u8]) -> io::Result<()> {
-    for b in table {
-        print_byte(rt, *b)?;
-    }
-    Ok(())
-}
 
 fn print_answer(rt: &impl Print, number: u8, beside: usize) -> io::Result<()> {
     println!(rt; "\t{number}\t{beside}")
@@ -43,10 +22,10 @@ fn larger() -> Settings {
 }
 
 fn row(rt: &impl Print, table: &[u8]) -> io::Result<()> {
-    print_table(rt, table)?;
+    print!(rt; "{}", Hex(table))?;
     match reader::check(table, larger()) {
-        Answer::Accepted(n) => print_answer(rt, 0, n),
-        Answer::Refused(k, p) => print_answer(rt, k, p),
+        Ok(n) => print_answer(rt, 0, n),
+        Err(refusal) => print_answer(rt, refusal.rule.number(), refusal.place),
     }
 }
 

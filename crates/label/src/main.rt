@@ -4,10 +4,10 @@
 // number, place, with tabs. The option --chip names the chip.
 #![tactic(auto)]
 
+use format::answers::Refusal;
 use format::settings::Settings;
 use labels::Source;
-use options::Options;
-use options::numerals::MaybeNumber;
+use options::Chosen;
 use sending::{put, read_input, refuse};
 use std::env::FillError;
 use std::io;
@@ -20,11 +20,11 @@ fn misuse(rt: &impl Eprint) -> io::Result<()> {
 }
 
 // From where the label comes, or the refusal.
-fn put_source(rt: &impl Print, source: Source) -> io::Result<()> {
+fn put_source(rt: &impl Print, source: Result<Source, Refusal>) -> io::Result<()> {
     match source {
-        Source::Text(_, _) => put(rt, b"text\n"),
-        Source::Lent => put(rt, b"name\n"),
-        Source::Refused(number, place) => refuse(rt, number, place),
+        Ok(Source::Text(_, _)) => put(rt, b"text\n"),
+        Ok(Source::Lent) => put(rt, b"name\n"),
+        Err(refusal) => refuse(rt, refusal),
     }
 }
 
@@ -53,29 +53,15 @@ fn name(
 }
 
 // The words behind the options.
-fn ask(
-    rt: &(impl Env + Input + Print + Eprint),
-    settings: Settings,
-    first: usize,
-    count: usize,
-) -> io::Result<()> {
-    if first >= count {
-        return misuse(rt);
-    }
-    if count - first > 2 {
-        return misuse(rt);
-    }
-    let mut word = [0u8; 4096];
-    let length = options::read_word(rt, first, &mut word);
-    match options::numerals::below(&word[..length], 1000000000) {
-        MaybeNumber::Number(k) => name(rt, k, first + 1, settings),
-        MaybeNumber::Nothing => misuse(rt),
+fn ask(rt: &(impl Env + Input + Print + Eprint), chosen: Chosen) -> io::Result<()> {
+    let first = chosen.next;
+    match options::number_behind(rt, first, 2, 1000000000) {
+        Some(k) => name(rt, k, first + 1, chosen.settings),
+        None => misuse(rt),
     }
 }
 
 fn main(rt: HostRuntime) -> io::Result<()> {
-    match options::ordinary(options::read(&rt)) {
-        Options::Chosen(settings, first) => ask(&rt, settings, first, options::count_words(&rt)),
-        Options::Misused(m) => options::complain(&rt, m),
-    }
+    let chosen = options::ordinary(options::read(&rt));
+    options::run(&rt, chosen, |chosen| ask(&rt, chosen))
 }

@@ -6,8 +6,8 @@ use mathlib.Core.Path.{◌≡◌, refl, sym, ◌∙◌, ap}
 use mathlib.Core.List.{List, []}
 use lib.ListN.{length, take, drop}
 use Rattle.format.specs.declared.settings.Settings.{Settings}
-use Rattle.labels.specs.declared.Source.{Source}
-use Rattle.labels.specs.declared.Source.TheVariants.{Text, Lent, Refused}
+use Rattle.labels.specs.Called.{Source}
+use Rattle.labels.specs.Called.{Text, Lent, Refused}
 use Rattle.labels.specs.Called.{Called, text, lent, refused, stands_at, bytes_of, Found, Labelled}
 use Rattle.labels.proofs.Standing.{Standing, stands}
 

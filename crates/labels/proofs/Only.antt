@@ -11,10 +11,10 @@ use Rattle.format.specs.Layout.{place_after}
 use Rattle.format.specs.ZonesAndStrings.{role}
 use Rattle.format.specs.Asked.{nth}
 use Rattle.format.specs.declared.settings.Settings.{Settings}
-use Rattle.format.specs.declared.answers.Answer.TheVariants.{Refused as RefusedTable}
+use Rattle.format.specs.Answers.{Refused as RefusedTable}
 use Rattle.format.proofs.Demand3.{unique, only_one_list}
 use Rattle.format.proofs.Asking.{never_both}
-use Rattle.labels.specs.declared.Source.{Source}
+use Rattle.labels.specs.Called.{Source}
 use Rattle.labels.specs.Called.{Called, called_of, Calls, titled, past, untitled, stands_at, bytes_of, Found, Labelled}
 
 module _ (σ : Settings) (b : List ℕ) (k : ℕ) (small : Bytes b) where

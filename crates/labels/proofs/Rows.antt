@@ -7,12 +7,12 @@ use Rattle.format.specs.Records.{Record, fan, zone, string}
 use Rattle.format.specs.Decode.{pin_of, placement_of, fan_of}
 use Rattle.format.specs.ZonesAndStrings.{role}
 use Rattle.format.specs.declared.pins.Chip.TheVariants.{C8051F320}
-use Rattle.format.specs.declared.pins.OptionalPin.TheVariants.{Unused}
+use Rattle.std.specs.Prelude.{None}
 use Rattle.labels.specs.Called.{text, lent, called_of}
 
 -- the fan and the zone descriptor by their string indices
 abbrev fan_f : ℕ → Record
-fan_f n = fan (fan_of (placement_of n 0 0 0 1) (pin_of C8051F320 0x05) Unused 0 0 0 0)
+fan_f n = fan (fan_of (placement_of n 0 0 0 1) (pin_of C8051F320 0x05) None 0 0 0 0)
 
 abbrev zone_z : ℕ → Record
 zone_z n = zone (1 ∷ n ∷ [])

@@ -22,7 +22,7 @@ use Rattle.format.specs.Asked.{nth}
 use Rattle.format.specs.declared.pins.Chip.{Chip}
 use Rattle.format.specs.declared.settings.Settings.{Settings}
 use Rattle.format.specs.declared.records.Description.{Description}
-use Rattle.format.specs.declared.answers.Answer.TheVariants.{Accepted, Refused as RefusedTable}
+use Rattle.format.specs.Answers.{Gives as Accepted, Refused as RefusedTable}
 use Rattle.format.proofs.Slots.{starts_over, starts_split, starts_rest}
 use Rattle.format.proofs.Whole.{written_whole, length_whole, part_written}
 use Rattle.format.proofs.Lengths.{snoc_length}
@@ -36,7 +36,7 @@ use Rattle.reader.proofs.Bounds.{value_bound}
 use Rattle.reader.proofs.Asking.{nth_past}
 use Rattle.labels.specs.Called.{Called, text, lent, refused, pick_called, bears, own_text, by_number, by_index, called_of, Calls, titled}
 use Rattle.labels.specs.Called.{past, untitled, stands_at, readable, Found}
-use Rattle.labels.specs.declared.Source.{Source}
+use Rattle.labels.specs.Called.{Source}
 use Rattle.labels.specs.Roled.{StringBytes, IfString, Roled}
 
 -- a text that stands in the table: at byte 6 of its string

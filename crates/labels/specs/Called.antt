@@ -11,9 +11,12 @@ use Rattle.format.specs.Verdict.{Accepts, Verdict}
 use Rattle.format.specs.Asked.{nth}
 use Rattle.format.specs.declared.settings.Settings.{Settings}
 use Rattle.format.specs.declared.records.Description.{Description}
-use Rattle.format.specs.declared.answers.Answer.TheVariants.{Refused as RefusedTable}
-use Rattle.labels.specs.declared.Source.{Source}
-use Rattle.labels.specs.declared.Source.TheVariants.{Text, Lent, Refused}
+use Rattle.format.specs.Answers.{Refused as RefusedTable}
+use Rattle.std.specs.Prelude.{Result, Ok, Err}
+use Rattle.format.specs.Answers.{rule_number}
+use Rattle.format.specs.declared.answers.Refusal.{Refusal}
+use Rattle.labels.specs.declared.Source.{Source as Place}
+use Rattle.labels.specs.declared.Source.TheVariants.{Text as TextAt, Lent as LentName}
 
 -- the text of the string that starts at a place of the table; the lent name; or a refusal
 pub data Called : Type 0 where
@@ -63,6 +66,21 @@ pub data Calls (σ : Settings) (b : List ℕ) (k : ℕ) : Called → Type 0 wher
       → Calls σ b k (called_of rs (place_after (take k rs)) (role r))
   past : (d : Description) (rs : List Record) → Accepts σ b d rs → nth rs k ≡ none → Calls σ b k (refused 17 0)
   untitled : {j p : ℕ} → Verdict σ b (RefusedTable j p) → Calls σ b k (refused j p)
+
+-- of which slice a label is a part, and where: a text in the table, its place and its length; or the lent name, whole. Or a refusal
+pub data Source : Type 0 where
+  Text : ℕ → ℕ → Source
+  Lent : Source
+  Refused : ℕ → ℕ → Source
+
+-- what a label says, and what a result does
+abbrev pub source_of : Place → Source
+source_of (TextAt p n) = Text p n
+source_of LentName = Lent
+
+abbrev pub sourced : Result Place Refusal → Source
+sourced (Ok l) = source_of l
+sourced (Err r) = Refused (rule_number r.rule) r.place
 
 -- of which slice it is a part, and where: a string's text is at byte 6 of the string
 abbrev pub stands_at : Called → Source

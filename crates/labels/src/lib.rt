@@ -9,56 +9,52 @@ ghost use Rattle.format.specs.ZonesAndStrings.{Role, string_named};
 ghost use Rattle.format.specs.Verdict.{Accepts};
 ghost use Rattle.format.specs.declared.settings.Settings.{Settings};
 ghost use Rattle.format.specs.declared.records.Description.{Description};
-ghost use Rattle.labels.specs.Called.{text, bears, own_text, by_number, called_of, stands_at, Found, Labelled};
+ghost use Rattle.labels.specs.Called.{text, bears, own_text, by_number, called_of, source_of, sourced, stands_at, Found, Labelled};
 ghost use Rattle.labels.specs.Roled.{Roled};
 
-use format::answers::Answer;
+use format::answers::{Refusal, Rule};
 use format::settings::Settings;
-use reader::handed_on;
-use walking::{length_at, place_of};
+use walking::{Places, length_at, place_of};
 
-// From which of the two it is, and where: a text in the table, its place and its length; the lent name, whole. Or a refusal.
+// From which of the two it is, and where: a text in the table, its place and its length; or the lent name, whole.
 #[derive(Clone, Copy)]
 pub enum Source {
     Text(usize, usize),
     Lent,
-    Refused(u8, usize),
 }
 
 // The label of element k; an empty part with a refusal, which `find` names.
 pub fn label<'a>(table: &'a [u8], k: usize, name: &'a [u8], settings: Settings) -> &'a [u8]
     ensures { Labelled settings table.now k name.now result.now }
 {
-    match find(table, k, settings) {
+    let Ok(source) = find(table, k, settings) else {
+        return &table[0..0];
+    };
+    match source {
         Source::Text(place, len) => {
             let end = place + len;
             &table[place..end]
         }
         Source::Lent => name,
-        Source::Refused(_, _) => &table[0..0],
     }
 }
 
 // Where the label of element k is; the table's refusal, or 17.
-pub fn find(table: &[u8], k: usize, settings: Settings) -> Source
-    ensures { Found settings table.now k result }
+pub fn find(table: &[u8], k: usize, settings: Settings) -> Result<Source, Refusal>
+    ensures { Found settings table.now k (sourced result) }
 {
-    let answer = reader::check(table, settings);
-    let Answer::Accepted(n) = answer else {
-        let r = handed_on(answer);
-        return Source::Refused(r.number, r.place);
-    };
+    let n = reader::check(table, settings)?;
     if n <= k {
-        return Source::Refused(17, 0);
+        return Err(Rule::PastTheLast.at(0));
     }
-    called(table, place_of(table, k))
+    Ok(called(table, place_of(table, k)))
 }
 
 // What the element at a place is called: a string by its own text, any other by its string index.
 fn called(t: &[u8], at: usize) -> Source
     requires { (σ : Settings) × (d : Description) × (rs : List Record) × (x : Role) × Accepts σ t.now d rs × Roled t.now at x }
     ensures { (σ : Settings) (d : Description) (rs : List Record) (x : Role) → Accepts σ t.now d rs
-        → Roled t.now at x → result ≡ stands_at (called_of rs at x) }
+        → Roled t.now at x → source_of result ≡ stands_at (called_of rs at x) }
 {
     if t[at] == 12 {
         return text_at(t, at);
@@ -73,15 +69,12 @@ fn called(t: &[u8], at: usize) -> Source
 // The text of the string with a number.
 fn by_number(t: &[u8], number: u8) -> Source
     requires { (σ : Settings) × (d : Description) × (rs : List Record) × Accepts σ t.now d rs }
-    ensures { (σ : Settings) (d : Description) (rs : List Record) → Accepts σ t.now d rs → result
-        ≡ stands_at (by_number number 16 rs) }
+    ensures { (σ : Settings) (d : Description) (rs : List Record) → Accepts σ t.now d rs → source_of result ≡ stands_at (by_number number 16 rs) }
 {
-    let mut at: usize = 16;
-    while at < t.len() {
+    for at in Places::of(t) {
         if is_string(t, at, number) {
             return text_at(t, at);
         }
-        at += length_at(t, at);
     }
     Source::Lent
 }
@@ -111,7 +104,7 @@ fn index_at(t: &[u8], at: usize) -> u8
 // Where the text of the string at a place stands: behind its number and its locale.
 fn text_at(t: &[u8], at: usize) -> Source
     requires { (x : Role) × Roled t.now at x × (byte t.now at ≡ 12) }
-    ensures { (x : Role) → Roled t.now at x → byte t.now at ≡ 12 → result ≡ stands_at (text at (own_text x)) }
+    ensures { (x : Role) → Roled t.now at x → byte t.now at ≡ 12 → source_of result ≡ stands_at (text at (own_text x)) }
 {
     Source::Text(at + 6, length_at(t, at) - 6)
 }

@@ -39,11 +39,7 @@ pub fn copy_into(buf: &mut [u8], at: usize, new: &[u8])
     requires { at + length new.now ≤ length buf.old }
     ensures { buf.new ≡ overwritten at new.now buf.old }
 {
-    let mut j = 0;
-    while j < new.len() {
-        buf[at + j] = new[j];
-        j += 1;
-    }
+    buf[at..at + new.len()].copy_from_slice(new);
 }
 
 // The description of a table of 16 bytes.

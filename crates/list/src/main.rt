@@ -3,7 +3,6 @@
 #![tactic(auto)]
 
 use format::settings::Settings;
-use options::Options;
 use sending::{read_input, send};
 use std::io;
 
@@ -18,8 +17,7 @@ fn list(rt: &(impl Input + Print), settings: Settings) -> io::Result<()> {
 }
 
 fn main(rt: HostRuntime) -> io::Result<()> {
-    match options::read_alone(&rt) {
-        Options::Chosen(settings, _) => list(&rt, settings),
-        Options::Misused(m) => options::complain(&rt, m),
-    }
+    options::run(&rt, options::read_alone(&rt), |chosen| {
+        list(&rt, chosen.settings)
+    })
 }

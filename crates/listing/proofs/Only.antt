@@ -4,7 +4,7 @@ use Prim.Native.Nat.{ℕ}
 use mathlib.Core.Path.{◌≡◌, subst}
 use mathlib.Core.List.{List}
 use Rattle.format.specs.Slots.{Bytes}
-use Rattle.format.specs.declared.answers.Answer.TheVariants.{Refused}
+use Rattle.format.specs.Answers.{Refused}
 use Rattle.format.proofs.Asking.{never_both}
 use Rattle.format.proofs.Demand3.{unique, only_one_list}
 use Rattle.spelling.specs.Spelling.{Put}

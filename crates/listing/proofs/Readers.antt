@@ -6,7 +6,7 @@ use Rattle.format.specs.Verdict.{Verdict}
 use Rattle.format.specs.Archive.{with_rules}
 use Rattle.format.specs.declared.settings.Settings.{Settings}
 use Rattle.format.specs.declared.settings.Rules.TheVariants.{Ordinary, Archive}
-use Rattle.format.specs.declared.answers.Answer.TheVariants.{Refused}
+use Rattle.format.specs.Answers.{Refused}
 use Rattle.format.proofs.Archive.{archive_accepts, same_answer}
 use Rattle.listing.specs.Lines.{Listing, listed, refused}
 

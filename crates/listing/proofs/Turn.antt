@@ -15,7 +15,7 @@ use Rattle.format.specs.Verdict.{stated, Verdict}
 use Rattle.format.specs.Decode.{read_description}
 use Rattle.format.specs.declared.records.Description.{Description}
 use Rattle.format.specs.declared.records.Element.{Element}
-use Rattle.format.specs.declared.answers.Answer.TheVariants.{Accepted, Refused}
+use Rattle.format.specs.Answers.{Gives as Accepted, Refused}
 use Rattle.format.proofs.Lengths.{at_most_96}
 use Rattle.walking.specs.Walk.{Here, Walk}
 use Rattle.walking.proofs.Left.{reads, begin, next, onward, ended}

@@ -1,6 +1,8 @@
 -- The listing of a table (01, 'The listing'): 'one record a line, fields parted by tabs', in ASCII codes.
 -- Assumes nothing.
-use Rattle.std.specs.Prelude.{ℕ, ◌+◌, ◌*◌, Bool, true, false, cond, List, [], ◌∷◌, ◌++◌, length, eqb}
+use Rattle.std.specs.Prelude.{ℕ, ◌+◌, ◌*◌, Bool, true, false, cond, List, [], ◌∷◌, ◌++◌, length}
+use Rattle.std.specs.declared.option.Option.{Option}
+use Rattle.std.specs.declared.option.Option.TheVariants.{Some, None}
 use Rattle.format.specs.Slots.{written}
 use Rattle.format.specs.Records.{Record, element_of}
 use Rattle.format.specs.Layout.{optional_byte, id_of, part, layout}
@@ -8,7 +10,7 @@ use Rattle.format.specs.Rules.{in_use}
 use Rattle.format.specs.Verdict.{Accepts, Verdict}
 use Rattle.format.specs.declared.records.Description.{Description}
 use Rattle.format.specs.declared.records.Element.{Element}
-use Rattle.format.specs.declared.answers.Answer.TheVariants.{Refused}
+use Rattle.format.specs.Answers.{Refused}
 use Rattle.spelling.specs.Spelling.{decimal, hex_pair, dash, pin_or_dash, joined, used, Put}
 use Rattle.shown.specs.Own.{own_pins, zone_of}
 use Rattle.shown.specs.declared.OwnPins.{OwnPins}
@@ -42,9 +44,10 @@ table_line n d = line ((84 ∷ []) ∷ (48 ∷ 46 ∷ 57 ∷ 48 ∷ []) ∷ deci
 abbrev pub pins_text : OwnPins → List ℕ
 pins_text p = joined (used p.one ++ used p.two ++ used p.three)
 
--- 'zone (of a zone descriptor its own number) or `-`'; 256 stands for the last
-abbrev pub zone_text : ℕ → List ℕ
-zone_text z = cond (eqb z 256) dash (decimal z)
+-- 'zone (of a zone descriptor its own number) or `-`'
+abbrev pub zone_text : Option ℕ → List ℕ
+zone_text None = dash
+zone_text (Some z) = decimal z
 
 -- 12/14: 'lists such elements with a last field `retired`': those that the ordinary rules have not in use, which the archive's
 -- reader alone accepts

@@ -10,32 +10,25 @@ ghost use Rattle.listing.specs.Lines.{line, supply, hardware_pins, after_type, t
 ghost use Rattle.listing.specs.Lines.{refused_line, Listed};
 
 use elements::{byte_of, id_of};
-use format::answers::Answer;
 use format::records::{Description, Element};
 use format::settings::Settings;
 use format::units::FourMilliamps;
 use shown::{OwnPins, shown};
 use spelling::{put, put_decimal, put_hex, put_pin_or_dash, put_pins};
-use walking::{element_at, length_at, part_at};
-use words::wide;
+use walking::{Places, element_at, part_at};
 
 // Puts the listing of a table at the front of the buffer, and answers its length. No listing is longer than 3,715 bytes.
 pub fn list(table: &[u8], out: &mut [u8; 4096], settings: Settings) -> usize
     ensures { Listed settings table.now out.old result out.new }
 {
-    let answer = reader::check(table, settings);
-    let Answer::Accepted(_) = answer else {
-        let r = reader::handed_on(answer);
-        return put_refused(out, r.number, r.place);
-    };
+    if let Err(refusal) = reader::check(table, settings) {
+        return put_refused(out, refusal.rule.number(), refusal.place);
+    }
     let chip = settings.chip;
     let mut end = put_table(out, table.len(), fields::description(table, chip));
-    let mut at: usize = 16;
-    while at < table.len() {
-        let chip = settings.chip;
+    for at in Places::of(table) {
         let e = element_at(table, at, chip);
         end = put_element(out, end, at, e, part_at(table, at));
-        at += length_at(table, at);
     }
     end
 }
@@ -45,10 +38,10 @@ fn put_refused(out: &mut [u8], k: u8, p: usize) -> usize
     requires { 20 ≤ length out.old }
     ensures { Put out.old 0 (refused_line k p) result out.new }
 {
-    let a = put(out, 0, &[82, 9]);
-    let b = put_number(out, a, wide(k));
+    let a = put(out, 0, b"R\t");
+    let b = put_number(out, a, usize::from(k));
     let c = put_decimal(out, b, p);
-    put(out, c, &[10])
+    put(out, c, b"\n")
 }
 
 // The line of a table of n bytes.
@@ -56,9 +49,9 @@ fn put_table(out: &mut [u8], n: usize, d: Description) -> usize
     requires { 67 ≤ length out.old }
     ensures { Put out.old 0 (table_line n d) result out.new × (result ≤ 67) }
 {
-    let a = put(out, 0, &[84, 9, 48, 46, 57, 48, 9]);
+    let a = put(out, 0, b"T\t0.90\t");
     let b = put_number(out, a, n);
-    let c = put_number(out, b, wide(d.device));
+    let c = put_number(out, b, usize::from(d.device));
     put_after_type(out, c, d)
 }
 
@@ -67,8 +60,8 @@ fn put_after_type(out: &mut [u8], at: usize, d: Description) -> usize
     requires { at + 42 ≤ length out.old }
     ensures { Put out.old at (line (after_type d)) result out.new × (result ≤ at + 42) }
 {
-    let a = put_number(out, at, wide(d.string));
-    let b = put_number(out, a, wide32(d.serial));
+    let a = put_number(out, at, usize::from(d.string));
+    let b = put_number(out, a, d.serial as usize);
     let c = put_supply(out, b, d);
     put_hardware(out, c, d)
 }
@@ -79,7 +72,7 @@ fn put_supply(out: &mut [u8], at: usize, d: Description) -> usize
     ensures { Put out.old at (supply d ++ 9 ∷ []) result out.new × (result ≤ at + 9) }
 {
     if d.spwr {
-        return put(out, at, &[115, 101, 108, 102, 9]);
+        return put(out, at, b"self\t");
     }
     let m = in_milliamps(d.power);
     put_number(out, at, m.0)
@@ -92,13 +85,7 @@ pub struct Milliamps(pub usize);
 fn in_milliamps(p: FourMilliamps) -> Milliamps
     ensures { result.0 ≡ 4 * p.0 }
 {
-    Milliamps(4 * wide(p.0))
-}
-
-fn wide32(x: u32) -> usize
-    ensures { result ≡ x }
-{
-    x as usize
+    Milliamps(4 * usize::from(p.0))
 }
 
 // The three hardware revision pins, and the end of the line.
@@ -130,7 +117,7 @@ fn put_element(out: &mut [u8], at: usize, place: usize, e: Element, part: &[u8])
     ensures { Put out.old at (element_line place e part.now) result out.new × (result ≤ at + 38) }
 {
     let w = shown(e, part);
-    let a = put(out, at, &[69, 9]);
+    let a = put(out, at, b"E\t");
     let b = put_number(out, a, place);
     let c = put_id(out, b, id_of(e));
     let d = put_zone(out, c, w.zone);
@@ -144,18 +131,18 @@ fn put_id(out: &mut [u8], at: usize, id: u8) -> usize
     ensures { Put out.old at (hex_pair id ++ 9 ∷ []) result out.new × (result ≡ at + 3) }
 {
     let a = put_hex(out, at, id);
-    put(out, a, &[9])
+    put(out, a, b"\t")
 }
 
 // The zone or `-`, and a tab.
-fn put_zone(out: &mut [u8], at: usize, z: usize) -> usize
+fn put_zone(out: &mut [u8], at: usize, zone: Option<u8>) -> usize
     requires { at + 9 ≤ length out.old }
-    ensures { Put out.old at (zone_text z ++ 9 ∷ []) result out.new × (result ≤ at + 9) }
+    ensures { Put out.old at (zone_text zone ++ 9 ∷ []) result out.new × (result ≤ at + 9) }
 {
-    if z == 256 {
-        return put(out, at, &[45, 9]);
-    }
-    put_number(out, at, z)
+    let Some(z) = zone else {
+        return put(out, at, b"-\t");
+    };
+    put_number(out, at, usize::from(z))
 }
 
 // The own pins, `retired` of what is not in use, and the end of the line.
@@ -165,9 +152,9 @@ fn put_own(out: &mut [u8], at: usize, p: OwnPins, used: bool) -> usize
 {
     let a = put_pins(out, at, p.one, p.two, p.three);
     if used {
-        return put(out, a, &[10]);
+        return put(out, a, b"\n");
     }
-    put(out, a, &[9, 114, 101, 116, 105, 114, 101, 100, 10])
+    put(out, a, b"\tretired\n")
 }
 
 // A number and a tab.
@@ -176,5 +163,5 @@ fn put_number(out: &mut [u8], at: usize, n: usize) -> usize
     ensures { Put out.old at (decimal n ++ 9 ∷ []) result out.new × (result ≤ at + 9) }
 {
     let a = put_decimal(out, at, n);
-    put(out, a, &[9])
+    put(out, a, b"\t")
 }

@@ -1,6 +1,6 @@
 -- The description in the buffer, and one element that was copied there.
 -- Assumes nothing.
-use Prim.Native.Nat.{ℕ, ◌+◌, ◌/◌, ◌%◌, ◌≤◌}
+use Prim.Native.Nat.{ℕ, ◌+◌, ◌≤◌}
 use native.Mathlib.Omega.{arith}
 use native.Mathlib.Nat.{add-zero}
 use mathlib.Core.Path.{◌≡◌, refl, sym, ◌∙◌, ap, subst}
@@ -8,7 +8,6 @@ use mathlib.Core.Bool.{Bool, true, false, cond}
 use mathlib.Core.List.{List, [], ◌∷◌, ◌++◌}
 use lib.ListN.{length, drop, set, length-drop}
 use lib.Seq.{length-take-le, get_or-drop}
-use lib.Dec.{eqb}
 use Rattle.format.specs.Slots.{byte, Bytes, written, whole, word, Starts}
 use Rattle.format.specs.Records.{Record, element_of}
 use Rattle.format.specs.Layout.{opening, id_of, layout}
@@ -29,6 +28,7 @@ use Rattle.spelling.specs.Spelling.{Put}
 use Rattle.spelling.proofs.Putting.{put_one}
 use Rattle.saving.specs.Saving.{At, unindexed, unindexed_description}
 use Rattle.saving.proofs.Clearing.{unindexed_alike}
+use Rattle.fates.specs.declared.Kept.{Kept}
 use Rattle.fates.specs.Noted.{Keeps}
 use Rattle.reserved.specs.Zeroed.{reach, zeroed}
 use Rattle.reserved.proofs.Zeroing.{zeroed_behind, zeroed_there, reach_within}
@@ -78,43 +78,43 @@ module _ (d : Description) (n : ℕ) (b b₁ b₂ : List ℕ) (laid : b₁ ≡ o
         (ap (λ (l : List ℕ). set l 4 0) both ∙ cleared_index d n b)
 
 -- one element
-module _ (c : Chip) (t : List ℕ) (n : ℕ) (k : At Record) (h : Keeps c t n k) where
-  pub stands_there : Here c t (n / 2) h.r
+module _ (c : Chip) (t : List ℕ) (n : Kept) (k : At Record) (h : Keeps c t n k) where
+  pub stands_there : Here c t n.place h.r
   stands_there = rw h.place h.here
 
   whole_shape : shaped h.r ≡ true
   whole_shape = (own_kept (writing c) h.r h.unbroken).shape_8
 
-  role_there : RoleBytes t (n / 2) (role h.r)
+  role_there : RoleBytes t n.place (role h.r)
   role_there = rw h.place (role_bytes t k.place h.r h.here.stands.rest h.here.stands.starts whole_shape)
 
   same_size : length (layout k.what) ≡ length (layout h.r)
-  same_size = rw h.what (go (eqb (n % 2) 1))
+  same_size = rw h.what (go n.cleared)
     where
       go : (b : Bool) → length (layout (cond b (unindexed h.r) h.r)) ≡ length (layout h.r)
       go true = (unindexed_alike h.r).long
       go false = refl
 
   -- as many bytes as it states, within the table, and enough for an index
-  pub size_there : length (layout k.what) ≡ stated (drop (n / 2) t)
+  pub size_there : length (layout k.what) ≡ stated (drop n.place t)
   size_there = same_size ∙ sym stands_there.size
 
-  pub inside : (n / 2 + length (layout k.what) ≤ length t) × (5 ≤ length (layout k.what))
+  pub inside : (n.place + length (layout k.what) ≤ length t) × (5 ≤ length (layout k.what))
   inside = (omega (arith, size_there, stands_there.within), omega (arith, same_size, long_enough h.r whole_shape))
 
-  pub id_there : byte t (n / 2) ≡ id_of (element_of h.r)
+  pub id_there : byte t n.place ≡ id_of (element_of h.r)
   id_there =
       let st = stands_there.stands in
-      ap (λ (m : ℕ). byte t m) (sym (add-zero (n / 2)))
-      ∙ sym (get_or-drop (n / 2) t 0 0)
-      ∙ (starts_over (drop (n / 2) t) (layout h.r) st.rest st.starts).0
+      ap (λ (m : ℕ). byte t m) (sym (add-zero n.place))
+      ∙ sym (get_or-drop n.place t 0 0)
+      ∙ (starts_over (drop n.place t) (layout h.r) st.rest st.starts).0
 
-  pub reach_there : reach (byte t (n / 2)) ≤ length (layout k.what)
+  pub reach_there : reach (byte t n.place) ≤ length (layout k.what)
   reach_there = rw id_there (omega (arith, same_size, reach_within h.r))
 
   pub raw_length : length (raw t n) ≡ length (layout k.what)
   raw_length =
-      length-take-le (stated (drop (n / 2) t)) (drop (n / 2) t) (omega (arith, stands_there.within, length-drop (n / 2) t))
+      length-take-le (stated (drop n.place t)) (drop n.place t) (omega (arith, stands_there.within, length-drop n.place t))
       ∙ sym size_there
 
   -- the bytes of the element as they stand, behind others and before others
@@ -123,26 +123,26 @@ module _ (c : Chip) (t : List ℕ) (n : ℕ) (k : At Record) (h : Keeps c t n k)
     starts_there =
         let st = stands_there.stands in
         starts_more (raw t n) (layout h.r) [] more
-        (rw stands_there.size (take_fits (drop (n / 2) t) (layout h.r) st.rest st.starts))
+        (rw stands_there.size (take_fits (drop n.place t) (layout h.r) st.rest st.starts))
 
-    zeroed_here : zeroed (byte t (n / 2)) (length x) out ≡ x ++ (written (layout h.r) ++ more)
+    zeroed_here : zeroed (byte t n.place) (length x) out ≡ x ++ (written (layout h.r) ++ more)
     zeroed_here =
-        ap (zeroed (byte t (n / 2)) (length x)) is
-        ∙ zeroed_behind (byte t (n / 2)) x (raw t n ++ more)
+        ap (zeroed (byte t n.place) (length x)) is
+        ∙ zeroed_behind (byte t n.place) x (raw t n ++ more)
         ∙ ap (λ (l : List ℕ). x ++ l)
         (ap (λ (id : ℕ). zeroed id 0 (raw t n ++ more)) id_there
         ∙ zeroed_there c (raw t n ++ more) more h.r stands_there.stands.kind starts_there)
 
     -- its index cleared or not
-    pub tidied_there : tidied (byte t (n / 2)) (eqb (n % 2) 1) (length x) out ≡ x ++ (written (layout k.what) ++ more)
-    tidied_there = go (eqb (n % 2) 1) refl
+    pub tidied_there : tidied (byte t n.place) n.cleared (length x) out ≡ x ++ (written (layout k.what) ++ more)
+    tidied_there = go n.cleared refl
       where
         as_kept_lem : (r : Record) → k.what ≡ r → x ++ (written (layout r) ++ more) ≡ x ++ (written (layout k.what) ++ more)
         as_kept_lem r e = ap (λ (y : Record). x ++ (written (layout y) ++ more)) (sym e)
 
-        go : (b : Bool) → eqb (n % 2) 1 ≡ b → tidied (byte t (n / 2)) b (length x) out ≡ x ++ (written (layout k.what) ++ more)
+        go : (b : Bool) → n.cleared ≡ b → tidied (byte t n.place) b (length x) out ≡ x ++ (written (layout k.what) ++ more)
         go true f =
-            ap (cleared_at (byte t (n / 2)) (length x)) zeroed_here
-            ∙ cleared_behind h.r t (n / 2) x more role_there whole_shape
+            ap (cleared_at (byte t n.place) (length x)) zeroed_here
+            ∙ cleared_behind h.r t n.place x more role_there whole_shape
             ∙ as_kept_lem (unindexed h.r) (h.what ∙ rw f refl)
         go false f = zeroed_here ∙ as_kept_lem h.r (h.what ∙ rw f refl)

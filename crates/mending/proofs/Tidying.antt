@@ -1,13 +1,12 @@
 -- The loop that tidies what was copied: what it has passed is written as its records are, the rest stands as it did.
 -- Assumes nothing.
-use Prim.Native.Nat.{ℕ, suc, ◌+◌, ◌/◌, ◌%◌, ◌≤◌, ◌<◌}
+use Prim.Native.Nat.{ℕ, ◌+◌, ◌≤◌, ◌<◌}
 use native.Mathlib.Omega.{arith}
 use native.Mathlib.Numerals.{add-one}
 use mathlib.Core.Path.{◌≡◌, refl, sym, ◌∙◌, ap, subst}
 use mathlib.Core.List.{List, [], ◌++◌, append-nil, append_assoc}
 use lib.ListN.{length, take, drop, get_or, length-append, drop_of_length-le, take-append-drop}
-use lib.Seq.{drop-cons, get_or-take, length-take-le}
-use lib.Dec.{eqb}
+use lib.Seq.{drop-cons, length-take-le}
 use Rattle.format.specs.Slots.{Slot, byte, written}
 use Rattle.format.specs.Records.{Record}
 use Rattle.format.specs.Layout.{opening, layout, layouts, table, place_after}
@@ -20,66 +19,63 @@ use Rattle.format.proofs.Written.{length_written}
 use Rattle.spelling.specs.Spelling.{Put}
 use Rattle.spelling.proofs.Putting.{then, put_one}
 use Rattle.saving.specs.Saving.{At, records}
+use Rattle.fates.specs.declared.Kept.{Kept}
 use Rattle.fates.specs.Noted.{Each, Keeps}
 use Rattle.reserved.specs.Zeroed.{reach}
-use Rattle.mending.specs.Laid.{tidied, raw, raws, Copyable, Copied, Tidies, Fitting}
+use Rattle.mending.specs.Laid.{nobody, place_at, tidied, raw, raws, Copyable, Copied, Tidies, Fitting}
 use Rattle.mending.proofs.Laying.{size_there, inside, reach_there, tidied_there}
-use Rattle.mending.proofs.Listing.{leftover, sized, spot, keeps_at, left_length, left_written, none_left, Summing}
+use Rattle.mending.proofs.Listing.{leftover, spot, keeps_at, left_length, left_written, none_left, Summing}
 use Rattle.mending.proofs.Copying.{raws_length}
 
 -- THE INVARIANT, between the bytes before and those behind
-pub record Tidying (t ns : List ℕ) (ks : List (At Record)) (x y : List ℕ) (i end : ℕ) (out : List ℕ) : Type 0 where
+pub record Tidying (t : List ℕ) (ns : List Kept) (ks : List (At Record)) (x y : List ℕ) (i end : ℕ) (out : List ℕ) : Type 0 where
   pub so_far : List ℕ
   pub place : length (x ++ so_far) ≡ end
   pub stands : out ≡ (x ++ so_far) ++ (raws t (drop i ns) ++ y)
   pub whole : so_far ++ written (leftover ks i) ≡ written (layouts (records ks))
 
 pub tidy_begun :
-    (t ns : List ℕ) (ks : List (At Record)) (x y out : List ℕ)
+    (t : List ℕ) (ns : List Kept) (ks : List (At Record)) (x y out : List ℕ)
     → length x ≡ 16
     → out ≡ x ++ (raws t ns ++ y)
     → Tidying t ns ks x y 0 16 out
 tidy_begun t ns ks x y out l e =
     record { so_far = []; place = rw (append-nil x) l; stands = rw (append-nil x) e; whole = refl }
 
-module _ (c : Chip) (t kept : List ℕ) (n : ℕ) (few : n ≤ 96) (long : length kept ≡ 96) (ks : List (At Record))
-    (all : Each (Keeps c t) (take n kept) ks) where
+module _ (c : Chip) (t : List ℕ) (kept : List Kept) (ks : List (At Record)) (all : Each (Keeps c t) kept ks) where
   -- there is room for what is left
   pub tidy_room :
-      (i end : ℕ) (b : i < n)
-      → Summing t kept n i end
-      → (end + reach (byte t (get_or kept i 0 / 2)) ≤ 16 + length (raws t (take n kept))) × (end + 5 ≤ 16 + length (raws t (take n kept)))
+      (i end : ℕ) (b : i < length kept)
+      → Summing t kept i end
+      → (end + reach (byte t (place_at kept i)) ≤ 16 + length (raws t kept)) × (end + 5 ≤ 16 + length (raws t kept))
   tidy_room i end b sum =
-      let k = keeps_at c t kept n few long ks all i b in
-      let x = (spot c t kept n few long ks all i b).x in
-      let here : end + length (layout x.what) ≤ 16 + length (raws t (take n kept)) =
-      omega (arith, sum c ks all, left_length c t kept n few long ks all i b, raws_length c t (take n kept) ks all) in
+      let k = keeps_at c t kept ks all i b in
+      let x = (spot c t kept ks all i b).x in
+      let here : end + length (layout x.what) ≤ 16 + length (raws t kept) =
+      omega (arith, sum c ks all, left_length c t kept ks all i b, raws_length c t kept ks all) in
       (omega (arith, here, reach_there c t _ x k), omega (arith, here, inside c t _ x k))
 
-  module _ (x y : List ℕ) (i end : ℕ) (out : List ℕ) (w : Tidying t (take n kept) ks x y i end out) where
+  module _ (x y : List ℕ) (i end : ℕ) (out : List ℕ) (w : Tidying t kept ks x y i end out) where
     pub tidy_on :
-        (b : i < n) (out' : List ℕ) (len : ℕ)
-        → out' ≡ tidied (byte t (get_or kept i 0 / 2)) (eqb (get_or kept i 0 % 2) 1) end out
-        → len ≡ stated (drop (get_or kept i 0 / 2) t)
-        → Tidying t (take n kept) ks x y (i + 1) (end + len) out'
+        (b : i < length kept) (out' : List ℕ) (len : ℕ)
+        → out' ≡ tidied (byte t (place_at kept i)) (get_or kept i nobody).cleared end out
+        → len ≡ stated (drop (place_at kept i) t)
+        → Tidying t kept ks x y (i + 1) (end + len) out'
     tidy_on b out' len is size =
-        let held = get_or kept i 0 in
-        let ns = take n kept in
-        let k = (spot c t kept n few long ks all i b).x in
-        let h = keeps_at c t kept n few long ks all i b in
+        let held = get_or kept i nobody in
+        let k = (spot c t kept ks all i b).x in
+        let h = keeps_at c t kept ks all i b in
         let new = written (layout k.what) in
         let before = x ++ w.so_far in
-        let behind = raws t (drop (i + 1) ns) ++ y in
-        let next : raws t (drop i ns) ≡ raw t held ++ raws t (drop (i + 1) ns) =
-        ap (raws t) (drop-cons ns i 0 (omega (arith, sized c t kept n few long ks all, b)))
-        ∙ ap (λ (m : ℕ). raw t m ++ raws t (drop (suc i) ns)) (get_or-take n kept i 0 b)
-        ∙ ap (λ (m : ℕ). raw t held ++ raws t (drop m ns)) (sym (add-one i)) in
+        let behind = raws t (drop (i + 1) kept) ++ y in
+        let next : raws t (drop i kept) ≡ raw t held ++ raws t (drop (i + 1) kept) =
+        ap (raws t) (drop-cons kept i nobody b) ∙ ap (λ (m : ℕ). raw t held ++ raws t (drop m kept)) (sym (add-one i)) in
         let there : out ≡ before ++ (raw t held ++ behind) =
         w.stands
         ∙ ap (λ (l : List ℕ). before ++ (l ++ y)) next
-        ∙ ap (λ (l : List ℕ). before ++ l) (append_assoc (raw t held) (raws t (drop (i + 1) ns)) y) in
-        let tidy : tidied (byte t (held / 2)) (eqb (held % 2) 1) end out ≡ before ++ (new ++ behind) =
-        subst (λ (m : ℕ). tidied (byte t (held / 2)) (eqb (held % 2) 1) m out ≡ before ++ (new ++ behind)) w.place
+        ∙ ap (λ (l : List ℕ). before ++ l) (append_assoc (raw t held) (raws t (drop (i + 1) kept)) y) in
+        let tidy : tidied (byte t (place_at kept i)) held.cleared end out ≡ before ++ (new ++ behind) =
+        subst (λ (m : ℕ). tidied (byte t (place_at kept i)) held.cleared m out ≡ before ++ (new ++ behind)) w.place
         (tidied_there c t held k h before behind out there) in
         record {
           so_far = w.so_far ++ new;
@@ -100,28 +96,28 @@ module _ (c : Chip) (t kept : List ℕ) (n : ℕ) (few : n ≤ 96) (long : lengt
               ∙ ap (λ (l : List ℕ). l ++ behind) (append_assoc x w.so_far new);
           whole =
               append_assoc w.so_far new (written (leftover ks (i + 1)))
-              ∙ ap (λ (l : List ℕ). w.so_far ++ l) (sym (left_written c t kept n few long ks all i b))
+              ∙ ap (λ (l : List ℕ). w.so_far ++ l) (sym (left_written c t kept ks all i b))
               ∙ w.whole;
         }
 
-    pub tidy_ends : n ≤ i → out ≡ x ++ (written (layouts (records ks)) ++ y)
+    pub tidy_ends : length kept ≤ i → out ≡ x ++ (written (layouts (records ks)) ++ y)
     tidy_ends b =
-        let none = none_left c t kept n few long ks all i b in
-        let gone : drop i (take n kept) ≡ [] =
-        drop_of_length-le (take n kept) {i = i} (omega (arith, b, sized c t kept n few long ks all)) in
+        let none = none_left c t kept ks all i b in
+        let gone : drop i kept ≡ [] =
+        drop_of_length-le kept {i = i} b in
         let q : w.so_far ≡ written (layouts (records ks)) =
         sym (append-nil w.so_far) ∙ ap (λ (l : List Slot). w.so_far ++ written l) (sym none) ∙ w.whole in
         w.stands
-        ∙ ap (λ (l : List ℕ). (x ++ w.so_far) ++ (raws t l ++ y)) gone
+        ∙ ap (λ (l : List Kept). (x ++ w.so_far) ++ (raws t l ++ y)) gone
         ∙ append_assoc x w.so_far y
         ∙ ap (λ (l : List ℕ). x ++ (l ++ y)) q
 
   -- what the table asks of its buffer is what its elements ask
-  pub copyable : {len : ℕ} {out b : List ℕ} → Fitting c t kept n len out → length b ≡ length out → Copyable t kept n b
+  pub copyable : {len : ℕ} {out b : List ℕ} → Fitting c t kept len out → length b ≡ length out → Copyable t kept b
   copyable p same =
-      let e = raws_length c t (take n kept) ks all in
+      let e = raws_length c t kept ks all in
       record {
-        list = record { c = c; ks = ks; keeps = all; few = few; long = long; top = p.top };
+        list = record { c = c; ks = ks; keeps = all; few = p.few; top = p.top };
         most = omega (arith, e, p.size c ks all, p.most);
         room = omega (arith, e, p.size c ks all, p.room, same);
       }
@@ -132,16 +128,16 @@ module _ (c : Chip) (t kept : List ℕ) (n : ℕ) (few : n ≤ 96) (long : lengt
       → len ≡ place_after (records ks)
       → len ≤ length b
       → Put b 0 (written (opening d len)) 16 b₁
-      → Copied t kept n b₁ b₂
-      → Tidies t kept n b₂ b₃
+      → Copied t kept b₁ b₂
+      → Tidies t kept b₂ b₃
       → Put b 0 (written (table d (records ks))) len b₃
   table_put d len b b₁ b₂ b₃ size fits p q tidy =
-      let r = raws t (take n kept) in
-      let room : 16 + length r ≤ length b₁ = omega (arith, raws_length c t (take n kept) ks all, size, fits, p.long) in
+      let r = raws t kept in
+      let room : 16 + length r ≤ length b₁ = omega (arith, raws_length c t kept ks all, size, fits, p.long) in
       let w = written (layouts (records ks)) in
       let x = take 16 b₁ in
       let y = drop (16 + length r) b₁ in
-      let same : length r ≡ length w = raws_length c t (take n kept) ks all ∙ sym (length_written (layouts (records ks))) in
+      let same : length r ≡ length w = raws_length c t kept ks all ∙ sym (length_written (layouts (records ks))) in
       let split : b₂ ≡ x ++ (r ++ y) =
       sym (take-append-drop (16 + length r) b₂)
       ∙ ap (λ (l : List ℕ). l ++ drop (16 + length r) b₂) q.front

@@ -8,43 +8,33 @@ ghost use Rattle.reserved.specs.Zeroed.{reach};
 ghost use Rattle.mending.specs.Laid.{cleared_at, tidied, Listed, LengthIs, RunIs, Copyable, Copied, Tidies};
 ghost use Rattle.mending.specs.Laid.{Fitting, PutsOpening, PutsTable};
 
+use fates::Kept;
 use format::pins::Chip;
 use joining::put_length;
 use laying::{copy_into, put_description};
 use reserved::clear_reserved;
 use walking::length_at;
 
-// How long the table of the first n is.
-pub fn new_length(t: &[u8], kept: &[usize; 96], n: usize) -> usize
-    requires { Listed t.now kept.now n }
-    ensures { LengthIs t.now kept.now n result }
+// How long the table of what is kept is.
+pub fn new_length(t: &[u8], kept: &[Kept]) -> usize
+    requires { Listed t.now kept.now }
+    ensures { LengthIs t.now kept.now result }
 {
-    let mut end: usize = 16;
-    let mut i: usize = 0;
-    while i < n {
-        let held = kept[i];
-        end += length_at(t, held / 2);
-        i += 1;
+    let mut end = 16;
+    for held in kept {
+        end += length_at(t, usize::from(held.place));
     }
     end
 }
 
-// The table of the first n, which is so long, at the front of the buffer; the description's string index cleared or not.
-pub fn put_table(
-    t: &[u8],
-    kept: &[usize; 96],
-    n: usize,
-    cleared: bool,
-    len: usize,
-    out: &mut [u8],
-    chip: Chip,
-)
-    requires { Fitting chip t.now kept.now n len out.old }
-    ensures { PutsTable chip t.now kept.now n cleared len out.old out.new }
+// The table of what is kept, which is so long, at the front of the buffer; the description's string index cleared or not.
+pub fn put_table(t: &[u8], kept: &[Kept], cleared: bool, len: usize, out: &mut [u8], chip: Chip)
+    requires { Fitting chip t.now kept.now len out.old }
+    ensures { PutsTable chip t.now kept.now cleared len out.old out.new }
 {
     put_opening(t, cleared, len, out, chip);
-    copy_kept(t, kept, n, out);
-    tidy_kept(t, kept, n, out);
+    copy_kept(t, kept, out);
+    tidy_kept(t, kept, out);
 }
 
 // Elements of the old table that are kept and stand end to end: where they end, and which comes next.
@@ -55,36 +45,34 @@ struct Run {
 }
 
 // The run from the i-th on. What stands end to end is copied at once, which takes less than a copy of each (docs/BENCH.md).
-fn run_from(t: &[u8], kept: &[usize; 96], i: usize, n: usize) -> Run
-    requires { Listed t.now kept.now n × (i < n) }
-    ensures { RunIs t.now kept.now i n result }
+fn run_from(t: &[u8], kept: &[Kept], i: usize) -> Run
+    requires { Listed t.now kept.now × (i < length kept.now) }
+    ensures { RunIs t.now kept.now i result }
 {
-    let first = kept[i];
-    let from = first / 2;
+    let from = usize::from(kept[i].place);
     let mut to = from + length_at(t, from);
-    let mut j = i + 1;
-    while j < n {
-        let held = kept[j];
-        if held / 2 != to {
+    for j in i + 1..kept.len() {
+        if usize::from(kept[j].place) != to {
             return Run { to, next: j };
         }
         to += length_at(t, to);
-        j += 1;
     }
-    Run { to, next: j }
+    Run {
+        to,
+        next: kept.len(),
+    }
 }
 
-// The bytes of the first n as they stand, from place 16 on.
-fn copy_kept(t: &[u8], kept: &[usize; 96], n: usize, out: &mut [u8])
-    requires { Copyable t.now kept.now n out.old }
-    ensures { Copied t.now kept.now n out.old out.new }
+// The bytes of what is kept as they stand, from place 16 on. The index goes on by whole runs.
+fn copy_kept(t: &[u8], kept: &[Kept], out: &mut [u8])
+    requires { Copyable t.now kept.now out.old }
+    ensures { Copied t.now kept.now out.old out.new }
 {
-    let mut end: usize = 16;
-    let mut i: usize = 0;
-    while i < n {
-        let held = kept[i];
-        let from = held / 2;
-        let run = run_from(t, kept, i, n);
+    let mut end = 16;
+    let mut i = 0;
+    while i < kept.len() {
+        let from = usize::from(kept[i].place);
+        let run = run_from(t, kept, i);
         let to = run.to;
         copy_into(out, end, &t[from..to]);
         end += to - from;
@@ -93,18 +81,15 @@ fn copy_kept(t: &[u8], kept: &[usize; 96], n: usize, out: &mut [u8])
 }
 
 // Their reserved places at zero, and the string indexes that are cleared.
-fn tidy_kept(t: &[u8], kept: &[usize; 96], n: usize, out: &mut [u8])
-    requires { Copyable t.now kept.now n out.old }
-    ensures { Tidies t.now kept.now n out.old out.new }
+fn tidy_kept(t: &[u8], kept: &[Kept], out: &mut [u8])
+    requires { Copyable t.now kept.now out.old }
+    ensures { Tidies t.now kept.now out.old out.new }
 {
-    let mut end: usize = 16;
-    let mut i: usize = 0;
-    while i < n {
-        let held = kept[i];
-        let from = held / 2;
-        tidy(out, end, t[from], held % 2 == 1);
+    let mut end = 16;
+    for held in kept {
+        let from = usize::from(held.place);
+        tidy(out, end, t[from], held.cleared);
         end += length_at(t, from);
-        i += 1;
     }
 }
 

@@ -4,25 +4,27 @@ use Prim.Native.Nat.{ℕ}
 use native.Mathlib.Omega.{arith}
 use mathlib.Core.Path.{◌≡◌, sym, ◌∙◌, ap}
 use mathlib.Core.List.{List}
+use Rattle.std.specs.Prelude.{Result}
 use Rattle.format.specs.Slots.{Bytes}
 use Rattle.format.specs.declared.settings.Settings.{Settings}
 use Rattle.format.specs.declared.records.Element.{Element}
-use Rattle.format.specs.declared.answers.Asked.{Asked}
-use Rattle.format.specs.declared.answers.Asked.TheVariants.{Element as Given, Refused as NotGiven}
+use Rattle.format.specs.Answers.{Asked}
+use Rattle.format.specs.Answers.{Gives as Given, Refused as NotGiven}
 use Rattle.reader.proofs.Only.{only_element}
 use Rattle.converting.specs.Outcomes.{outcome_of}
+use Rattle.format.specs.declared.answers.Rule.{Rule}
 use Rattle.converting.specs.declared.Converted.{Converted}
 use Rattle.converting.proofs.Walking.{temperature_unique}
 use Rattle.sensing.specs.Answers.{sensor_of, Answers}
 use Rattle.sensing.proofs.Only.{answer_unique}
 use Rattle.metering.specs.Meters.{metered_of, Meters, given, ungiven}
 use Rattle.metering.specs.Face.{packed_of, ReadingFor, OwnFor}
-use Rattle.metering.specs.declared.Metered.{Metered}
+use Rattle.metering.specs.Meters.{Metered}
 
 never : {a : Asked} {e : Element} {j p : ℕ} → a ≡ Given e → a ≡ NotGiven j p → ⊥
 never x y = let z : ◌≡◌ {A = ℕ} 0 1 = cc in omega arith
 
-same : (c : ℕ) {e f : Element} {r q : Converted} → Given e ≡ Given f → Answers (sensor_of e) c r → Answers (sensor_of f) c q → r ≡ q
+same : (c : ℕ) {e f : Element} {r q : Result Converted Rule} → Given e ≡ Given f → Answers (sensor_of e) c r → Answers (sensor_of f) c q → r ≡ q
 same c {e} {f} x y z = let g : e ≡ f = cc in answer_unique (sensor_of f) c (rw g at y) z
 
 pub only_reading : (σ : Settings) (b : List ℕ) (k c : ℕ) (r r' : Metered) → Bytes b → Meters σ b k c r → Meters σ b k c r' → r ≡ r'
@@ -34,7 +36,7 @@ only_reading σ b k c r r' small (ungiven g) (given r₁ g' a) = absurd
 only_reading σ b k c r r' small (given r₁ g a) (ungiven g') = absurd
     (never (only_element σ b k _ _ small g g) (only_element σ b k _ _ small g g'))
 only_reading σ b k c r r' small (given r₁ g a) (given r₂ g' a') =
-    ap (λ (x : Converted). metered_of (outcome_of x)) (same c (only_element σ b k _ _ small g g') a a')
+    ap (λ (x : Result Converted Rule). metered_of (outcome_of x)) (same c (only_element σ b k _ _ small g g') a a')
 
 pub only_number : (σ : Settings) (b : List ℕ) (k c r r' : ℕ) → Bytes b → ReadingFor σ b k c r → ReadingFor σ b k c r' → r ≡ r'
 only_number σ b k c r r' small x y =
@@ -42,4 +44,4 @@ only_number σ b k c r r' small x y =
 
 pub only_own : (c r r' : ℕ) → OwnFor c r → OwnFor c r' → r ≡ r'
 only_own c r r' x y =
-    x.number ∙ ap (λ (a : Converted). packed_of (metered_of (outcome_of a))) (temperature_unique x.reads y.reads) ∙ sym y.number
+    x.number ∙ ap (λ (a : Result Converted Rule). packed_of (metered_of (outcome_of a))) (temperature_unique x.reads y.reads) ∙ sym y.number

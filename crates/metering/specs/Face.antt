@@ -1,14 +1,15 @@
 -- The answer over the C face: the number of 'What comes back', and 256 times what stands beside it.
 -- Assumes nothing.
-use Rattle.std.specs.Prelude.{ℕ, ◌+◌, ◌*◌, ◌≡◌, List}
+use Rattle.std.specs.Prelude.{ℕ, ◌+◌, ◌*◌, ◌≡◌, List, Result}
 use Rattle.format.specs.declared.settings.Settings.{Settings}
 use Rattle.converting.specs.Outcomes.{outcome_of}
 use Rattle.converting.specs.Conversions.{Temperature}
+use Rattle.format.specs.declared.answers.Rule.{Rule}
 use Rattle.converting.specs.declared.Converted.{Converted}
 use Rattle.thermistor.specs.Ready.{ours}
 use Rattle.metering.specs.Meters.{metered_of, Meters}
-use Rattle.metering.specs.declared.Metered.{Metered}
-use Rattle.metering.specs.declared.Metered.TheVariants.{Reading, Under, Over, Refused}
+use Rattle.metering.specs.Meters.{Metered}
+use Rattle.metering.specs.Meters.{Read as Reading, UnderZero as Under, OverHundred as Over, RefusedAt as Refused}
 
 abbrev pub number_of : Metered → ℕ
 number_of (Reading v) = 0
@@ -40,6 +41,6 @@ pub record ReadingFor (σ : Settings) (b : List ℕ) (k c r : ℕ) : Type 0 wher
 
 -- of a sensor with our own calibration
 pub record OwnFor (c r : ℕ) : Type 0 where
-  pub answer : Converted
+  pub answer : Result Converted Rule
   pub reads : Temperature ours c answer
   pub number : r ≡ packed_of (metered_of (outcome_of answer))

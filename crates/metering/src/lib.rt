@@ -2,33 +2,20 @@
 #![tactic(auto)]
 
 ghost use Rattle.std.specs.Prelude.{◌≡◌, ◌≤◌};
-ghost use Rattle.metering.specs.Meters.{metered_of, Short, Meters};
+ghost use Rattle.metering.specs.Meters.{metered, metered_of, Short, Meters};
 ghost use Rattle.metering.specs.Face.{place_of, packed_of, ReadingFor, OwnFor};
 
 use converting::Outcome;
-use format::answers::Asked;
+use format::answers::{Refusal, Rule};
 use format::settings::Settings;
 
-// A reading in the unit of the element's kind, 'under 0', 'over 100', or a refusal and its place.
-#[derive(Clone, Copy)]
-pub enum Metered {
-    Reading(u32),
-    Under,
-    Over,
-    Refused(u8, usize),
-}
-
 // The answer of element k to a count, or of a fan or a pump to the pulses in one second. The whole table is checked first.
-pub fn reading(table: &[u8], k: usize, count: u64, settings: Settings) -> Metered
-    ensures { Meters settings table.now k count result }
+pub fn reading(table: &[u8], k: usize, count: u64, settings: Settings) -> Result<Outcome, Refusal>
+    ensures { Meters settings table.now k count (metered result) }
 {
-    match reader::element(table, k, settings) {
-        Asked::Element(e) => {
-            let answer = sensing::answer(sensing::sensor_of(e), shortened(count));
-            at_zero(converting::told(answer))
-        }
-        Asked::Refused(j, p) => Metered::Refused(j, p),
-    }
+    let e = reader::element(table, k, settings)?;
+    let answer = sensing::answer(sensing::sensor_of(e), shortened(count));
+    at_zero(converting::told(answer))
 }
 
 // The same for the C face: beside 0 stands four times the reading, or 1 for under 0, 2 for over 100; beside a refusal its place.
@@ -53,25 +40,32 @@ fn shortened(count: u64) -> u32
 }
 
 // A refusal of the element has the place 0.
-fn at_zero(outcome: Outcome) -> Metered
-    ensures { result ≡ metered_of outcome }
+fn at_zero(outcome: Result<Outcome, Rule>) -> Result<Outcome, Refusal>
+    ensures { metered result ≡ metered_of outcome }
 {
     match outcome {
-        Outcome::Reading(v) => Metered::Reading(v),
-        Outcome::Under => Metered::Under,
-        Outcome::Over => Metered::Over,
-        Outcome::Refused(number) => Metered::Refused(number, 0),
+        Ok(read) => Ok(read),
+        Err(rule) => Err(rule.at(0)),
     }
 }
 
-fn packed(m: Metered) -> u64
-    requires { place_of m ≤ 4096 }
-    ensures { result ≡ packed_of m }
+fn packed(read: Result<Outcome, Refusal>) -> u64
+    requires { place_of (metered read) ≤ 4096 }
+    ensures { result ≡ packed_of (metered read) }
 {
-    match m {
-        Metered::Reading(v) => 1024 * (v as u64),
-        Metered::Under => 256,
-        Metered::Over => 512,
-        Metered::Refused(j, p) => (j as u64) + 256 * (p as u64),
+    match read {
+        Ok(outcome) => beside(outcome),
+        Err(refusal) => u64::from(refusal.rule.number()) + 256 * (refusal.place as u64),
+    }
+}
+
+// Beside 0, what is read.
+fn beside(outcome: Outcome) -> u64
+    ensures { result ≡ packed_of (metered_of (Ok outcome)) }
+{
+    match outcome {
+        Outcome::Reading(v) => 1024 * u64::from(v),
+        Outcome::Under => 256,
+        Outcome::Over => 512,
     }
 }

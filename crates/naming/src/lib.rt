@@ -5,23 +5,11 @@ ghost use Rattle.std.specs.Prelude.{◌≡◌, ◌+◌, ◌<◌, ◌≤◌};
 ghost use Rattle.format.specs.Slots.{byte};
 ghost use Rattle.naming.specs.Naming.{Names, LengthIs, OneNamed, AllNamed};
 
-use words::wide;
-
-fn narrow(at: usize) -> u16
-    requires { at < 65536 }
-    ensures { result ≡ at }
-{
-    at as u16
-}
-
 // A byte of a slice, 0 past its end.
 fn byte_at(p: &[u8], i: usize) -> u8
     ensures { result ≡ byte p.now i }
 {
-    if i < p.len() {
-        return p[i];
-    }
-    0
+    p.get(i).copied().unwrap_or(0)
 }
 
 // An element by its identifier and its bytes after the header: it names its zone and its string, a zone descriptor its string alone,
@@ -34,11 +22,11 @@ pub fn name(id: u8, b: &[u8], at: usize, zp: &mut [u16; 256], sp: &mut [u16; 256
         return;
     }
     if id == 11 {
-        firsts::note(sp, byte_at(b, 1), narrow(at));
+        firsts::note(sp, byte_at(b, 1), at as u16);
         return;
     }
-    firsts::note(zp, byte_at(b, 4), narrow(at));
-    firsts::note(sp, byte_at(b, 0), narrow(at));
+    firsts::note(zp, byte_at(b, 4), at as u16);
+    firsts::note(sp, byte_at(b, 0), at as u16);
 }
 
 // The length that the header at a place gives; at least 3.
@@ -46,11 +34,8 @@ fn length_at(p: &[u8], i: usize) -> usize
     requires { i ≤ 4097 }
     ensures { LengthIs p.now i result }
 {
-    let len = wide(byte_at(p, i + 1)) + 256 * wide(byte_at(p, i + 2));
-    if len < 3 {
-        return 3;
-    }
-    len
+    let len = usize::from(byte_at(p, i + 1)) + 256 * usize::from(byte_at(p, i + 2));
+    len.max(3)
 }
 
 // The element at a place of some bytes, where it is all there, and its length; `base` is the place of the first byte in the table.

@@ -1,7 +1,7 @@
 // From the record to its numbers, one function a kind; byte 31 names the chip of its pins, and the bytes that a kind does not use are 0.
 #![tactic(auto)]
 
-ghost use Rattle.std.specs.Prelude.{◌≡◌, [], ◌∷◌, ◌++◌, ◌<◌};
+ghost use Rattle.std.specs.Prelude.{◌≡◌, [], ◌∷◌, ◌++◌, ◌+◌, ◌<◌, ◌≤◌};
 ghost use Rattle.std.proofs.lemmas.List.Edits.{sets};
 ghost use Rattle.format.specs.Layout.{optional_byte};
 ghost use Rattle.format.specs.declared.records.Element.TheVariants.{Digital, Analogue, Fan, Led, Water, Voltage, Current, Controller};
@@ -10,24 +10,24 @@ ghost use Rattle.words.specs.Widths.{two_bytes};
 ghost use Rattle.numbered.specs.Into.{padded, chip_number, placement_numbers, kind_of, address_of, lamp_numbers};
 ghost use Rattle.numbered.specs.Into.{element_into, description_into};
 
-use format::pins::{Chip, OptionalPin};
+use format::pins::{Chip, Pin};
 use format::records::{
     Address, AnalogueSensor, BusDevice, CurrentSensor, Description, DigitalSensor, Element,
     ExternalRgb, Lamp, Placement, PwmFan, RgbLed, StatusLed, VoltageSensor, WaterLevel,
 };
 
+#[tactic(auto, using(crate::proofs::Storing::four_are))]
 pub fn description(d: Description, chip: Chip) -> [u8; 32]
     ensures { result ≡ description_into chip d }
 {
     let p = d.revision0;
     let q = d.revision1;
     let r = d.revision2;
-    let mut n = three_at([0u8; 32], 8, byte_of(p), byte_of(q), byte_of(r));
-    n = pair_at(n, 2, (d.serial % 65536) as u16);
-    n = pair_at(n, 4, (d.serial / 65536) as u16);
+    let mut n = put([0u8; 32], 8, [byte_of(p), byte_of(q), byte_of(r)]);
+    n = put(n, 2, d.serial.to_le_bytes());
     n[0] = d.device;
     n[1] = d.string;
-    n[6] = d.spwr as u8;
+    n[6] = u8::from(d.spwr);
     n[7] = d.power.0;
     n[31] = number_of(chip);
     n
@@ -93,7 +93,7 @@ fn fan(f: PwmFan, chip: Chip) -> [u8; 32]
     let p = f.placement;
     let t = f.tachometer;
     let mut n = placement(p, chip);
-    n = three_at(n, 5, f.pwm.0, byte_of(t), f.ppr);
+    n = put(n, 5, [f.pwm.0, byte_of(t), f.ppr]);
     n = pair_at(n, 8, f.minrpm.0);
     n = pair_at(n, 10, f.maxrpm.0);
     n[12] = f.duty;
@@ -130,7 +130,7 @@ fn voltage(v: VoltageSensor, chip: Chip) -> [u8; 32]
     ensures { result ≡ element_into chip (Voltage v) [] }
 {
     let p = v.placement;
-    three_at(placement(p, chip), 5, v.pin.0, v.vmax.0, v.vmin.0)
+    put(placement(p, chip), 5, [v.pin.0, v.vmax.0, v.vmin.0])
 }
 
 // 08h
@@ -168,7 +168,7 @@ fn rgb(c: RgbLed, chip: Chip) -> [u8; 32]
     ensures { result ≡ element_into chip (Rgb c) [] }
 {
     let p = c.placement;
-    three_at(placement(p, chip), 5, c.red.0, c.green.0, c.blue.0)
+    put(placement(p, chip), 5, [c.red.0, c.green.0, c.blue.0])
 }
 
 fn placement(p: Placement, chip: Chip) -> [u8; 32]
@@ -188,29 +188,26 @@ fn placement(p: Placement, chip: Chip) -> [u8; 32]
 fn bus_places(p: Placement, bus: u8, a: Address, chip: Chip) -> [u8; 32]
     ensures { result ≡ padded (placement_numbers p ++ bus ∷ kind_of a ∷ address_of a ∷ []) (chip_number chip) }
 {
-    three_at(placement(p, chip), 5, bus, kind(a), address(a))
+    put(placement(p, chip), 5, [bus, kind(a), address(a)])
+}
+
+// Bytes from a place on.
+fn put<const N: usize>(n: [u8; 32], at: usize, bytes: [u8; N]) -> [u8; 32]
+    requires { at + N ≤ 32 }
+    ensures { result ≡ sets n at bytes.entry }
+{
+    let mut r = n;
+    r[at..at + N].copy_from_slice(&bytes);
+    r
 }
 
 // A number of two bytes, the lower first.
+#[tactic(auto, using(crate::proofs::Storing::two_are))]
 fn pair_at(n: [u8; 32], at: usize, x: u16) -> [u8; 32]
     requires { at < 31 }
     ensures { result ≡ sets n at (two_bytes x) }
 {
-    let mut r = n;
-    r[at] = (x % 256) as u8;
-    r[at + 1] = (x / 256) as u8;
-    r
-}
-
-fn three_at(n: [u8; 32], at: usize, a: u8, b: u8, c: u8) -> [u8; 32]
-    requires { at < 30 }
-    ensures { result ≡ sets n at (a ∷ b ∷ c ∷ []) }
-{
-    let mut r = n;
-    r[at] = a;
-    r[at + 1] = b;
-    r[at + 2] = c;
-    r
+    put(n, at, x.to_le_bytes())
 }
 
 fn lamp_at(n: [u8; 32], at: usize, l: Lamp) -> [u8; 32]
@@ -218,7 +215,7 @@ fn lamp_at(n: [u8; 32], at: usize, l: Lamp) -> [u8; 32]
     ensures { result ≡ sets n at (lamp_numbers l) }
 {
     let p = l.pin;
-    three_at(n, at, byte_of(p), l.colour, l.purpose)
+    put(n, at, [byte_of(p), l.colour, l.purpose])
 }
 
 fn two(a: u8, b: u8) -> [u8; 32]
@@ -250,12 +247,12 @@ fn address(a: Address) -> u8
 }
 
 // FFh of an unused place.
-fn byte_of(p: OptionalPin) -> u8
+fn byte_of(p: Option<Pin>) -> u8
     ensures { result ≡ optional_byte p }
 {
     match p {
-        OptionalPin::Unused => 255,
-        OptionalPin::Used(q) => q.0,
+        None => 255,
+        Some(q) => q.0,
     }
 }
 

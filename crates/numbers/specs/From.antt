@@ -1,6 +1,6 @@
 -- The records in the 32 bytes that hold their numbers at the C face: each number as wide as the record's type, lowest byte first.
 -- Assumes nothing.
-use Rattle.std.specs.Prelude.{ℕ, ◌+◌, Bool, true, false, ◌&&◌, not, cond, List, eqb, leb}
+use Rattle.std.specs.Prelude.{ℕ, ◌+◌, Bool, true, false, ◌&&◌, not, cond, List, eqb, leb, Option, Some, None}
 use Rattle.format.specs.Slots.{byte}
 use Rattle.format.specs.Decode.{pin_of, optional_of, digital_of, analogue_of, lamp_of, led_of, current_of, device_of, external_of, description_of}
 use Rattle.format.specs.Decode.{word_at, read_placement, read_fan, read_water, read_voltage, read_rgb}
@@ -20,8 +20,6 @@ use Rattle.format.specs.declared.records.Element.{Element}
 use Rattle.format.specs.declared.records.Element.TheVariants.{Digital, Analogue, Fan, Led, Water, Pump, Voltage, Current, Controller}
 use Rattle.format.specs.declared.records.Element.TheVariants.{Tachometer, Zone, Text, External, Rgb}
 use Rattle.words.specs.Widths.{long_at}
-use Rattle.numbers.specs.declared.MaybeElement.{MaybeElement}
-use Rattle.numbers.specs.declared.MaybeElement.TheVariants.{Element as Found, Unknown}
 
 -- byte 31 names the chip of the record's pins: 0 the 320, any other number the 321
 abbrev pub pick_chip : Bool → Chip
@@ -88,5 +86,5 @@ kind_from id c n =
     (cond (eqb id 0x0d) (External (external_from c n)) (Rgb (read_rgb c n))))))))))))))
 
 -- the element of an identifier in the numbers, and none where it is not 01h to 0Eh
-abbrev pub element_from : ℕ → List ℕ → MaybeElement
-element_from id n = cond (leb 1 id && leb id 0x0e) (Found (kind_from id (chip_from (byte n)) (byte n))) Unknown
+abbrev pub element_from : ℕ → List ℕ → Option Element
+element_from id n = cond (leb 1 id && leb id 0x0e) (Some (kind_from id (chip_from (byte n)) (byte n))) None

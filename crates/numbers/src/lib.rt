@@ -17,13 +17,6 @@ use format::records::{
 use format::units::{Counts, Deciamps, Degrees, FourMilliamps};
 use words::{long, word};
 
-// The element of an identifier, or nothing where that is none of the fourteen.
-#[derive(Clone, Copy)]
-pub enum MaybeElement {
-    Element(Element),
-    Unknown,
-}
-
 pub fn description(n: &[u8; 32]) -> Description
     ensures { result ≡ description_from n.now }
 {
@@ -40,13 +33,14 @@ pub fn description(n: &[u8; 32]) -> Description
     }
 }
 
-pub fn element(id: u8, n: &[u8; 32]) -> MaybeElement
+// The element of an identifier, or none where that is not one of the fourteen.
+pub fn element(id: u8, n: &[u8; 32]) -> Option<Element>
     ensures { result ≡ element_from id n.now }
 {
-    if (1 <= id) & (id <= 14) {
-        return MaybeElement::Element(of_kind(id, n, chip_of(n)));
+    match id {
+        1..=14 => Some(of_kind(id, n, chip_of(n))),
+        _ => None,
     }
-    MaybeElement::Unknown
 }
 
 // The element of one of the fourteen identifiers.

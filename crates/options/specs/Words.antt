@@ -1,12 +1,11 @@
 -- What a word of a program is.
 -- Assumes nothing.
-use Rattle.std.specs.Prelude.{ℕ, Bool, true, false, ◌&&◌, List, [], ◌∷◌, eqb}
+use Rattle.std.specs.Prelude.{ℕ, Bool, true, false, ◌&&◌, List, [], ◌∷◌, eqb, Option, Some, None}
 use Rattle.format.specs.Slots.{byte}
+use Rattle.format.specs.declared.pins.Chip.{Chip as TheChip}
 use Rattle.format.specs.declared.pins.Chip.TheVariants.{C8051F320, C8051F321}
 use Rattle.options.specs.declared.Word.{Word}
 use Rattle.options.specs.declared.Word.TheVariants.{Chip, Archive, End, Dashed, Plain}
-use Rattle.options.specs.declared.NamedChip.{NamedChip}
-use Rattle.options.specs.declared.NamedChip.TheVariants.{Unnamed, Named}
 
 -- two words are the same byte by byte
 abbrev pub same_word : List ℕ → List ℕ → Bool
@@ -43,10 +42,10 @@ word_of w =
     Chip
     (pick_word (same_word w archive_word) Archive (pick_word (same_word w end_word) End (pick_word (eqb (byte w 0) 45) Dashed Plain)))
 
-abbrev pub pick_chip : Bool → NamedChip → NamedChip → NamedChip
+abbrev pub pick_chip : Bool → Option TheChip → Option TheChip → Option TheChip
 pick_chip true a b = a
 pick_chip false a b = b
 
 -- behind '--chip'
-abbrev pub chip_of : List ℕ → NamedChip
-chip_of w = pick_chip (same_word w word320) (Named C8051F320) (pick_chip (same_word w word321) (Named C8051F321) Unnamed)
+abbrev pub chip_of : List ℕ → Option TheChip
+chip_of w = pick_chip (same_word w word320) (Some C8051F320) (pick_chip (same_word w word321) (Some C8051F321) None)

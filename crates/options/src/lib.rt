@@ -3,21 +3,23 @@
 // from is the system's affair.
 #![tactic(auto)]
 
-ghost use Rattle.std.specs.Prelude.{◌≡◌, ◌≤◌, length};
+ghost use Rattle.std.specs.Prelude.{◌≡◌, ◌+◌, ◌^◌, ◌<◌, ◌≤◌, length, Ok, IfSome};
+ghost use Rattle.options.specs.declared.Chosen.{Chosen};
 ghost use Rattle.options.specs.Steps.{wanted, archived_of, option_of, number_of, step_of, last_of, settings_of, ordinary_of};
 
 use format::pins::Chip;
 use format::settings::{Rules, Settings};
 use std::env::FillError;
+use std::error::Error;
 use std::fs::File;
-use std::io;
 use std::rt::{Env, Files};
+use std::{fmt, io};
 
 pub mod numerals;
 mod words;
 
 // What a word is where an option may stand.
-#[derive(Clone, Copy)]
+#[derive(Clone, Copy, Debug, PartialEq, Eq)]
 pub enum Word {
     // its number comes next
     Chip,
@@ -29,21 +31,15 @@ pub enum Word {
     Plain,
 }
 
-#[derive(Clone, Copy)]
-pub enum NamedChip {
-    Unnamed,
-    Named(Chip),
-}
-
 // What the options so far have chosen.
 #[derive(Clone, Copy)]
 pub struct Choice {
-    pub chip: NamedChip,
+    pub chip: Option<Chip>,
     pub rules: Rules,
 }
 
 // What is wrong with the words.
-#[derive(Clone, Copy)]
+#[derive(Clone, Copy, Debug, PartialEq, Eq)]
 pub enum Misuse {
     Unknown,
     NoChip,
@@ -55,9 +51,9 @@ pub enum Misuse {
     Extra,
 }
 
-// How far the words are read.
+// How far the words are read, so long as nothing is wrong with them.
 #[derive(Clone, Copy)]
-pub enum State {
+pub enum Stage {
     // an option may come
     Open(Choice),
     // --chip was read, and its number must come
@@ -66,76 +62,69 @@ pub enum State {
     Ended(Choice),
     // and before this word
     Others(Choice),
-    Misused(Misuse),
 }
 
 // What all words say: the settings, and the index of the first word behind the options.
 #[derive(Clone, Copy)]
-pub enum Options {
-    Chosen(Settings, usize),
-    Misused(Misuse),
+pub struct Chosen {
+    pub settings: Settings,
+    pub next: usize,
 }
 
 // --chip stands once.
-fn wants_chip(c: Choice) -> State
+fn wants_chip(c: Choice) -> Result<Stage, Misuse>
     ensures { result ≡ wanted c }
 {
-    let named = c.chip;
-    match named {
-        NamedChip::Unnamed => State::Wants(c),
-        NamedChip::Named(_) => State::Misused(Misuse::ChipTwice),
+    match c.chip {
+        None => Ok(Stage::Wants(c)),
+        Some(_) => Err(Misuse::ChipTwice),
     }
 }
 
 // --archive stands once.
-fn archived(c: Choice) -> State
+fn archived(c: Choice) -> Result<Stage, Misuse>
     ensures { result ≡ archived_of c }
 {
-    let chip = c.chip;
-    let rules = c.rules;
-    match rules {
-        Rules::Ordinary => State::Open(Choice {
-            chip,
+    match c.rules {
+        Rules::Ordinary => Ok(Stage::Open(Choice {
             rules: Rules::Archive,
-        }),
-        Rules::Archive => State::Misused(Misuse::ArchiveTwice),
+            ..c
+        })),
+        Rules::Archive => Err(Misuse::ArchiveTwice),
     }
 }
 
 // A word where an option may stand.
-fn option(c: Choice, word: Word) -> State
+fn option(c: Choice, word: Word) -> Result<Stage, Misuse>
     ensures { result ≡ option_of c word }
 {
     match word {
         Word::Chip => wants_chip(c),
         Word::Archive => archived(c),
-        Word::End => State::Ended(c),
-        Word::Dashed => State::Misused(Misuse::Unknown),
-        Word::Plain => State::Others(c),
+        Word::End => Ok(Stage::Ended(c)),
+        Word::Dashed => Err(Misuse::Unknown),
+        Word::Plain => Ok(Stage::Others(c)),
     }
 }
 
 // The word behind --chip.
-fn number(c: Choice, chip: NamedChip) -> State
+fn number(c: Choice, chip: Option<Chip>) -> Result<Stage, Misuse>
     ensures { result ≡ number_of c chip }
 {
-    let rules = c.rules;
     match chip {
-        NamedChip::Unnamed => State::Misused(Misuse::NoChip),
-        NamedChip::Named(_) => State::Open(Choice { chip, rules }),
+        None => Err(Misuse::NoChip),
+        Some(_) => Ok(Stage::Open(Choice { chip, ..c })),
     }
 }
 
 // One word more.
-pub fn step(s: State, word: &[u8]) -> State
-    ensures { result ≡ step_of s word.now }
+pub fn step(stage: Result<Stage, Misuse>, word: &[u8]) -> Result<Stage, Misuse>
+    ensures { result ≡ step_of stage word.now }
 {
-    match s {
-        State::Open(c) => option(c, words::word_of(word)),
-        State::Wants(c) => number(c, words::chip_of(word)),
-        State::Ended(c) => State::Others(c),
-        State::Others(c) => State::Others(c),
-        State::Misused(m) => State::Misused(m),
+    match stage? {
+        Stage::Open(c) => option(c, words::word_of(word)),
+        Stage::Wants(c) => number(c, words::chip_of(word)),
+        Stage::Ended(c) | Stage::Others(c) => Ok(Stage::Others(c)),
     }
 }
 
@@ -143,54 +132,42 @@ pub fn step(s: State, word: &[u8]) -> State
 fn settings_of(c: Choice) -> Settings
     ensures { result ≡ settings_of c }
 {
-    let named = c.chip;
-    let rules = c.rules;
-    match named {
-        NamedChip::Unnamed => Settings {
-            chip: Chip::C8051F320,
-            rules,
-        },
-        NamedChip::Named(chip) => Settings { chip, rules },
+    Settings {
+        chip: c.chip.unwrap_or(Chip::C8051F320),
+        rules: c.rules,
     }
 }
 
 // What has come of the words, of which the first that is no option has index i.
-pub fn last(s: State, i: usize) -> Options
-    ensures { result ≡ last_of s i }
+pub fn last(stage: Result<Stage, Misuse>, i: usize) -> Result<Chosen, Misuse>
+    ensures { result ≡ last_of stage i }
 {
-    match s {
-        State::Open(c) => Options::Chosen(settings_of(c), i),
-        State::Wants(_) => Options::Misused(Misuse::NoChip),
-        State::Ended(c) => Options::Chosen(settings_of(c), i),
-        State::Others(c) => Options::Chosen(settings_of(c), i),
-        State::Misused(m) => Options::Misused(m),
+    match stage? {
+        Stage::Wants(_) => Err(Misuse::NoChip),
+        Stage::Open(c) | Stage::Ended(c) | Stage::Others(c) => Ok(Chosen {
+            settings: settings_of(c),
+            next: i,
+        }),
     }
 }
 
 // The same for a program that has the ordinary rules alone.
-pub fn ordinary(o: Options) -> Options
-    ensures { result ≡ ordinary_of o }
+pub fn ordinary(chosen: Result<Chosen, Misuse>) -> Result<Chosen, Misuse>
+    ensures { result ≡ ordinary_of chosen }
 {
-    match o {
-        Options::Chosen(s, i) => {
-            let rules = s.rules;
-            match rules {
-                Rules::Ordinary => Options::Chosen(s, i),
-                Rules::Archive => Options::Misused(Misuse::NoArchive),
-            }
-        }
-        Options::Misused(m) => Options::Misused(m),
+    let chosen = chosen?;
+    match chosen.settings.rules {
+        Rules::Ordinary => Ok(chosen),
+        Rules::Archive => Err(Misuse::NoArchive),
     }
 }
 
-// The bytes of word i at the start of the buffer, and how many: none where the buffer holds no such word whole.
-pub fn read_word(rt: &impl Env, i: usize, buffer: &mut [u8]) -> usize
-    ensures { result ≤ length buffer.new }
+// The bytes of word i, in the buffer lent: none where it holds no such word whole.
+pub fn read_word<'a>(rt: &impl Env, i: usize, buffer: &'a mut [u8]) -> &'a [u8]
+    ensures { length result.now ≤ length buffer.old }
 {
-    match rt.arg(i, buffer) {
-        Ok(n) => n,
-        Err(_) => 0,
-    }
+    let length = rt.arg(i, buffer).unwrap_or(0);
+    &buffer[..length]
 }
 
 // How many words there are, the program's name among them. No program has 2^64 - 1.
@@ -204,74 +181,117 @@ pub fn count_words(rt: &impl Env) -> usize {
     usize::MAX
 }
 
+// How many words there are from word `first` on.
+pub fn count_from(rt: &impl Env, first: usize) -> usize
+    ensures { first + result < 2 ^ 64 }
+{
+    count_words(rt).saturating_sub(first)
+}
+
+// The number below a limit that word `first` is, where as many words as one to `most` stand from it on.
+pub fn number_behind(rt: &impl Env, first: usize, most: usize, limit: usize) -> Option<usize>
+    requires { (0 < limit) × (limit ≤ 1000000000) }
+    ensures below { IfSome result (λ n. n < limit) }
+    ensures counted { IfSome result (λ n. first + 1 < 2 ^ 64) }
+{
+    let count = count_from(rt, first);
+    if count == 0 || most < count {
+        return None;
+    }
+    let mut buffer = [0u8; 4096];
+    numerals::below(read_word(rt, first, &mut buffer), limit)
+}
+
 // The file that word i names. A path is text here: a word that is no UTF-8 names no file.
 pub fn open_file<R: Env + Files>(rt: &R, i: usize) -> io::Result<R::File> {
     let mut path = [0u8; 4096];
-    let length = read_word(rt, i, &mut path);
-    match str::from_utf8(&path[..length]) {
+    match str::from_utf8(read_word(rt, i, &mut path)) {
         Ok(name) => File::open(rt, name),
         Err(_) => Err(io::Error::from(io::ErrorKind::InvalidFilename)),
     }
 }
 
-fn step_at(rt: &impl Env, s: State, i: usize) -> State {
+// The table in the file that word i names, or none where it cannot be read.
+pub fn named_table<'a>(
+    rt: &(impl Env + Files),
+    i: usize,
+    table: &'a mut [u8; 4097],
+) -> Option<&'a [u8]>
+    ensures { IfSome result (λ read. length read.now ≤ 4097) }
+{
+    let mut file = open_file(rt, i).ok()?;
+    sending::read_table(&mut file, table)
+}
+
+fn step_at(rt: &impl Env, stage: Result<Stage, Misuse>, i: usize) -> Result<Stage, Misuse> {
     let mut buffer = [0u8; 4096];
-    let length = read_word(rt, i, &mut buffer);
-    step(s, &buffer[..length])
+    step(stage, read_word(rt, i, &mut buffer))
 }
 
 // The program's options.
-pub fn read(rt: &impl Env) -> Options {
+pub fn read(rt: &impl Env) -> Result<Chosen, Misuse> {
     let n = count_words(rt);
-    let mut state = State::Open(Choice {
-        chip: NamedChip::Unnamed,
+    let mut stage = Ok(Stage::Open(Choice {
+        chip: None,
         rules: Rules::Ordinary,
-    });
+    }));
     for i in 1..n {
-        state = step_at(rt, state, i);
-        match state {
-            State::Open(_) => {}
-            State::Wants(_) => {}
-            State::Ended(_) => return last(state, i + 1),
-            State::Others(_) => return last(state, i),
-            State::Misused(_) => return last(state, i),
+        stage = step_at(rt, stage, i);
+        match stage {
+            Ok(Stage::Open(_) | Stage::Wants(_)) => {}
+            Ok(Stage::Ended(_)) => return last(stage, i + 1),
+            Ok(Stage::Others(_)) | Err(_) => return last(stage, i),
         }
     }
-    last(state, n.max(1))
+    last(stage, n.max(1))
 }
 
 // The same for a program that takes no other word.
-pub fn read_alone(rt: &impl Env) -> Options {
-    match read(rt) {
-        Options::Chosen(s, first) => {
-            if first < count_words(rt) {
-                return Options::Misused(Misuse::Extra);
+pub fn read_alone(rt: &impl Env) -> Result<Chosen, Misuse> {
+    let chosen = read(rt)?;
+    if chosen.next < count_words(rt) {
+        return Err(Misuse::Extra);
+    }
+    Ok(chosen)
+}
+
+impl fmt::Display for Misuse {
+    fn fmt<W: fmt::Write>(&self, f: &mut fmt::Formatter<W>) -> fmt::Result {
+        f.write_str(match self {
+            Misuse::Unknown => {
+                "A word is no option: there are --chip 320, --chip 321 and --archive, and -- ends the options."
             }
-            Options::Chosen(s, first)
-        }
-        Options::Misused(m) => Options::Misused(m),
+            Misuse::NoChip => "Behind --chip stands 320 or 321.",
+            Misuse::ChipTwice => "The option --chip stands more than once.",
+            Misuse::ArchiveTwice => "The option --archive stands more than once.",
+            Misuse::NoArchive => {
+                "The option --archive is not taken here: this program has one set of rules."
+            }
+            Misuse::Extra => {
+                "A word stands behind the options, and none is taken: the table comes on standard input."
+            }
+        })
     }
 }
 
-// The sentence of a misuse.
-fn sentence(m: Misuse) -> &'static str {
-    match m {
-        Misuse::Unknown => {
-            "A word is no option: there are --chip 320, --chip 321 and --archive, and -- ends the options.\n"
-        }
-        Misuse::NoChip => "Behind --chip stands 320 or 321.\n",
-        Misuse::ChipTwice => "The option --chip stands more than once.\n",
-        Misuse::ArchiveTwice => "The option --archive stands more than once.\n",
-        Misuse::NoArchive => {
-            "The option --archive is not taken here: this program has one set of rules.\n"
-        }
-        Misuse::Extra => {
-            "A word stands behind the options, and none is taken: the table comes on standard input.\n"
-        }
-    }
+impl Error for Misuse {}
+
+// What is wrong, to standard error.
+pub fn complain(rt: &impl Eprint, misuse: Misuse) -> io::Result<()> {
+    eprintln!(rt; "{misuse}")
 }
 
-// The sentence of a misuse, to standard error.
-pub fn complain(rt: &impl Eprint, m: Misuse) -> io::Result<()> {
-    rt.eprint(sentence(m))
+// Runs a program on what its words have chosen, or says what is wrong with them.
+pub fn run<F: FnOnce(Chosen) -> io::Result<()>>(
+    rt: &impl Eprint,
+    chosen: Result<Chosen, Misuse>,
+    program: F,
+) -> io::Result<()>
+    requires { F.IsAlwaysCallable program }
+    ensures { (c : Chosen) → chosen ≡ Ok c → F.post program c result }
+{
+    match chosen {
+        Ok(c) => program(c),
+        Err(misuse) => complain(rt, misuse),
+    }
 }

@@ -2,32 +2,23 @@
 ghost use Rattle.std.specs.Prelude.{◌≡◌, ◌≤◌, ◌<◌};
 ghost use Rattle.options.specs.Numerals.{number_below};
 
-#[derive(Clone, Copy)]
-pub enum MaybeNumber {
-    Number(usize),
-    Nothing,
-}
-
 // The number that a word of 1 to 9 digits is, if it is below a limit; zeros may stand before it.
-pub fn below(word: &[u8], limit: usize) -> MaybeNumber
+pub fn below(word: &[u8], limit: usize) -> Option<usize>
     requires { (0 < limit) × (limit ≤ 1000000000) }
     ensures { result ≡ number_below limit word.now }
 {
-    if (word.len() == 0) | (9 < word.len()) {
-        return MaybeNumber::Nothing;
+    if word.is_empty() || 9 < word.len() {
+        return None;
     }
-    let mut n: usize = 0;
-    let mut i: usize = 0;
-    while i < word.len() {
-        let digit = word[i];
-        if (digit < b'0') | (b'9' < digit) {
-            return MaybeNumber::Nothing;
+    let mut n = 0;
+    for b in word {
+        if !b.is_ascii_digit() {
+            return None;
         }
-        n = 10 * n + (digit - b'0') as usize;
+        n = 10 * n + usize::from(*b - b'0');
         if limit <= n {
-            return MaybeNumber::Nothing;
+            return None;
         }
-        i += 1;
     }
-    MaybeNumber::Number(n)
+    Some(n)
 }

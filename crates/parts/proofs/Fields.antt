@@ -17,7 +17,7 @@ use Rattle.format.specs.Layout.{pairs, entries, blocks}
 use Rattle.format.specs.Decode.{word_at, pair_of}
 use Rattle.format.specs.declared.records.RegisterPair.{RegisterPair}
 use Rattle.format.proofs.Whole.{written_append}
-use Rattle.parts.specs.declared.MaybeEntries.TheVariants.{Entries}
+use Rattle.std.specs.Prelude.{Some}
 use Rattle.parts.specs.Inside.{when_pair, whole_list, after_list, list_at, pair_at, with_speed, block_at, blocks_from, lists_from, block_in}
 use Rattle.parts.specs.Inside.{pair_in, list_in, list_pair_in, colour_in, colour_pair_in}
 use Rattle.parts.specs.Fields.{block_field, pair_field, block_pair_field, list_field, list_pair_field}
@@ -61,7 +61,7 @@ module _ (ps : List RegisterPair) (more : List ℕ) where
   past_there : after_list bytes ≡ more
   past_there = drop_at (written (entries ps)) more (1 + 4 * length ps) (omega (arith, length_pairs ps))
 
-  list_there : list_at bytes ≡ Entries (length ps)
+  list_there : list_at bytes ≡ Some (length ps)
   list_there = rw whole_there refl
 
   pair_there : (i : ℕ) → pair_at bytes i ≡ pair_field (get_elem? ps i)

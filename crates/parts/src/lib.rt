@@ -1,6 +1,6 @@
 // The fields inside a variable part: the speed blocks of 09h, the two blocks of 0Ah, the three of 0Dh and their register pairs; the
 // number and the string index of a zone descriptor, the number and the text of a string. A part is any bytes: of what does not stand
-// whole in it the answer is `Nothing`, a byte past its end is 0.
+// whole in it the answer is `None`, a byte past its end is 0.
 #![tactic(auto)]
 
 ghost use Rattle.std.specs.Prelude.{◌≡◌, ◌+◌, ◌*◌, drop};
@@ -20,62 +20,43 @@ pub struct SpeedBlock {
     pub entries: u8,
 }
 
-#[derive(Clone, Copy)]
-pub enum MaybeBlock {
-    Block(SpeedBlock),
-    Nothing,
-}
-
-#[derive(Clone, Copy)]
-pub enum MaybePair {
-    Pair(RegisterPair),
-    Nothing,
-}
-
-// How many pairs a block of 0Ah or 0Dh has.
-#[derive(Clone, Copy)]
-pub enum MaybeEntries {
-    Entries(u8),
-    Nothing,
-}
-
 // 09h: speed block j, from 0, the default block.
-pub fn block(part: &[u8], j: usize) -> MaybeBlock
+pub fn block(part: &[u8], j: usize) -> Option<SpeedBlock>
     ensures { result ≡ block_in part.now j }
 {
     block_at(blocks_from(part, j))
 }
 
 // 09h: register pair i of speed block j.
-pub fn pair(part: &[u8], j: usize, i: usize) -> MaybePair
+pub fn pair(part: &[u8], j: usize, i: usize) -> Option<RegisterPair>
     ensures { result ≡ pair_in part.now j i }
 {
     pair_at(past(blocks_from(part, j), 1), i)
 }
 
 // 0Ah: how many register pairs block w has, 0 for the chip initialisation block and 1 for the read status block.
-pub fn list(part: &[u8], w: usize) -> MaybeEntries
+pub fn list(part: &[u8], w: usize) -> Option<u8>
     ensures { result ≡ list_in part.now w }
 {
     list_at(lists_from(part, 2, w))
 }
 
 // 0Ah: register pair i of block w.
-pub fn list_pair(part: &[u8], w: usize, i: usize) -> MaybePair
+pub fn list_pair(part: &[u8], w: usize, i: usize) -> Option<RegisterPair>
     ensures { result ≡ list_pair_in part.now w i }
 {
     pair_at(lists_from(part, 2, w), i)
 }
 
 // 0Dh: how many register pairs block w has, 0 for red, 1 for green and 2 for blue.
-pub fn colour(part: &[u8], w: usize) -> MaybeEntries
+pub fn colour(part: &[u8], w: usize) -> Option<u8>
     ensures { result ≡ colour_in part.now w }
 {
     list_at(lists_from(part, 3, w))
 }
 
 // 0Dh: register pair i of block w.
-pub fn colour_pair(part: &[u8], w: usize, i: usize) -> MaybePair
+pub fn colour_pair(part: &[u8], w: usize, i: usize) -> Option<RegisterPair>
     ensures { result ≡ colour_pair_in part.now w i }
 {
     pair_at(lists_from(part, 3, w), i)
@@ -113,21 +94,14 @@ pub fn text(part: &[u8]) -> &[u8]
 fn byte_at(b: &[u8], i: usize) -> u8
     ensures { result ≡ byte b.now i }
 {
-    if b.len() <= i {
-        return 0;
-    }
-    b[i]
+    b.get(i).copied().unwrap_or(0)
 }
 
 // The bytes past the first n; none where they end before.
 fn past(b: &[u8], n: usize) -> &[u8]
     ensures { result.now ≡ drop n b.now }
 {
-    let end = b.len();
-    if end < n {
-        return &b[end..];
-    }
-    &b[n..]
+    &b[n.min(b.len())..]
 }
 
 // The bytes that ENTRIES and its pairs take.
@@ -145,46 +119,36 @@ fn whole(q: &[u8]) -> bool
 }
 
 // How many pairs they are.
-fn list_at(q: &[u8]) -> MaybeEntries
+fn list_at(q: &[u8]) -> Option<u8>
     ensures { result ≡ list_at q.now }
 {
-    if whole(q) {
-        MaybeEntries::Entries(byte_at(q, 0))
-    } else {
-        MaybeEntries::Nothing
-    }
+    if whole(q) { Some(byte_at(q, 0)) } else { None }
 }
 
 // Pair i of them.
-fn pair_at(q: &[u8], i: usize) -> MaybePair
+fn pair_at(q: &[u8], i: usize) -> Option<RegisterPair>
     ensures { result ≡ pair_at q.now i }
 {
-    if !whole(q) {
-        return MaybePair::Nothing;
-    }
-    if wide(byte_at(q, 0)) <= i {
-        return MaybePair::Nothing;
+    if !whole(q) || wide(byte_at(q, 0)) <= i {
+        return None;
     }
     let at = 1 + 4 * i;
-    MaybePair::Pair(RegisterPair {
+    Some(RegisterPair {
         address: word(q, at),
         data: word(q, at + 2),
     })
 }
 
 // The speed block at the head of the bytes: SPEED, and the list behind it.
-fn block_at(r: &[u8]) -> MaybeBlock
+fn block_at(r: &[u8]) -> Option<SpeedBlock>
     ensures { result ≡ block_at r.now }
 {
     let speed = byte_at(r, 0);
-    let found = list_at(past(r, 1));
-    match found {
-        MaybeEntries::Entries(n) => MaybeBlock::Block(SpeedBlock {
-            speed: HundredRpm(speed),
-            entries: n,
-        }),
-        MaybeEntries::Nothing => MaybeBlock::Nothing,
-    }
+    let n = list_at(past(r, 1))?;
+    Some(SpeedBlock {
+        speed: HundredRpm(speed),
+        entries: n,
+    })
 }
 
 // The bytes from speed block j on; none are left past the last.
@@ -192,13 +156,11 @@ fn blocks_from(part: &[u8], j: usize) -> &[u8]
     ensures { result.now ≡ blocks_from part.now j }
 {
     let mut r = part;
-    let mut left = j;
-    while left > 0 {
-        if r.len() == 0 {
+    for _ in 0..j {
+        if r.is_empty() {
             return r;
         }
         r = after_list(past(r, 1));
-        left -= 1;
     }
     r
 }
@@ -211,11 +173,8 @@ fn lists_from(part: &[u8], blocks: usize, w: usize) -> &[u8]
         return past(part, part.len());
     }
     let mut r = part;
-    let mut left = w;
-    while left > 0 {
-        let q = r;
-        r = after_list(q);
-        left -= 1;
+    for _ in 0..w {
+        r = after_list(r);
     }
     r
 }

@@ -1,23 +1,29 @@
 -- The fan-list pins of an element, by its first and its last: whether they come after the last one used, and which is the last then.
 -- Assumes nothing.
 use Prim.Native.Nat.{ℕ}
-use mathlib.Core.Path.{◌≡◌, refl, sym, ◌∙◌}
-use mathlib.Core.Bool.{true, false, ◌||◌, not, false≢true}
+use mathlib.Core.Path.{◌≡◌, ap}
+use mathlib.Core.Bool.{Bool, true}
+use Rattle.std.specs.Prelude.{Option, Some, None}
 use mathlib.Core.List.{List, [], ◌∷◌}
 use lib.Dec.{ltb}
 use Rattle.format.specs.FanList.{comes_after, last_pin}
 use Rattle.found.specs.Judged.{FansAre}
 use Rattle.found.specs.declared.Fans.{Fans}
 
-module _ (f : Fans) (last : ℕ) where
-  pub in_order_lem : (ps : List ℕ) → FansAre f ps → not f.any || ltb last f.first ≡ comes_after last ps
-  in_order_lem [] h = rw h refl
-  in_order_lem (p ∷ ps) h = rw (h.0, h.1) refl
+-- what the code finds, as it tests it
+abbrev pub in_order : Option Fans → ℕ → Bool
+in_order None last = true
+in_order (Some f) last = ltb last f.first
 
-  pub last_of_some : f.any ≡ true → (ps : List ℕ) → FansAre f ps → f.last ≡ last_pin last ps
-  last_of_some e [] h = absurd (false≢true (sym h ∙ e))
-  last_of_some e (p ∷ ps) h = h.2
+abbrev pub last_then : Option Fans → ℕ → ℕ
+last_then None last = last
+last_then (Some f) last = f.last
 
-  pub last_of_none : f.any ≡ false → (ps : List ℕ) → FansAre f ps → last ≡ last_pin last ps
-  last_of_none e [] h = refl
-  last_of_none e (p ∷ ps) h = absurd (false≢true (sym e ∙ h.0))
+module _ (f : Option Fans) (last : ℕ) where
+  pub in_order_lem : (ps : List ℕ) → FansAre f ps → in_order f last ≡ comes_after last ps
+  in_order_lem [] h = ap (λ (o : Option Fans). in_order o last) h
+  in_order_lem (p ∷ ps) h = ap (λ (o : Option Fans). in_order o last) h
+
+  pub last_of_lem : (ps : List ℕ) → FansAre f ps → last_then f last ≡ last_pin last ps
+  last_of_lem [] h = ap (λ (o : Option Fans). last_then o last) h
+  last_of_lem (p ∷ ps) h = ap (λ (o : Option Fans). last_then o last) h

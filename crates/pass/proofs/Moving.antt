@@ -19,8 +19,8 @@ use Rattle.format.specs.declared.records.Description.{Description}
 use Rattle.format.proofs.Stepped.{unframed, crowded_out, by_identifier}
 use Rattle.pass.specs.Tracks.{Flags, Low, Went, TakeIs, Moves, MoveIs}
 use Rattle.pass.specs.declared.State.{State}
-use Rattle.pass.specs.declared.Step.{Step}
-use Rattle.pass.specs.declared.Moved.{Moved}
+use Rattle.pass.specs.Steps.{Step}
+use Rattle.pass.specs.Steps.{Moved}
 
 -- the header
 pub stated_at : (t : List ℕ) (at : ℕ) {a b : ℕ} → a ≡ byte t (at + 1) → b ≡ byte t (at + 2) → a + 256 * b ≡ stated (drop at t)
@@ -88,34 +88,33 @@ module _ (σ : Settings) (t : List ℕ) (at base : ℕ) (s : State) (f : Flags) 
       → Went d before s f q g o
       → r.stop ≡ q.stop
       → r.state ≡ q.state
-      → r.len ≡ stated (drop at t)
-      → 3 ≤ r.len
-      → at + r.len ≤ length t
+      → (r.stop ≡ 0 → (r.len ≡ stated (drop at t)) × (3 ≤ r.len) × (at + r.len ≤ length t))
       → Moves t at d before s f r g o
-  moved d before q (took x) w p st l m h = (p ∙ w.0, l, m, h, rw st w.1)
-  moved d before q (stop k) w p st l m h = (p ∙ w.0, w.1, st ∙ w.2, w.3)
+  moved d before q (took x) w p st l = let m = l (p ∙ w.0) in (p ∙ w.0, m.0, m.1, m.2, rw st w.1)
+  moved d before q (stop k) w p st l = (p ∙ w.0, w.1, st ∙ w.2, w.3)
 
   pub move_on :
-      (q : Step) {id : ℕ} {c : List ℕ}
+      (q : Step) {id n : ℕ} {c : List ℕ}
       → id ≡ byte t at
       → c ≡ content (drop at t)
       → TakeIs σ id c (base + at) s f q g
       → r.stop ≡ q.stop
       → r.state ≡ q.state
-      → r.len ≡ stated (drop at t)
-      → 3 ≤ r.len
-      → r.len ≤ length t - at
+      → (r.stop ≡ 0 → r.len ≡ n)
+      → n ≡ stated (drop at t)
+      → 3 ≤ n
+      → n ≤ length t - at
       → at ≤ length t
       → s.count < 96
       → MoveIs σ t at base s f r g
-  move_on q {id} {c} i same w p st l m h k n =
+  move_on q {id} {n} {c} i same w p st z l m h k few =
       let d : id ≡ byte (drop at t) 0 = i ∙ sym (byte_first t at) in
       record {
         low = rw st w.low;
-        fits = λ _. (m, omega arith);
+        fits = λ o. rw (z o) (m, omega arith);
         moves =
             λ e before place k.
             rw (by_identifier σ before (drop at t) (framed_good t at l m h) (omega (arith, k.count)), ← d, ← same)
-            (moved e before q (or_stop (known id) 7 (judge σ before (decode σ.chip id c))) (w.takes e before place k) p st l m
-            (omega arith));
+            (moved e before q (or_stop (known id) 7 (judge σ before (decode σ.chip id c))) (w.takes e before place k) p st
+            (λ o. (z o ∙ l, rw (z o) m, rw (z o) (omega arith))));
       }

@@ -21,7 +21,7 @@ use Rattle.flags.specs.Marks.{Marks}
 use Rattle.claims.specs.Taken.{HeldIs}
 use Rattle.pass.specs.Tracks.{Flags, Low, Tracks, Leaves, StepIs}
 use Rattle.pass.specs.declared.State.{State}
-use Rattle.pass.specs.declared.Step.{Step}
+use Rattle.pass.specs.Steps.{Step}
 
 -- a step can go on from the state as it was
 pub low_kept : (s t : State) → s.count ≤ 96 → s.zones ≤ 12 → t ≡ s → Low t

@@ -32,10 +32,10 @@ use Rattle.claims.specs.Taken.{ClaimsAre, HeldIs}
 use Rattle.claims.specs.declared.Held.{Held}
 use Rattle.rules.specs.Broken.{or_else}
 use Rattle.found.specs.Judged.{FansAre, own_fault, Judged}
-use Rattle.found.specs.declared.Found.{Found}
+use Rattle.found.specs.Judged.{Finding}
 use Rattle.pass.specs.Tracks.{Flags, flags, Low, Tracks, Leaves, StepIs, PlacedStep, Went, TakeIs}
 use Rattle.pass.specs.declared.State.{State}
-use Rattle.pass.specs.declared.Step.{Step}
+use Rattle.pass.specs.Steps.{Step}
 use Rattle.pass.proofs.Stepped.{track, own_fault_lem, later_fault, no_fault}
 use Rattle.pass.proofs.Against.{zone_against_lem, text_against, placed_against}
 
@@ -151,7 +151,7 @@ module _ (σ : Settings) (c : List ℕ) (small : Bytes c) (at : ℕ) (s : State)
         g)
 
 -- an element in a zone
-module _ (f : Found) (c : List ℕ) (small : Bytes c) (at : ℕ) (s : State) (zu su : List Bool) (r : Step) (down : Low r.state) where
+module _ (f : Finding) (c : List ℕ) (small : Bytes c) (at : ℕ) (s : State) (zu su : List Bool) (r : Step) (down : Low r.state) where
   pub placed_fault : (f.fault ≡ 0 → ⊥) → r.stop ≡ f.fault → r.state ≡ s → PlacedStep f c at s zu su r zu su
   placed_fault n p q =
       record {
@@ -308,7 +308,7 @@ placed_id id = among id (1 ∷ 2 ∷ 3 ∷ 4 ∷ 5 ∷ 6 ∷ 7 ∷ 8 ∷ 9 ∷ 1
 known_placed : (k : ℕ) → (k ≡ 11 → ⊥) → (k ≡ 12 → ⊥) → placed_id k ≡ true → known k ≡ true
 known_placed k z s p = simp (ne_eqb k 11 z, ne_eqb k 12 s) p
 
-module _ (σ : Settings) (id k : ℕ) (c : List ℕ) (at : ℕ) (s : State) (zs ss zu su : List Bool) (f : Found) (r : Step)
+module _ (σ : Settings) (id k : ℕ) (c : List ℕ) (at : ℕ) (s : State) (zs ss zu su : List Bool) (f : Finding) (r : Step)
     (zu' su' : List Bool) where
   pub take_placed :
       id ≡ k

@@ -21,8 +21,8 @@ use Rattle.format.proofs.Passing.{pass_nil}
 use Rattle.format.proofs.Growing.{place_snoc}
 use Rattle.pass.specs.Tracks.{Flags, Tracks, Moves, MoveIs, Took, none_yet, one_more, Walked}
 use Rattle.pass.specs.declared.State.{State}
-use Rattle.pass.specs.declared.Moved.{Moved}
-use Rattle.pass.specs.declared.Over.{Over}
+use Rattle.pass.specs.Steps.{Moved}
+use Rattle.pass.specs.Steps.{Over}
 use Rattle.pass.proofs.Moving.{unframed_short}
 
 -- where the loop is: some elements are taken, and the state and the flags track them

@@ -18,11 +18,11 @@ use Rattle.format.specs.declared.records.Description.{Description}
 use Rattle.flags.specs.Marks.{Marks}
 use Rattle.claims.specs.Taken.{ClaimsAre, HeldIs}
 use Rattle.found.specs.Judged.{FansAre}
-use Rattle.found.specs.declared.Found.{Found}
+use Rattle.found.specs.Judged.{Finding}
 use Rattle.pass.specs.declared.State.{State}
-use Rattle.pass.specs.declared.Step.{Step}
-use Rattle.pass.specs.declared.Moved.{Moved}
-use Rattle.pass.specs.declared.Over.{Over}
+use Rattle.pass.specs.Steps.{Step}
+use Rattle.pass.specs.Steps.{Moved}
+use Rattle.pass.specs.Steps.{Over}
 
 -- the four lent arrays of flags: zone and string numbers that are declared, and those that are named
 pub record Flags : Type 0 where
@@ -77,7 +77,7 @@ pub record TextJudged (own n : ℕ) (s : State) (ss : List Bool) (r : Step) (ss'
       → StepIs σ (string c) at s (flags zs ss zu su) r (flags zs ss' zu su)
 
 -- the step of an element that stands in a zone, from what was found of its bytes: of no element, the fault alone
-pub record PlacedStep (f : Found) (c : List ℕ) (at : ℕ) (s : State) (zu su : List Bool) (r : Step) (zu' su' : List Bool) : Type 0 where
+pub record PlacedStep (f : Finding) (c : List ℕ) (at : ℕ) (s : State) (zu su : List Bool) (r : Step) (zu' su' : List Bool) : Type 0 where
   pub low : Low r.state
   pub faulty : (f.fault ≡ 0 → ⊥) → (r.stop ≡ f.fault) × (r.state ≡ s) × (zu' ≡ zu) × (su' ≡ su)
   pub steps :

@@ -9,9 +9,13 @@ ghost use Rattle.format.specs.declared.settings.Settings.{Settings};
 ghost use Rattle.format.specs.FanList.{comes_after, last_pin};
 ghost use Rattle.rules.specs.Broken.{or_else};
 ghost use Rattle.found.specs.Judged.{FansAre};
+ghost use Rattle.format.specs.Answers.{fault_of};
+ghost use Rattle.found.specs.Judged.{finding};
+ghost use Rattle.pass.specs.Steps.{stepped, moved, over};
 ghost use Rattle.pass.specs.Tracks.{flags, Low, StepIs, TextJudged, PlacedStep, TakeIs, MoveIs, WalkIs};
 
 use claims::Held;
+use format::answers::Rule;
 use format::settings::Settings;
 use found::{Fans, Found};
 use words::wide;
@@ -26,99 +30,76 @@ pub struct State {
     pub last: usize,
 }
 
-// A step: the rule that stops it, or 0, and what is so far.
-#[derive(Clone, Copy)]
-pub struct Step {
-    pub stop: u8,
-    pub state: State,
-}
-
-// A step, and the length of what was stepped over.
+// An element that was stepped over: its length, and what is so far.
 #[derive(Clone, Copy)]
 pub struct Moved {
-    pub stop: u8,
     pub len: usize,
     pub state: State,
 }
 
-// The whole pass.
+// The whole pass: the rule that stopped it, if one did, where it ended, and what is so far.
 #[derive(Clone, Copy)]
-pub struct Over {
-    pub stop: u8,
+pub struct Passed {
+    pub stop: Option<Rule>,
     pub place: usize,
     pub state: State,
 }
 
-pub fn stopped(stop: u8, state: State) -> Step
-    ensures { (result.stop ≡ stop) × (result.state ≡ state) }
-{
-    Step { stop, state }
-}
-
 // 11 and 12 of a zone descriptor.
-fn zone_against(zones: usize, seen: bool) -> u8
-    ensures { result ≡ or_else (ltb zones 12) 11 (or_else (not seen) 12 0) }
+fn zone_against(zones: usize, seen: bool) -> Result<(), Rule>
+    ensures { fault_of result ≡ or_else (ltb zones 12) 11 (or_else (not seen) 12 0) }
 {
     if 12 <= zones {
-        return 11;
+        return Err(Rule::TooMany);
     }
-    if seen { 12 } else { 0 }
+    if seen { Err(Rule::Twice) } else { Ok(()) }
 }
 
 // 0Bh
-fn zone_step(b: &[u8], s: State, zs: &mut [bool; 256], su: &mut [bool; 256]) -> Step
+fn zone_step(b: &[u8], s: State, zs: &mut [bool; 256], su: &mut [bool; 256]) -> Result<State, Rule>
     requires { (s.count < 96) × (s.zones ≤ 12) }
     ensures { ((σ : Settings) (at : ℕ) (ss zu : List Bool)
-        → StepIs σ (zone b.now) at s (flags zs.old ss zu su.old) result
-        (flags zs.new ss zu su.new)) × Low result.state }
+        → StepIs σ (zone b.now) at s (flags zs.old ss zu su.old) (stepped s result)
+        (flags zs.new ss zu su.new)) × Low (stepped s result).state }
 {
-    let own = rules::zone_breaks(b);
-    if own != 0 {
-        return stopped(own, s);
-    }
+    rules::zone_breaks(b)?;
     let z = wide(b[0]);
-    let against = zone_against(s.zones, zs[z]);
-    if against != 0 {
-        return stopped(against, s);
-    }
+    zone_against(s.zones, zs[z])?;
     zs[z] = true;
     let t = wide(b[1]);
     su[t] = true;
     let held = s.held;
-    Step {
-        stop: 0,
-        state: State {
-            count: s.count + 1,
-            zones: s.zones + 1,
-            held,
-            last: s.last,
-        },
-    }
+    Ok(State {
+        count: s.count + 1,
+        zones: s.zones + 1,
+        held,
+        last: s.last,
+    })
 }
 
 // 0Ch, of which 8 and 9 are known, with 12 against those before
-pub fn text_judged(own: u8, number: u8, s: State, ss: &mut [bool; 256]) -> Step
+pub fn text_judged(
+    own: Result<(), Rule>,
+    number: u8,
+    s: State,
+    ss: &mut [bool; 256],
+) -> Result<State, Rule>
     requires { (s.count < 96) × (s.zones ≤ 12) }
-    ensures { TextJudged own number s ss.old result ss.new }
+    ensures { TextJudged (fault_of own) number s ss.old (stepped s result) ss.new }
 {
-    if own != 0 {
-        return stopped(own, s);
-    }
+    own?;
     let t = wide(number);
     if ss[t] {
-        return stopped(12, s);
+        return Err(Rule::Twice);
     }
     ss[t] = true;
     let held = s.held;
-    Step {
-        stop: 0,
-        state: State {
-            count: s.count + 1,
-            zones: s.zones,
-            held,
-            last: s.last,
-        },
-    }
+    Ok(State {
+        count: s.count + 1,
+        zones: s.zones,
+        held,
+        last: s.last,
+    })
 }
 
 // The first byte, 0 where there is none.
@@ -132,48 +113,51 @@ fn first(b: &[u8]) -> u8
 }
 
 // 0Ch
-fn text_step(b: &[u8], s: State, ss: &mut [bool; 256]) -> Step
+fn text_step(b: &[u8], s: State, ss: &mut [bool; 256]) -> Result<State, Rule>
     requires { (s.count < 96) × (s.zones ≤ 12) }
     ensures { ((σ : Settings) (at : ℕ) (zs zu su : List Bool)
-        → StepIs σ (string b.now) at s (flags zs ss.old zu su) result (flags zs ss.new zu su))
-        × Low result.state }
+        → StepIs σ (string b.now) at s (flags zs ss.old zu su) (stepped s result) (flags zs ss.new zu su))
+        × Low (stepped s result).state }
 {
-    let own = rules::text_breaks(b);
-    text_judged(own, first(b), s, ss)
+    text_judged(rules::text_breaks(b), first(b), s, ss)
 }
 
 // 10 of the fan list: the first pin of an element comes after the last one used.
-fn follows(fans: Fans, last: usize) -> bool
+fn follows(fans: Option<Fans>, last: usize) -> bool
     ensures { (ps : List ℕ) → FansAre fans ps → result ≡ comes_after last ps }
 {
-    !fans.any | (last < wide(fans.first))
+    match fans {
+        None => true,
+        Some(f) => last < wide(f.first),
+    }
 }
 
 // The last one used then.
-fn last_of(fans: Fans, last: usize) -> usize
+fn last_of(fans: Option<Fans>, last: usize) -> usize
     ensures { (ps : List ℕ) → FansAre fans ps → result ≡ last_pin last ps }
 {
-    if fans.any { wide(fans.last) } else { last }
+    match fans {
+        None => last,
+        Some(f) => wide(f.last),
+    }
 }
 
-// An element that stands in a zone: its fault, or what it leaves.
+// An element that stands in a zone: the rule that it breaks, or what it leaves.
 pub fn placed_step(
-    f: Found,
+    found: Result<Found, Rule>,
     b: &[u8],
     at: usize,
     s: State,
     zu: &mut [bool; 256],
     su: &mut [bool; 256],
-) -> Step
-    requires { (s.count < 96) × (s.zones ≤ 12) × (at < 65536) × (f.fault ≡ 0 → 5 ≤ length b.now) }
-    ensures { PlacedStep f b.now at s zu.old su.old result zu.new su.new }
+) -> Result<State, Rule>
+    requires { (s.count < 96) × (s.zones ≤ 12) × (at < 65536) × ((finding found).fault ≡ 0 → 5 ≤ length b.now) }
+    ensures { PlacedStep (finding found) b.now at s zu.old su.old (stepped s result) zu.new su.new }
 {
-    if f.fault != 0 {
-        return stopped(f.fault, s);
-    }
+    let f = found?;
     let fans = f.fans;
     if !follows(fans, s.last) {
-        return stopped(10, s);
+        return Err(Rule::Pin);
     }
     let z = wide(b[4]);
     zu[z] = true;
@@ -181,15 +165,12 @@ pub fn placed_step(
     su[t] = true;
     let held = s.held;
     let claims = f.claims;
-    Step {
-        stop: 0,
-        state: State {
-            count: s.count + 1,
-            zones: s.zones,
-            held: claims::claim(held, claims, at),
-            last: last_of(fans, s.last),
-        },
-    }
+    Ok(State {
+        count: s.count + 1,
+        zones: s.zones,
+        held: claims::claim(held, claims, at),
+        last: last_of(fans, s.last),
+    })
 }
 
 // An element by its identifier; 7 of one that is not in the list. Each kind has its own call of `placed_step`, so that the
@@ -204,10 +185,10 @@ fn take(
     zu: &mut [bool; 256],
     su: &mut [bool; 256],
     settings: Settings,
-) -> Step
+) -> Result<State, Rule>
     requires { (s.count < 96) × (s.zones ≤ 12) × (at < 65536) }
     ensures { TakeIs settings id b.now at s
-        (flags zs.old ss.old zu.old su.old) result
+        (flags zs.old ss.old zu.old su.old) (stepped s result)
         (flags zs.new ss.new zu.new su.new) }
 {
     match id {
@@ -225,17 +206,7 @@ fn take(
         12 => text_step(b, s, ss),
         13 => placed_step(found::external_found(b, settings), b, at, s, zu, su),
         14 => placed_step(found::rgb_found(b, settings), b, at, s, zu, su),
-        _ => stopped(7, s),
-    }
-}
-
-fn halted(stop: u8, state: State) -> Moved
-    ensures { (result.stop ≡ stop) × (result.state ≡ state) }
-{
-    Moved {
-        stop,
-        len: 0,
-        state,
+        _ => Err(Rule::Identifier),
     }
 }
 
@@ -250,26 +221,26 @@ fn one_step(
     zu: &mut [bool; 256],
     su: &mut [bool; 256],
     settings: Settings,
-) -> Moved
+) -> Result<Moved, Rule>
     requires { (at + 2 < length t.now) × (base + length t.now ≤ 4097) × Low s }
     ensures { MoveIs settings t.now at base s
-        (flags zs.old ss.old zu.old su.old) result
+        (flags zs.old ss.old zu.old su.old) (moved s result)
         (flags zs.new ss.new zu.new su.new) }
 {
     let left = t.len() - at;
     let len = wide(t[at + 1]) + 256 * wide(t[at + 2]);
     if len < 3 {
-        return halted(6, s);
+        return Err(Rule::ElementLength);
     }
     if left < len {
-        return halted(6, s);
+        return Err(Rule::ElementLength);
     }
     if 96 <= s.count {
-        return halted(11, s);
+        return Err(Rule::TooMany);
     }
     let from = at + 3;
     let next = at + len;
-    let r = take(
+    let state = take(
         t[at],
         &t[from..next],
         base + at,
@@ -279,13 +250,8 @@ fn one_step(
         zu,
         su,
         settings,
-    );
-    let state = r.state;
-    Moved {
-        stop: r.stop,
-        len,
-        state,
-    }
+    )?;
+    Ok(Moved { len, state })
 }
 
 // All elements of some bytes, the first of which stands at the place `base` of the table. The loop ends where no header can stand: at
@@ -299,36 +265,38 @@ pub fn walk(
     zu: &mut [bool; 256],
     su: &mut [bool; 256],
     settings: Settings,
-) -> Over
+) -> Passed
     requires { (base + length t.now ≤ 4097) × Low start }
     ensures { WalkIs settings t.now base start
-        (flags zs.old ss.old zu.old su.old) result
+        (flags zs.old ss.old zu.old su.old) (over result)
         (flags zs.new ss.new zu.new su.new) }
 {
     let mut s = start;
     let mut at: usize = 0;
     while at + 2 < t.len() {
-        let r = one_step(t, at, base, s, zs, ss, zu, su, settings);
-        let next = r.state;
-        if r.stop != 0 {
-            return Over {
-                stop: r.stop,
-                place: base + at,
-                state: next,
-            };
+        match one_step(t, at, base, s, zs, ss, zu, su, settings) {
+            Err(rule) => {
+                return Passed {
+                    stop: Some(rule),
+                    place: base + at,
+                    state: s,
+                };
+            }
+            Ok(m) => {
+                s = m.state;
+                at += m.len;
+            }
         }
-        s = next;
-        at += r.len;
     }
     if at < t.len() {
-        return Over {
-            stop: 6,
+        return Passed {
+            stop: Some(Rule::ElementLength),
             place: base + at,
             state: s,
         };
     }
-    Over {
-        stop: 0,
+    Passed {
+        stop: None,
         place: base + at,
         state: s,
     }

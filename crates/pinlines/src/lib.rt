@@ -16,10 +16,8 @@ pub fn text(sheet: &[u16; 25], out: &mut [u8; 275], chip: Chip) -> usize
     ensures { Put out.old 0 (text_of chip sheet.now) result out.new }
 {
     let mut end: usize = 0;
-    let mut i: usize = 0;
-    while i < 25 {
-        end = put_on_chip(out, end, pin_at(i), sheet[i], chip);
-        i += 1;
+    for (i, n) in sheet.iter().enumerate() {
+        end = put_on_chip(out, end, pin_at(i), *n, chip);
     }
     end
 }
@@ -58,5 +56,5 @@ fn put_entry(out: &mut [u8], at: usize, n: u16) -> usize
     if n == 65534 {
         return put(out, at, &[76]);
     }
-    put_decimal(out, at, n as usize)
+    put_decimal(out, at, usize::from(n))
 }

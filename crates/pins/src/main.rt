@@ -3,9 +3,7 @@
 // --chip names the chip.
 #![tactic(auto)]
 
-use format::answers::Answer;
 use format::settings::Settings;
-use options::Options;
 use sending::{read_input, refuse, send};
 use std::io;
 
@@ -23,14 +21,12 @@ fn pins(rt: &(impl Input + Print), settings: Settings) -> io::Result<()> {
     let n = read_input(rt, &mut input)?;
     let mut sheet = [65535u16; 25];
     match sheets::make(&input[..n], &mut sheet, settings) {
-        Answer::Accepted(_) => show(rt, &sheet, settings),
-        Answer::Refused(number, place) => refuse(rt, number, place),
+        Ok(_) => show(rt, &sheet, settings),
+        Err(refusal) => refuse(rt, refusal),
     }
 }
 
 fn main(rt: HostRuntime) -> io::Result<()> {
-    match options::ordinary(options::read_alone(&rt)) {
-        Options::Chosen(settings, _) => pins(&rt, settings),
-        Options::Misused(m) => options::complain(&rt, m),
-    }
+    let chosen = options::ordinary(options::read_alone(&rt));
+    options::run(&rt, chosen, |chosen| pins(&rt, chosen.settings))
 }

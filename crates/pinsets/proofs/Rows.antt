@@ -11,7 +11,9 @@ use Rattle.format.specs.declared.pins.Chip.{Chip}
 use Rattle.format.specs.declared.pins.Chip.TheVariants.{C8051F320, C8051F321}
 use Rattle.format.specs.declared.pins.Use.{Use}
 use Rattle.format.specs.declared.pins.Use.TheVariants.{FanPin, AnaloguePin, ChipSelect, StatusLed, HardwareRevision}
-use Rattle.pinsets.specs.Sets.{pin_index, pin_bit, number_of, row_of}
+use denote.Enum.Bare.{sameb}
+use Rattle.format.specs.contracts.pins.Chip.{the_type}
+use Rattle.pinsets.specs.Sets.{pin_index, pin_bit, row_of}
 use Rattle.pinsets.proofs.Table.{same, same→eq, all_to, at_below}
 
 -- a row has a pin's bit where the chip has the pin and its use permits it
@@ -37,12 +39,12 @@ all_right_lem C8051F321 HardwareRevision = refl
 pub row_permits : (c : Chip) (u : Use) (p : ℕ) → p < 256 → in_row (row_of c u) p ≡ among p (permitted c u)
 row_permits c u p h = same→eq _ _ (at_below 256 (permits c u) (all_right_lem c u) p h)
 
--- two chips are the same where their numbers are
-pub same_number : (c d : Chip) → eqb (number_of c) (number_of d) ≡ same_chip c d
-same_number C8051F320 C8051F320 = refl
-same_number C8051F320 C8051F321 = refl
-same_number C8051F321 C8051F320 = refl
-same_number C8051F321 C8051F321 = refl
+-- two chips are the same where the derived test says so
+pub same_derived : (c d : Chip) → sameb the_type c d ≡ same_chip c d
+same_derived C8051F320 C8051F320 = refl
+same_derived C8051F320 C8051F321 = refl
+same_derived C8051F321 C8051F320 = refl
+same_derived C8051F321 C8051F321 = refl
 
 -- a pin's place is one of a word's, and so its bit is a shift
 pub index_small : (p : ℕ) → p < 256 → pin_index p < 32

@@ -32,11 +32,6 @@ row_of c ChipSelect = by_chip c 0x1fffe60 0x10ffe60
 row_of c StatusLed = by_chip c 0x1fff01f 0x10ff01f
 row_of c HardwareRevision = by_chip c 0x1ffffff 0x10fffff
 
--- a number for each chip
-abbrev pub number_of : Chip → ℕ
-number_of C8051F320 = 0
-number_of C8051F321 = 1
-
 -- a word has a bit
 unfoldable pub has_bit : ℕ → ℕ → Bool
 has_bit w i = eqb (w / 2 ^ i % 2) 1

@@ -2,10 +2,10 @@
 #![tactic(auto)]
 
 ghost use Rattle.std.specs.Prelude.{◌≡◌, ◌<◌};
-ghost use Rattle.format.specs.Pins.{same_chip, allowed, allowed_or_unused};
-ghost use Rattle.pinsets.specs.Sets.{pin_index, pin_bit, by_chip, number_of, row_of};
+ghost use Rattle.format.specs.Pins.{allowed, allowed_or_unused};
+ghost use Rattle.pinsets.specs.Sets.{pin_index, pin_bit, by_chip, row_of};
 
-use format::pins::{Chip, OptionalPin, Pin, Use};
+use format::pins::{Chip, Pin, Use};
 
 // Pin i of the 25 stands in bit i of a row: P0.0 to P0.7 in bits 0 to 7, P1 in 8 to 15, P2 in 16 to 23, P3.0 in bit 24. The rows of
 // the 320 come first; those of the 321 lack bits 20 to 23.
@@ -52,35 +52,19 @@ fn row_of(c: Chip, u: Use) -> u32
     }
 }
 
-fn number_of(c: Chip) -> u8
-    ensures { result ≡ number_of c }
-{
-    match c {
-        Chip::C8051F320 => 0,
-        Chip::C8051F321 => 1,
-    }
-}
-
-fn same_chip(c: Chip, d: Chip) -> bool
-    ensures { result ≡ same_chip c d }
-{
-    number_of(c) == number_of(d)
-}
-
 // Rule 10 of a pin: it is of the named chip, which has it, and its use permits it.
 pub fn allowed(c: Chip, u: Use, p: Pin) -> bool
     ensures { result ≡ allowed c u p }
 {
-    let of = p.1;
-    same_chip(c, of) & (row_of(c, u) & bit_of(p.0) != 0)
+    (c == p.1) & (row_of(c, u) & bit_of(p.0) != 0)
 }
 
 // Rule 10 of a place that may be unused.
-pub fn allowed_or_unused(c: Chip, u: Use, p: OptionalPin) -> bool
+pub fn allowed_or_unused(c: Chip, u: Use, p: Option<Pin>) -> bool
     ensures { result ≡ allowed_or_unused c u p }
 {
     match p {
-        OptionalPin::Unused => true,
-        OptionalPin::Used(q) => allowed(c, u, q),
+        None => true,
+        Some(q) => allowed(c, u, q),
     }
 }

@@ -19,8 +19,9 @@ use Rattle.format.specs.Verdict.{Accepts}
 use Rattle.format.specs.declared.pins.Chip.{Chip}
 use Rattle.format.specs.declared.pins.Chip.TheVariants.{C8051F320, C8051F321}
 use Rattle.format.specs.declared.pins.Pin.{Pin}
-use Rattle.format.specs.declared.pins.OptionalPin.{OptionalPin}
-use Rattle.format.specs.declared.pins.OptionalPin.TheVariants.{Unused, Used}
+use Rattle.std.specs.Prelude.{Option}
+use Rattle.format.specs.declared.pins.Pin.{Pin}
+use Rattle.std.specs.Prelude.{None, Some}
 use Rattle.format.specs.declared.pins.Use.{Use}
 use Rattle.format.specs.declared.pins.Use.TheVariants.{FanPin, AnaloguePin, ChipSelect, StatusLed, HardwareRevision}
 use Rattle.format.specs.declared.settings.Settings.{Settings}
@@ -74,12 +75,12 @@ module _ (c : Chip) where
   allowed_on : (u : Use) (p : Pin) → allowed c u p ≡ true → on_chip c p.0 ≡ true
   allowed_on u p h = only_on p.0 (listed u) (and-true (of_chip c p) (among p.0 (permitted c u)) h).1
 
-  used_on : (u : Use) (p : OptionalPin) → allowed_or_unused c u p ≡ true → On (own_used p)
-  used_on u Unused h = tt
-  used_on u (Used p) h = (allowed_on u p h, tt)
+  used_on : (u : Use) (p : Option Pin) → allowed_or_unused c u p ≡ true → On (own_used p)
+  used_on u None h = tt
+  used_on u (Some p) h = (allowed_on u p h, tt)
 
   three_on :
-      (u : Use) (p q r : OptionalPin)
+      (u : Use) (p q r : Option Pin)
       → allowed_or_unused c u p && (allowed_or_unused c u q && allowed_or_unused c u r) ≡ true
       → On (own_used p ++ own_used q ++ own_used r)
   three_on u p q r h =

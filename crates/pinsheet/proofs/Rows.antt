@@ -8,13 +8,13 @@ use Prim.Native.Nat.{ℕ}
 use Rattle.format.specs.Records.{Record, digital, analogue}
 use Rattle.format.specs.Decode.{pin_of, placement_of, digital_of, analogue_of, description_of}
 use Rattle.format.specs.declared.pins.Chip.TheVariants.{C8051F320}
-use Rattle.format.specs.declared.pins.OptionalPin.TheVariants.{Unused, Used}
+use Rattle.std.specs.Prelude.{None, Some}
 use Rattle.format.specs.declared.records.Description.{Description}
 use Rattle.format.specs.declared.records.Address.TheVariants.{Bus}
 use Rattle.pinsheet.specs.Sheet.{free, fault, place, entry}
 
 abbrev strapped_one : Description
-strapped_one = description_of 2 0 7 true 0 (Used (pin_of C8051F320 0x30)) Unused Unused
+strapped_one = description_of 2 0 7 true 0 (Some (pin_of C8051F320 0x30)) None None
 
 abbrev sensor : ℕ → Record
 sensor pin = analogue (analogue_of (placement_of 0 0 0 0 1) 1 (pin_of C8051F320 pin) 850 700 500 320 200)

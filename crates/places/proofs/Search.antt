@@ -3,12 +3,11 @@
 use Prim.Native.Nat.{ℕ, ◌+◌, ◌≤◌, ◌<◌}
 use native.Mathlib.Omega.{arith}
 use mathlib.Core.Path.{◌≡◌, refl, sym, ◌∙◌, ap, subst}
-use mathlib.Core.Bool.{Bool, true, false, not}
+use mathlib.Core.Bool.{Bool, true, false}
 use mathlib.Core.List.{List, [], ◌∷◌, ◌++◌}
 use mathlib.Core.Option.{none, some}
 use lib.ListN.{length, drop, length-drop}
 use lib.Seq.{drop-drop}
-use borrow.Author.Tests.{not-true, not-false}
 use Rattle.format.specs.Slots.{Starts, Fits}
 use Rattle.format.specs.Records.{Record}
 use Rattle.format.specs.Layout.{layout, layouts}
@@ -158,16 +157,11 @@ module _ (σ : Settings) (names : Role → List ℕ) (declared : List Record →
       told : r ≡ all_among (names (role (here h).first)) (declared s.rs)
       told = tells (role (here h).first) (declared s.rs) (bytes_here h) s.marked
 
-      pub go_on : not r ≡ false → {n : ℕ} → n ≡ stated (drop at t) → Search σ names declared l t (at + n) × (at + n ≤ length t) × (3 ≤ n)
-      go_on e {n} p =
-          let g = here h in
-          rw p (went h (sym told ∙ not-false r e), g.within, omega (arith, g.size))
+      pub go_on : r ≡ true → Search σ names declared l t (at + stated (drop at t))
+      go_on e = went h (sym told ∙ e)
 
-      pub found : not r ≡ true → (rs : List Record) → elements_of σ t ≡ through rs → at ≡ or_zero (first_naming names (declared rs) 16 rs)
-      found e rs w = rw (same_list σ t rs s.rs w s.whole) (found_here h (sym told ∙ not-true r e))
-
-    pub room : at < length t → at + 2 < length t
-    room h = let g = here h in omega (arith, g.within, g.size)
+      pub found : r ≡ false → (rs : List Record) → elements_of σ t ≡ through rs → at ≡ or_zero (first_naming names (declared rs) 16 rs)
+      found e rs w = rw (same_list σ t rs s.rs w s.whole) (found_here h (sym told ∙ e))
 
     pub finish : length t ≤ at → (rs : List Record) → elements_of σ t ≡ through rs → 0 ≡ or_zero (first_naming names (declared rs) 16 rs)
     finish h rs w = rw (same_list σ t rs s.rs w s.whole) (none_left h)

@@ -8,8 +8,7 @@ ghost use Rattle.format.specs.declared.settings.Settings.{Settings};
 ghost use Rattle.flags.specs.Marks.{Marks};
 ghost use Rattle.places.specs.Walks.{RoleBytes, Walkable, names_of, nameable, or_zero};
 
-use walking::length_at;
-use words::wide;
+use walking::Places;
 
 // Whether the zone that the element at a place names is marked.
 fn zone_marked(t: &[u8], at: usize, marks: &[bool; 256]) -> bool
@@ -24,7 +23,7 @@ fn zone_marked(t: &[u8], at: usize, marks: &[bool; 256]) -> bool
     if id == 12 {
         return true;
     }
-    let z = wide(t[at + 7]);
+    let z = usize::from(t[at + 7]);
     marks[z]
 }
 
@@ -39,10 +38,10 @@ fn string_marked(t: &[u8], at: usize, marks: &[bool; 256]) -> bool
         return true;
     }
     if id == 11 {
-        let s = wide(t[at + 4]);
+        let s = usize::from(t[at + 4]);
         return marks[s];
     }
-    let s = wide(t[at + 3]);
+    let s = usize::from(t[at + 3]);
     marks[s]
 }
 
@@ -64,12 +63,10 @@ fn unmarked(t: &[u8], marks: &[bool; 256], zone: bool) -> usize
     ensures { (σ : Settings) (w : Walkable σ t.now) → Marks marks.now (nameable zone w.rs) → result
         ≡ or_zero (first_naming (names_of zone) (nameable zone w.rs) 16 w.rs) }
 {
-    let mut at: usize = 16;
-    while at < t.len() {
+    for at in Places::of(t) {
         if !marked(t, at, marks, zone) {
             return at;
         }
-        at += length_at(t, at);
     }
     0
 }

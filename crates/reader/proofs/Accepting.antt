@@ -17,7 +17,7 @@ use Rattle.format.specs.Verdict.{stated}
 use Rattle.format.specs.Decode.{read_description}
 use Rattle.format.specs.Reader.{through, pass, elements_of, conclude, over_all, unless_misdescribed, verdict_of}
 use Rattle.format.specs.declared.records.Description.{Description}
-use Rattle.format.specs.declared.answers.Answer.TheVariants.{Accepted}
+use Rattle.format.specs.Answers.{Gives as Accepted}
 use Rattle.format.proofs.Kept.{and-true, kept_description}
 use Rattle.reader.specs.Bare.{plain, bare_table}
 use Rattle.reader.proofs.Reading.{answer_on}
@@ -25,8 +25,9 @@ use Rattle.format.specs.declared.pins.Chip.{Chip}
 use Rattle.format.specs.declared.settings.Settings.{Settings}
 use Rattle.format.specs.declared.pins.Use.{Use}
 use Rattle.format.specs.declared.pins.Use.TheVariants.{HardwareRevision}
-use Rattle.format.specs.declared.pins.OptionalPin.{OptionalPin}
-use Rattle.format.specs.declared.pins.OptionalPin.TheVariants.{Unused, Used}
+use Rattle.std.specs.Prelude.{Option as Optional}
+use Rattle.format.specs.declared.pins.Pin.{Pin}
+use Rattle.std.specs.Prelude.{None, Some}
 use Rattle.format.specs.Claims.{own_used}
 
 six : (a b c d e f : Bool) → a && b && c && d && e && f ≡ true → (a ≡ true) × (b ≡ true) × (c ≡ true) × (d ≡ true) × (e ≡ true) × (f ≡ true)
@@ -39,13 +40,13 @@ six a b c d e f h =
     (t.0, t.1, s.1, r.1, q.1, p.1)
 
 -- an unused place is allowed, and claims nothing
-unused_allowed : (c : Chip) (u : Use) (p : OptionalPin) → unused p ≡ true → allowed_or_unused c u p ≡ true
-unused_allowed c u Unused h = refl
-unused_allowed c u (Used p) h = absurd (false≢true h)
+unused_allowed : (c : Chip) (u : Use) (p : Optional Pin) → unused p ≡ true → allowed_or_unused c u p ≡ true
+unused_allowed c u None h = refl
+unused_allowed c u (Some p) h = absurd (false≢true h)
 
-unused_none : (p : OptionalPin) → unused p ≡ true → own_used p ≡ []
-unused_none Unused h = refl
-unused_none (Used p) h = absurd (false≢true h)
+unused_none : (p : Optional Pin) → unused p ≡ true → own_used p ≡ []
+unused_none None h = refl
+unused_none (Some p) h = absurd (false≢true h)
 
 -- a plain description breaks no rule, names no string, and leaves the fault LED's claim the only one
 module _ (d : Description) (h : plain d ≡ true) where

@@ -16,11 +16,11 @@ use Rattle.format.specs.Reader.{verdict_of}
 use Rattle.format.specs.Asked.{nth, Describes, described, Gives, given, past}
 use Rattle.format.specs.declared.records.Element.{Element as Case}
 use Rattle.format.specs.declared.records.Description.{Description as Fields}
-use Rattle.format.specs.declared.answers.Answer.{Answer}
-use Rattle.format.specs.declared.answers.Answer.TheVariants.{Accepted, Refused}
-use Rattle.format.specs.declared.answers.Described.TheVariants.{Description}
-use Rattle.format.specs.declared.answers.Asked.{Asked}
-use Rattle.format.specs.declared.answers.Asked.TheVariants.{Element, Refused as NotGiven}
+use Rattle.format.specs.Answers.{Answer}
+use Rattle.format.specs.Answers.{Gives as Accepted, Refused}
+use Rattle.format.specs.Answers.{Gives as Description}
+use Rattle.format.specs.Answers.{Asked}
+use Rattle.format.specs.Answers.{Gives as Element, Refused as NotGiven}
 use Rattle.format.proofs.Theorem.{meets}
 use Rattle.format.proofs.Strings.{given_text}
 use Rattle.walking.specs.Walk.{Located}

@@ -16,12 +16,12 @@ use Rattle.format.specs.Rules.{unless_kept}
 use Rattle.format.specs.ZonesAndStrings.{zone_named, zones, Role, role, all_among, first_naming, strings, string_named}
 use Rattle.format.specs.Claims.{Claim, clashes, Made, made_at, first_clash, claims_of, claims_from, first_claims, claims}
 use Rattle.format.specs.Verdict.{Verdict, Passed, accepted, short, unrevised, missized, misdescribed, stopped, unzoned, unnamed, clashing}
-use Rattle.format.specs.Answers.{value_of, place_of_asked}
+use Rattle.format.specs.Answers.{value_of, place_of}
 use Rattle.format.specs.Asked.{Gives, given, past, ungiven}
 use Rattle.format.specs.declared.records.Description.{Description}
-use Rattle.format.specs.declared.answers.Answer.{Answer}
-use Rattle.format.specs.declared.answers.Answer.TheVariants.{Refused}
-use Rattle.format.specs.declared.answers.Asked.{Asked}
+use Rattle.format.specs.Answers.{Answer}
+use Rattle.format.specs.Answers.{Refused}
+use Rattle.format.specs.Answers.{Asked}
 use Rattle.format.proofs.Kept.{and-true}
 use Rattle.format.proofs.Lengths.{at_most_96}
 use Rattle.format.proofs.Slots.{starts_length}
@@ -96,7 +96,7 @@ value_bound σ b a (unnamed d rs p z n) =
 value_bound σ b a (clashing d rs p z n c) =
     omega (arith, clash_below (place_after rs) (claims d rs) [] _ (claims_below d rs) c, passed_top σ b d rs p)
 
-pub place_bound : (σ : Settings) (b : List ℕ) (k : ℕ) (a : Asked) (p : List ℕ) → Gives σ b k a p → place_of_asked a ≤ 4096
+pub place_bound : (σ : Settings) (b : List ℕ) (k : ℕ) (a : Asked) (p : List ℕ) → Gives σ b k a p → place_of a ≤ 4096
 place_bound σ b k a p (given d rs c n) = omega arith
 place_bound σ b k a p (past d rs c n) = omega arith
 place_bound σ b k a p (ungiven {j = j} {p = q} v) = value_bound σ b (Refused j q) v

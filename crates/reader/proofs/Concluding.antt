@@ -16,8 +16,8 @@ use Rattle.format.specs.Claims.{Made, first_clash, claims}
 use Rattle.format.specs.Decode.{read_description}
 use Rattle.format.specs.Reader.{elements_of, over_all, conclude}
 use Rattle.format.specs.declared.records.Description.{Description}
-use Rattle.format.specs.declared.answers.Answer.{Answer}
-use Rattle.format.specs.declared.answers.Answer.TheVariants.{Accepted, Refused}
+use Rattle.format.specs.Answers.{Answer}
+use Rattle.format.specs.Answers.{Gives as Accepted, Refused}
 use Rattle.flags.specs.Marks.{Marks, Lacks}
 use Rattle.claims.specs.Taken.{is_none, place_or, HeldIs}
 use Rattle.claims.specs.declared.Held.{Held}

@@ -6,9 +6,9 @@ use mathlib.Core.List.{List}
 use Rattle.format.specs.Slots.{Bytes}
 use Rattle.format.specs.Verdict.{Verdict}
 use Rattle.format.specs.Asked.{Describes}
-use Rattle.format.specs.declared.answers.Answer.{Answer}
-use Rattle.format.specs.declared.answers.Described.{Described}
-use Rattle.format.specs.declared.answers.Asked.{Asked}
+use Rattle.format.specs.Answers.{Answer}
+use Rattle.format.specs.Answers.{Described}
+use Rattle.format.specs.Answers.{Asked}
 use Rattle.format.proofs.Demand3.{unique}
 use Rattle.format.proofs.Asking.{describes_unique, gives_unique}
 use Rattle.reader.specs.Answered.{GivesElement, GivesPart}

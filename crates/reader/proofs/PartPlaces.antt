@@ -12,15 +12,15 @@ use Rattle.format.specs.Layout.{fixed, part, layout, layouts, place_after}
 use Rattle.format.specs.Verdict.{stated}
 use Rattle.format.specs.Asked.{nth, Gives, given, past, ungiven}
 use Rattle.format.specs.declared.records.Element.{Element as Case}
-use Rattle.format.specs.declared.answers.Asked.{Asked}
-use Rattle.format.specs.declared.answers.Asked.TheVariants.{Element}
+use Rattle.format.specs.Answers.{Asked}
+use Rattle.format.specs.Answers.{Gives as Element}
 use Rattle.format.proofs.Theorem.{one_list, accepts_passed}
 use Rattle.format.proofs.Opening.{table_length}
 use Rattle.format.proofs.Written.{length_written}
 use Rattle.format.proofs.Asking.{gives_unique}
 use Rattle.walking.specs.Walk.{Located}
-use Rattle.reader.specs.declared.Placed.{Placed}
-use Rattle.reader.specs.declared.Placed.TheVariants.{At, Refused}
+use Rattle.reader.specs.PartPlace.{Placed}
+use Rattle.reader.specs.PartPlace.{At, Refused}
 use Rattle.reader.specs.PartPlace.{placed_at, GivesPlace}
 use Rattle.format.specs.declared.settings.Settings.{Settings}
 

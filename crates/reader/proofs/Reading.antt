@@ -19,8 +19,8 @@ use Rattle.format.specs.Verdict.{stated}
 use Rattle.format.specs.Decode.{read_description}
 use Rattle.format.specs.Reader.{pass, elements_of, conclude, unless_misdescribed, after_description, verdict_of}
 use Rattle.format.specs.declared.records.Description.{Description}
-use Rattle.format.specs.declared.answers.Answer.{Answer}
-use Rattle.format.specs.declared.answers.Answer.TheVariants.{Refused}
+use Rattle.format.specs.Answers.{Answer}
+use Rattle.format.specs.Answers.{Refused}
 use Rattle.format.proofs.Kept.{zero_none, some_number, description_numbered, description_kept}
 use Rattle.flags.specs.Marks.{Marks}
 use Rattle.flags.proofs.Marked.{marks_clear, marks_put, marks_front}
@@ -28,7 +28,7 @@ use Rattle.claims.specs.Taken.{HeldIs}
 use Rattle.pass.specs.Tracks.{Flags, flags, Tracks, Walked, WalkIs}
 use Rattle.pass.proofs.Walking.{walk_halted, walk_through}
 use Rattle.pass.specs.declared.State.{State}
-use Rattle.pass.specs.declared.Over.{Over}
+use Rattle.pass.specs.Steps.{Over}
 use Rattle.reader.specs.Whole.{Gathered}
 use Rattle.format.specs.declared.pins.Chip.{Chip}
 use Rattle.format.specs.declared.settings.Settings.{Settings}

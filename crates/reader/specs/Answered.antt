@@ -5,8 +5,8 @@ use Rattle.format.specs.Records.{text_of}
 use Rattle.format.specs.Utf16.{well_formed}
 use Rattle.format.specs.Asked.{Gives}
 use Rattle.format.specs.declared.records.Element.TheVariants.{Text}
-use Rattle.format.specs.declared.answers.Asked.{Asked}
-use Rattle.format.specs.declared.answers.Asked.TheVariants.{Element}
+use Rattle.format.specs.Answers.{Asked}
+use Rattle.format.specs.Answers.{Gives as Element}
 use Rattle.format.specs.declared.settings.Settings.{Settings}
 
 -- the element, with its part beside it

@@ -9,142 +9,108 @@ ghost use Rattle.format.specs.Verdict.{stated, Verdict};
 ghost use Rattle.format.specs.Decode.{read_description};
 ghost use Rattle.format.specs.Reader.{elements_of, conclude, after_description};
 ghost use Rattle.claims.specs.Taken.{HeldIs};
-ghost use Rattle.format.specs.Answers.{number_of, value_of};
+ghost use Rattle.format.specs.Answers.{told};
 ghost use Rattle.format.specs.Asked.{Describes};
 ghost use Rattle.reader.specs.Whole.{Gathered};
 ghost use Rattle.reader.specs.Bare.{plain, bare_table};
 ghost use Rattle.reader.specs.Answered.{GivesElement, GivesPart};
-ghost use Rattle.reader.specs.PartPlace.{GivesPlace};
+ghost use Rattle.reader.specs.PartPlace.{placed, Places, GivesPlace};
 
 use claims::Held;
 use flags::lacks;
-use format::answers::{Answer, Asked, Described};
+use format::answers::{Refusal, Rule};
 use format::pins::Chip;
-use format::records::Description;
+use format::records::{Description, Element};
 use format::settings::Settings;
 use pass::{State, walk};
 use walking::{element_at, length_at, part_at, place_of};
 use words::wide;
 
-// Accepted with the number of elements, or the number and the place of the first rule that is broken.
+// The number of elements, or the first rule that is broken, with its place.
 // A bare table is answered before the flags are laid out, which takes longer than all its tests (docs/BENCH.md). The other
 // calls go to `read`: so `check` stays small enough to be laid into its callers.
-pub fn check(table: &[u8], settings: Settings) -> Answer
-    ensures { Verdict settings table.now result }
+pub fn check(table: &[u8], settings: Settings) -> Result<usize, Refusal>
+    ensures { Verdict settings table.now (told result) }
 {
     let chip = settings.chip;
     if bare(table, chip) {
-        return Answer::Accepted(0);
+        return Ok(0);
     }
     read(table, settings)
 }
 
 // The description of an accepted table, or the table's refusal.
-pub fn description(table: &[u8], settings: Settings) -> Described
-    ensures { Describes settings table.now result }
+pub fn description(table: &[u8], settings: Settings) -> Result<Description, Refusal>
+    ensures { Describes settings table.now (told result) }
 {
-    let answer = read(table, settings);
-    let Answer::Accepted(_) = answer else {
-        let r = handed_on(answer);
-        return Described::Refused(r.number, r.place);
-    };
+    read(table, settings)?;
     let chip = settings.chip;
-    Described::Description(fields::description(table, chip))
+    Ok(fields::description(table, chip))
 }
 
 // Element k of an accepted table; the table's refusal, or 17.
-pub fn element(table: &[u8], k: usize, settings: Settings) -> Asked
-    ensures { GivesElement settings table.now k result }
+pub fn element(table: &[u8], k: usize, settings: Settings) -> Result<Element, Refusal>
+    ensures { GivesElement settings table.now k (told result) }
 {
-    let answer = read(table, settings);
-    let Answer::Accepted(n) = answer else {
-        let r = handed_on(answer);
-        return Asked::Refused(r.number, r.place);
-    };
-    if n <= k {
-        return Asked::Refused(17, 0);
-    }
+    let at = place(table, k, settings)?;
     let chip = settings.chip;
-    Asked::Element(element_at(table, place_of(table, k), chip))
+    Ok(element_at(table, at, chip))
+}
+
+// Where element k of an accepted table stands; the table's refusal, or 17.
+fn place(table: &[u8], k: usize, settings: Settings) -> Result<usize, Refusal>
+    ensures { Places settings table.now k result }
+{
+    let n = read(table, settings)?;
+    if n <= k {
+        return Err(Rule::PastTheLast.at(0));
+    }
+    Ok(place_of(table, k))
 }
 
 // Its variable part, as that part of the lent table; an empty part with a refusal.
 pub fn part(table: &[u8], k: usize, settings: Settings) -> &[u8]
     ensures { GivesPart settings table.now k result.now }
 {
-    let answer = read(table, settings);
-    let Answer::Accepted(n) = answer else {
+    let Ok(at) = place(table, k, settings) else {
         return &table[0..0];
     };
-    if n <= k {
-        return &table[0..0];
-    }
-    part_at(table, place_of(table, k))
+    part_at(table, at)
 }
 
-// Where the variable part of an element stands in the table and how long it is, or a refusal.
+// Where the variable part of an element stands in the table, and how long it is.
 #[derive(Clone, Copy)]
-pub enum Placed {
-    At(usize, usize),
-    Refused(u8, usize),
+pub struct Span {
+    pub place: usize,
+    pub len: usize,
 }
 
 // The place of the variable part of element k, behind the element's fixed fields also where the part is empty, and its length; or
 // what `element` refuses with.
-pub fn part_place(table: &[u8], k: usize, settings: Settings) -> Placed
-    ensures { GivesPlace settings table.now k result }
+pub fn part_place(table: &[u8], k: usize, settings: Settings) -> Result<Span, Refusal>
+    ensures { GivesPlace settings table.now k (placed result) }
 {
-    let answer = read(table, settings);
-    let Answer::Accepted(n) = answer else {
-        let r = handed_on(answer);
-        return Placed::Refused(r.number, r.place);
-    };
-    if n <= k {
-        return Placed::Refused(17, 0);
-    }
-    let at = place_of(table, k);
+    let at = place(table, k, settings)?;
     let from = walking::part_place(table, at);
-    Placed::At(from, at + length_at(table, at) - from)
-}
-
-// What a refusal says: its number, and the place.
-#[derive(Clone, Copy)]
-pub struct Refusal {
-    pub number: u8,
-    pub place: usize,
-}
-
-// The refusal in an answer, for another call to hand on.
-pub fn handed_on(answer: Answer) -> Refusal
-    ensures { (result.number ≡ number_of answer) × (result.place ≡ value_of answer) }
-{
-    match answer {
-        Answer::Accepted(n) => Refusal {
-            number: 0,
-            place: n,
-        },
-        Answer::Refused(k, p) => Refusal {
-            number: k,
-            place: p,
-        },
-    }
+    let len = at + length_at(table, at) - from;
+    Ok(Span { place: from, len })
 }
 
 // All rules in their order.
-fn read(t: &[u8], settings: Settings) -> Answer
-    ensures { Verdict settings t.now result }
+fn read(t: &[u8], settings: Settings) -> Result<usize, Refusal>
+    ensures { Verdict settings t.now (told result) }
 {
     if t.len() < 16 {
-        return Answer::Refused(1, 0);
+        return Err(Rule::Under16Bytes.at(0));
     }
     if t[0] != 1 {
-        return Answer::Refused(2, 0);
+        return Err(Rule::Revision.at(0));
     }
     if stated(t) != t.len() {
-        return Answer::Refused(3, 0);
+        return Err(Rule::TableLength.at(0));
     }
     if 4096 < t.len() {
-        return Answer::Refused(3, 0);
+        return Err(Rule::TableLength.at(0));
     }
     described(t, settings)
 }
@@ -158,24 +124,23 @@ fn stated(t: &[u8]) -> usize
 }
 
 // What follows the first three rules.
-fn described(t: &[u8], settings: Settings) -> Answer
+fn described(t: &[u8], settings: Settings) -> Result<usize, Refusal>
     requires { (16 ≤ length t.now) × (length t.now ≤ 4096) × Bytes t.now }
-    ensures { result ≡ after_description settings (read_description settings.chip (byte t.now)) (drop 16 t.now) }
+    ensures { told result ≡ after_description settings (read_description settings.chip (byte t.now)) (drop 16 t.now) }
 {
     let chip = settings.chip;
     let d = fields::description(t, chip);
-    let fault = rules::description_breaks(d, chip);
-    if fault != 0 {
-        return Answer::Refused(fault, 0);
+    if let Err(rule) = rules::description_breaks(d, chip) {
+        return Err(rule.at(0));
     }
     elements(t, claims::first_claims(d), settings)
 }
 
 // The elements, after a good description. All flags are clear at the start.
-fn elements(t: &[u8], held: Held, settings: Settings) -> Answer
+fn elements(t: &[u8], held: Held, settings: Settings) -> Result<usize, Refusal>
     requires { (16 ≤ length t.now) × (length t.now ≤ 4096) × Bytes t.now
         × HeldIs held (made_at 0 (first_claims (read_description settings.chip (byte t.now)))) }
-    ensures { result ≡ conclude (read_description settings.chip (byte t.now)) (elements_of settings t.now) }
+    ensures { told result ≡ conclude (read_description settings.chip (byte t.now)) (elements_of settings t.now) }
 {
     let mut zs = [false; 256];
     let mut ss = [false; 256];
@@ -189,7 +154,7 @@ fn elements(t: &[u8], held: Held, settings: Settings) -> Answer
         held,
         last: 0,
     };
-    let r = walk(
+    let passed = walk(
         &t[16..],
         16,
         start,
@@ -199,11 +164,11 @@ fn elements(t: &[u8], held: Held, settings: Settings) -> Answer
         &mut su,
         settings,
     );
-    if r.stop != 0 {
-        return Answer::Refused(r.stop, r.place);
+    if let Some(rule) = passed.stop {
+        return Err(rule.at(passed.place));
     }
     ss[0] = true;
-    let s = r.state;
+    let s = passed.state;
     concluded(t, s, &zs, &ss, &zu, &su, settings)
 }
 
@@ -216,25 +181,25 @@ fn concluded(
     zu: &[bool; 256],
     su: &[bool; 256],
     settings: Settings,
-) -> Answer
+) -> Result<usize, Refusal>
     requires { Gathered settings t.now s zs.now ss.now zu.now su.now }
-    ensures { result ≡ conclude (read_description settings.chip (byte t.now)) (elements_of settings t.now) }
+    ensures { told result ≡ conclude (read_description settings.chip (byte t.now)) (elements_of settings t.now) }
 {
     if lacks(zu, zs) {
-        return Answer::Refused(13, places::zoneless(t, zs));
+        return Err(Rule::NoZone.at(places::zoneless(t, zs)));
     }
     if lacks(su, ss) {
         let n = wide(t[4]);
         if !ss[n] {
-            return Answer::Refused(14, 0);
+            return Err(Rule::NoString.at(0));
         }
-        return Answer::Refused(14, places::nameless(t, ss));
+        return Err(Rule::NoString.at(places::nameless(t, ss)));
     }
     let held = s.held;
     if held.clash != 65536 {
-        return Answer::Refused(15, held.clash);
+        return Err(Rule::Clash.at(held.clash));
     }
-    Answer::Accepted(s.count)
+    Ok(s.count)
 }
 
 // 16 bytes with a plain description break no rule.

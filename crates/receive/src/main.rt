@@ -3,13 +3,11 @@
 // names the chip.
 #![tactic(auto)]
 
-ghost use Rattle.std.specs.Prelude.{◌≡◌, ◌≤◌, length, IfOk};
+ghost use Rattle.std.specs.Prelude.{◌≡◌, ◌≤◌, length, IfOk, IfSome};
 
-use format::answers::Answer;
 use format::settings::Settings;
-use options::Options;
-use options::numerals::MaybeNumber;
-use sending::{read_full, refuse};
+use options::Chosen;
+use sending::read_full;
 use std::io;
 use std::io::Read;
 use std::rt::Env;
@@ -55,7 +53,8 @@ fn answer(rt: &(impl Input + Print), size: usize, settings: Settings) -> io::Res
         if k == 0 {
             break;
         }
-        receiving::piece(
+        // Before the end no piece is refused.
+        let _ = receiving::piece(
             &mut n,
             &mut first,
             &mut head,
@@ -70,49 +69,29 @@ fn answer(rt: &(impl Input + Print), size: usize, settings: Settings) -> io::Res
         total += k;
     }
     match receiving::end(&mut n, &first, &zs, &ss, &zu, &su, &zp, &sp) {
-        Answer::Accepted(k) => accept(rt, k),
-        Answer::Refused(k, p) => refuse(rt, k, p),
+        Ok(k) => accept(rt, k),
+        Err(stop) => println!(rt; "R\t{}\t{}", stop.number, stop.place),
     }
 }
 
-// The word is the number of bytes in a report.
-fn read_size(
-    rt: &(impl Input + Print + Eprint),
-    word: &[u8],
-    settings: Settings,
-) -> io::Result<()> {
-    match options::numerals::below(word, 4097) {
-        MaybeNumber::Number(size) => {
-            if size == 0 {
-                return misuse(rt);
-            }
-            answer(rt, size, settings)
-        }
-        MaybeNumber::Nothing => misuse(rt),
+// The number of bytes in a report, which is the one word behind the options, or 64 where there is none.
+fn report_size(rt: &impl Env, first: usize) -> Option<usize>
+    ensures { IfSome result (λ n. n ≤ 4096) }
+{
+    if options::count_from(rt, first) == 0 {
+        return Some(64);
     }
+    options::number_behind(rt, first, 1, 4097).filter(|n| *n > 0)
 }
 
-// The one word behind the options, or none.
-fn ask(
-    rt: &(impl Env + Input + Print + Eprint),
-    settings: Settings,
-    first: usize,
-    count: usize,
-) -> io::Result<()> {
-    if first >= count {
-        return answer(rt, 64, settings);
+fn ask(rt: &(impl Env + Input + Print + Eprint), chosen: Chosen) -> io::Result<()> {
+    match report_size(rt, chosen.next) {
+        Some(size) => answer(rt, size, chosen.settings),
+        None => misuse(rt),
     }
-    if count - first > 1 {
-        return misuse(rt);
-    }
-    let mut word = [0u8; 4096];
-    let length = options::read_word(rt, first, &mut word);
-    read_size(rt, &word[..length], settings)
 }
 
 fn main(rt: HostRuntime) -> io::Result<()> {
-    match options::ordinary(options::read(&rt)) {
-        Options::Chosen(settings, first) => ask(&rt, settings, first, options::count_words(&rt)),
-        Options::Misused(m) => options::complain(&rt, m),
-    }
+    let chosen = options::ordinary(options::read(&rt));
+    options::run(&rt, chosen, |chosen| ask(&rt, chosen))
 }

@@ -15,8 +15,8 @@ use Rattle.format.proofs.Slots.{bytes_take}
 use Rattle.format.specs.Answers.{value_of}
 use Rattle.format.specs.Reader.{verdict_of}
 use Rattle.format.specs.declared.settings.Settings.{Settings}
-use Rattle.format.specs.declared.answers.Answer.{Answer}
-use Rattle.format.specs.declared.answers.Answer.TheVariants.{Accepted, Refused}
+use Rattle.format.specs.Answers.{Answer}
+use Rattle.format.specs.Answers.{Gives as Accepted, Refused}
 use Rattle.format.proofs.Theorem.{meets}
 use Rattle.reader.proofs.Bounds.{value_bound}
 use Rattle.pass.specs.Tracks.{Flags}

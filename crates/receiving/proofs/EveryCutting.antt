@@ -9,8 +9,8 @@ use Rattle.format.specs.Slots.{Bytes}
 use Rattle.format.specs.Verdict.{Verdict}
 use Rattle.format.specs.Reader.{verdict_of}
 use Rattle.format.specs.declared.settings.Settings.{Settings}
-use Rattle.format.specs.declared.answers.Answer.{Answer}
-use Rattle.format.specs.declared.answers.Answer.TheVariants.{Refused}
+use Rattle.format.specs.Answers.{Answer}
+use Rattle.format.specs.Answers.{Refused}
 use Rattle.format.proofs.Theorem.{meets, only}
 use Rattle.stream.specs.Arriving.{joined}
 use Rattle.states.specs.Numbers.{number}

@@ -6,8 +6,8 @@ use Rattle.format.specs.Answers.{value_of}
 use Rattle.format.specs.Decode.{read_description}
 use Rattle.format.specs.Reader.{verdict_of}
 use Rattle.format.specs.declared.settings.Settings.{Settings}
-use Rattle.format.specs.declared.answers.Answer.{Answer}
-use Rattle.format.specs.declared.answers.Answer.TheVariants.{Refused}
+use Rattle.format.specs.Answers.{Answer}
+use Rattle.format.specs.Answers.{Refused}
 use Rattle.pass.specs.Tracks.{Flags}
 use Rattle.stream.specs.Arriving.{state_of}
 use Rattle.underway.specs.Under.{Holds}

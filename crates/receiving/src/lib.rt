@@ -3,6 +3,8 @@
 // and by zone and string number whether it is declared, whether it is named, and where first.
 #![tactic(auto)]
 
+ghost use Rattle.format.specs.Answers.{fault_of};
+ghost use Rattle.ending.specs.Stopped.{ended};
 ghost use Rattle.std.specs.Prelude.{◌≡◌, ◌+◌, ◌<◌, ◌≤◌, length};
 ghost use Rattle.format.specs.Answers.{value_of};
 ghost use Rattle.pass.specs.Tracks.{flags};
@@ -11,7 +13,8 @@ ghost use Rattle.ending.specs.Stands.{lent};
 ghost use Rattle.receiving.specs.Receiving.{LeadIs, ReadyIs, ReceiveIs, StartIs, PieceIs, EndIs};
 
 use closing::Way;
-use format::answers::Answer;
+use ending::Stop;
+use format::answers::Rule;
 use format::settings::Settings;
 
 // Begins with no byte. Flags and places are cleared when the first element begins.
@@ -101,7 +104,7 @@ fn shorter(a: usize, b: usize) -> usize
     if b < a { b } else { a }
 }
 
-// A piece of any number of bytes: 0, or 20 after the end. More than 4,096 bytes are no table, and those past the 4,097th are skipped.
+// A piece of any number of bytes; 20 after the end. More than 4,096 bytes are no table, and those past the 4,097th are skipped.
 pub fn piece(
     n: &mut [usize; 16],
     first: &mut [u8; 30],
@@ -113,53 +116,56 @@ pub fn piece(
     zp: &mut [u16; 256],
     sp: &mut [u16; 256],
     p: &[u8],
-) -> u8
+) -> Result<(), Rule>
     ensures { PieceIs (lent n.old first.old head.old
         (flags zs.old ss.old zu.old su.old) zp.old sp.old)
-        p.now result (lent n.new first.new head.new
+        p.now (fault_of result) (lent n.new first.new head.new
         (flags zs.new ss.new zu.new su.new) zp.new sp.new) }
 {
     if n[0] != 0 {
-        return 20;
+        return Err(Rule::AfterTheEnd);
     }
     let count = n[2];
     let quiet = n[15];
     if (p.len() == 1) & (count < quiet) {
         if single::plain(p[0]) {
             single::lengthen(n, head, count, quiet, p[0]);
-            return 0;
+            return Ok(());
         }
     }
     if 4096 < count {
-        return 0;
+        return Ok(());
     }
     if p.len() == 0 {
-        return 0;
+        return Ok(());
     }
     let end = shorter(p.len(), 4097 - count);
     // A pass that is stopped stays so, and the bytes are only counted.
     if (16 < count) & (n[3] != 0) {
         n[2] = count + end;
-        return 0;
+        return Ok(());
     }
     if (p.len() == 1) & (16 < count) {
         if single::byte(n, head, p[0]) {
-            return 0;
+            return Ok(());
         }
         receive(n, first, head, zs, ss, zu, su, zp, sp, &p[0..1]);
-        return 0;
+        return Ok(());
     }
     receive(n, first, head, zs, ss, zu, su, zp, sp, &p[0..end]);
-    0
+    Ok(())
 }
 
 // An answer whose place two bytes can hold, as the place in any table can.
-fn bounded(a: Answer) -> Answer
-    ensures { (value_of result ≤ 65535) × (value_of a ≤ 65535 → result ≡ a) }
+fn bounded(a: Result<usize, Stop>) -> Result<usize, Stop>
+    ensures { (value_of (ended result) ≤ 65535) × (value_of (ended a) ≤ 65535 → ended result ≡ ended a) }
 {
     match a {
-        Answer::Accepted(k) => Answer::Accepted(k % 65536),
-        Answer::Refused(k, p) => Answer::Refused(k, p % 65536),
+        Ok(k) => Ok(k % 65536),
+        Err(stop) => Err(Stop {
+            number: stop.number,
+            place: stop.place % 65536,
+        }),
     }
 }
 
@@ -173,13 +179,16 @@ pub fn end(
     su: &[bool; 256],
     zp: &[u16; 256],
     sp: &[u16; 256],
-) -> Answer
+) -> Result<usize, Stop>
     ensures { EndIs n.old first.now
-        (flags zs.now ss.now zu.now su.now) zp.now sp.now result
+        (flags zs.now ss.now zu.now su.now) zp.now sp.now (ended result)
         n.new }
 {
     if n[0] != 0 {
-        return Answer::Refused(20, 0);
+        return Err(Stop {
+            number: Rule::AfterTheEnd.number(),
+            place: 0,
+        });
     }
     let answer = ending::verdict(n, first, zs, ss, zu, su, zp, sp);
     n[0] = 1;

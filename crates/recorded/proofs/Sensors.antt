@@ -10,6 +10,7 @@ use mathlib.Core.Option.{some}
 use lib.ListN.{length, get_or, replicate}
 use lib.Seq.{sets, length-sets}
 use borrow.Author.Tests.{ltb-true}
+use Rattle.std.specs.Prelude.{Option as Maybe, Some, None, Result}
 use Rattle.format.specs.Slots.{Slot, reserved, roomy, all_roomy, Bytes}
 use Rattle.format.specs.Records.{Record, element_of}
 use Rattle.format.specs.Records.{digital, analogue, fan, led, water, pump, voltage, current}
@@ -19,32 +20,32 @@ use Rattle.format.specs.Asked.{nth}
 use Rattle.format.specs.Verdict.{Accepts}
 use Rattle.format.specs.declared.settings.Settings.{Settings}
 use Rattle.format.specs.declared.records.Description.{Description}
-use Rattle.format.specs.declared.answers.Answer.TheVariants.{Accepted}
+use Rattle.format.specs.Answers.{Gives as Accepted}
 use Rattle.format.proofs.Kept.{and-true}
 use Rattle.format.proofs.Slots.{roomy_split}
 use Rattle.format.proofs.Lengths.{at_most_96}
 use Rattle.format.proofs.Demand3.{only_one_list}
 use Rattle.converting.specs.Outcomes.{outcome_of}
+use Rattle.format.specs.declared.answers.Rule.{Rule}
 use Rattle.converting.specs.declared.Converted.{Converted}
 use Rattle.sensing.specs.Answers.{sensor_of, Answers}
 use Rattle.sensing.specs.declared.Sensor.{Sensor}
-use Rattle.sensing.specs.declared.Sensor.TheVariants.{Current, Voltage, Points, Pulses, Nothing}
+use Rattle.sensing.specs.declared.Sensor.TheVariants.{Current, Voltage, Points, Pulses}
 use Rattle.gauges.specs.Numbers.{sensor_from, sensor_at, sensor_numbers}
 use Rattle.gauges.specs.Meaning.{answer_of}
 use Rattle.gauges.proofs.Answer.{answer_meets}
 use Rattle.readying.specs.Starting.{laid, Gathered, StartIs}
 use Rattle.readying.specs.Starting.StartIs.{begun}
-use Rattle.tracing.specs.Lines.{outcome_at}
-use Rattle.tracing.specs.declared.Asked.TheVariants.{Count}
+use Rattle.tracing.specs.Lines.{count_of, outcome_at}
 use Rattle.recorded.proofs.Runs.{beside, inside}
 
 -- the numbers that are read modulo 256 are under it
-Narrow : Sensor → Type 0
-Narrow (Current imin imax) = Unit {0}
-Narrow (Voltage vmin vmax) = (vmin.0 < 256) × (vmax.0 < 256)
-Narrow (Points p) = Unit {0}
-Narrow (Pulses ppr) = ppr < 256
-Narrow Nothing = Unit {0}
+Narrow : Maybe Sensor → Type 0
+Narrow (Some (Current imin imax)) = Unit {0}
+Narrow (Some (Voltage vmin vmax)) = (vmin.0 < 256) × (vmax.0 < 256)
+Narrow (Some (Points p)) = Unit {0}
+Narrow (Some (Pulses ppr)) = ppr < 256
+Narrow None = Unit {0}
 
 -- .. of a record whose slots have room
 room_at : (ss : List Slot) (i : ℕ) → all_roomy ss ≡ true → roomy (get_or ss i reserved) ≡ true
@@ -73,26 +74,26 @@ narrow (external x r g b) h = tt
 narrow (rgb r) h = tt
 
 -- six numbers, from which the sensor is read back
-six : (z : Sensor) → length (sensor_numbers z) ≡ 6
-six (Current imin imax) = refl
-six (Voltage vmin vmax) = refl
-six (Points p) = refl
-six (Pulses ppr) = refl
-six Nothing = refl
+six : (z : Maybe Sensor) → length (sensor_numbers z) ≡ 6
+six (Some (Current imin imax)) = refl
+six (Some (Voltage vmin vmax)) = refl
+six (Some (Points p)) = refl
+six (Some (Pulses ppr)) = refl
+six None = refl
 
-abbrev read_from : List ℕ → Sensor
+abbrev read_from : List ℕ → Maybe Sensor
 read_from v = sensor_from (get_or v 0 0) (get_or v 1 0) (get_or v 2 0) (get_or v 3 0) (get_or v 4 0) (get_or v 5 0)
 
-back : (z : Sensor) → Narrow z → read_from (sensor_numbers z) ≡ z
+back : (z : Maybe Sensor) → Narrow z → read_from (sensor_numbers z) ≡ z
 unfolding Narrow
-back (Current imin imax) h = refl
-back (Voltage vmin vmax) h = rw (mod-eq_of_lt h.0, mod-eq_of_lt h.1) refl
-back (Points p) h = refl
-back (Pulses ppr) h = rw (mod-eq_of_lt h) refl
-back Nothing h = refl
+back (Some (Current imin imax)) h = refl
+back (Some (Voltage vmin vmax)) h = rw (mod-eq_of_lt h.0, mod-eq_of_lt h.1) refl
+back (Some (Points p)) h = refl
+back (Some (Pulses ppr)) h = rw (mod-eq_of_lt h) refl
+back None h = refl
 
 -- the sensor of element k after six numbers are stored for it, and for another
-module _ (s : List ℕ) (k : ℕ) (z : Sensor) where
+module _ (s : List ℕ) (k : ℕ) (z : Maybe Sensor) where
   stored : 6 * k + 6 ≤ length s → Narrow z → sensor_at (sets s (6 * k) (sensor_numbers z)) k ≡ z
   unfolding sensor_at
   stored h n =
@@ -170,7 +171,7 @@ pub record_answers :
     → StartIs σ t n s ts (Accepted count) n' s' ts'
     → Accepts σ t d rs
     → nth rs k ≡ some r
-    → (v : Converted) × Answers (sensor_of (element_of r)) c v × (outcome_at s' (Count k c) ≡ outcome_of v)
+    → (v : Result Converted Rule) × Answers (sensor_of (element_of r)) c v × (outcome_at s' (count_of k c) ≡ outcome_of v)
 record_answers σ t n s ts {s' = s'} {r = r} k c small (begun v g) a at =
     let z = sensor_of (element_of r) in
-    (answer_of z c, answer_meets z c, ap (λ (y : Sensor). outcome_of (answer_of y c)) (sensor_laid σ t k small g a at))
+    (answer_of z c, answer_meets z c, ap (λ (y : Maybe Sensor). outcome_of (answer_of y c)) (sensor_laid σ t k small g a at))

@@ -11,20 +11,20 @@ use lib.ListN.{length, get_or, replicate, length-append}
 use lib.Seq.{sets, length-sets}
 use borrow.Author.Tests.{ltb-false, leb-false, eqb-true, eqb-false}
 use Rattle.parsing.specs.Scanning.{read}
-use Rattle.parsing.specs.declared.Parsed.{Parsed}
-use Rattle.parsing.specs.declared.Parsed.TheVariants.{Line, Refused}
+use Rattle.std.specs.Prelude.{Result, Ok, Err}
+use Rattle.parsing.specs.declared.Sample.{Sample}
+use Rattle.format.specs.declared.answers.Rule.{Rule}
+use Rattle.format.specs.declared.answers.Rule.TheVariants.{PastTheLast, TraceLine}
 use Rattle.converting.specs.declared.Outcome.{Outcome}
-use Rattle.converting.specs.declared.Outcome.TheVariants.{Refused as RefusedBy}
 use Rattle.tallying.specs.Tallies.{readings, tally_of, taken}
 use Rattle.tallying.specs.Extremes.{Least, Greatest}
 use Rattle.tallying.specs.declared.Tally.{Tally}
 use Rattle.tallying.proofs.Law.{kept}
 use Rattle.tallying.proofs.Extremes.{least_is, greatest_is}
 use Rattle.gauges.specs.Numbers.{tally_at, tally_numbers}
-use Rattle.tracing.specs.Lines.{asked_of, outcome_at, tallied, later}
+use Rattle.tracing.specs.Lines.{count_of, asked_of, outcome_at, tallied, later}
 use Rattle.tracing.specs.Whole.{tallies}
 use Rattle.tracing.specs.declared.Asked.{Asked}
-use Rattle.tracing.specs.declared.Asked.TheVariants.{Count, Nothing}
 use Rattle.recorded.specs.Outcomes.{given, outcomes_of, tally_after}
 use Rattle.recorded.proofs.Runs.{beside, inside}
 
@@ -57,24 +57,24 @@ module _ (ts : List ℕ) (k : ℕ) (t : Tally) where
       ) refl
 
 -- what a line asks: an element that is there, and not past line 1,000,000
-Sound : ℕ → ℕ → Asked → Type 0
-Sound elements number (Count k c) = (k < elements) × (number ≤ 1000000)
-Sound elements number (Nothing n) = Unit {0}
+Sound : ℕ → ℕ → Result Asked Rule → Type 0
+Sound elements number (Ok a) = (a.element < elements) × (number ≤ 1000000)
+Sound elements number (Err r) = Unit {0}
 
-sound : (elements number : ℕ) (p : Parsed) → Sound elements number (asked_of elements number p)
+sound : (elements number : ℕ) (p : Result Sample Rule) → Sound elements number (asked_of elements number p)
 unfolding Sound
-sound elements number (Refused n) = tt
-sound elements number (Line x y z) = go (ltb 1000000 number) refl (leb elements y) refl
+sound elements number (Err r) = tt
+sound elements number (Ok l) = go (ltb 1000000 number) refl (leb elements l.element) refl
   where
     go :
         (t : Bool)
         → ltb 1000000 number ≡ t
         → (u : Bool)
-        → leb elements y ≡ u
-        → Sound elements number (cond t (Nothing 19) (cond u (Nothing 17) (Count y z)))
+        → leb elements l.element ≡ u
+        → Sound elements number (cond t (Err TraceLine) (cond u (Err PastTheLast) (count_of l.element l.count)))
     go true e u f = tt
     go false e true f = tt
-    go false e false f = (leb-false elements y f, ltb-false 1000000 number e)
+    go false e false f = (leb-false elements l.element f, ltb-false 1000000 number e)
 
 -- the next number, which is one more up to 1,000,000
 later_more : (n : ℕ) → (n ≤ later n) × (later n ≤ 1000000 → later n ≡ n + 1)
@@ -101,33 +101,33 @@ none_yet k =
 
 module _ (sensors : List ℕ) (elements : ℕ) (few : elements ≤ 96) where
   -- one line: of element k, of another, or of none
-  abbrev Taken : ℕ → List ℕ → ℕ → Asked → Type 0
+  abbrev Taken : ℕ → List ℕ → ℕ → Result Asked Rule → Type 0
   Taken n ts k q =
-      (qs : List Outcome)
+      (qs : List (Result Outcome Rule))
       → length qs ≤ n
       → tally_at ts k ≡ tally_of qs
       → (length (qs ++ given sensors k q) ≤ later n) × (tally_at (tallied sensors ts q) k ≡ tally_of (qs ++ given sensors k q))
 
-  same_length : (ts : List ℕ) (q : Asked) → length (tallied sensors ts q) ≡ length ts
-  same_length ts (Count j c) = length-sets ts (5 * j) (tally_numbers (taken (tally_at ts j) (outcome_at sensors (Count j c))))
-  same_length ts (Nothing n) = refl
+  same_length : (ts : List ℕ) (q : Result Asked Rule) → length (tallied sensors ts q) ≡ length ts
+  same_length ts (Ok a) = length-sets ts (5 * a.element) (tally_numbers (taken (tally_at ts a.element) (outcome_at sensors (Ok a))))
+  same_length ts (Err r) = refl
 
-  one : (n : ℕ) (ts : List ℕ) (k : ℕ) (q : Asked) → length ts ≡ 480 → Sound elements (later n) q → Taken n ts k q
+  one : (n : ℕ) (ts : List ℕ) (k : ℕ) (q : Result Asked Rule) → length ts ≡ 480 → Sound elements (later n) q → Taken n ts k q
   unfolding Sound
-  one n ts k (Nothing x) l s qs m e = rw (append-nil qs) (omega (arith, m, (later_more n).0), e)
-  one n ts k (Count j c) l s qs m e = go (eqb j k) refl
+  one n ts k (Err r) l s qs m e = rw (append-nil qs) (omega (arith, m, (later_more n).0), e)
+  one n ts k (Ok a) l s qs m e = go (eqb a.element k) refl
     where
       next : later n ≡ n + 1
       next = (later_more n).1 s.1
 
       go :
           (t : Bool)
-          → eqb j k ≡ t
-          → (length (qs ++ cond t (outcome_at sensors (Count j c) ∷ []) []) ≤ later n)
-          × (tally_at (tallied sensors ts (Count j c)) k ≡ tally_of (qs ++ cond t (outcome_at sensors (Count j c) ∷ []) []))
+          → eqb a.element k ≡ t
+          → (length (qs ++ cond t (outcome_at sensors (Ok a) ∷ []) []) ≤ later n)
+          × (tally_at (tallied sensors ts (Ok a)) k ≡ tally_of (qs ++ cond t (outcome_at sensors (Ok a) ∷ []) []))
       go true f =
-          let here : j ≡ k = eqb-true j k f in
-          let o = outcome_at sensors (Count k c) in
+          let here : a.element ≡ k = eqb-true a.element k f in
+          let o = outcome_at sensors (count_of k a.count) in
           rw here (
             omega (arith, m, next, length-append qs (o ∷ [])),
             stored ts k (taken (tally_at ts k) o) (omega (arith, s.0, few, l, here))
@@ -137,12 +137,12 @@ module _ (sensors : List ℕ) (elements : ℕ) (few : elements ≤ 96) where
       go false f =
           rw (append-nil qs) (
             omega (arith, m, next),
-            other ts j (taken (tally_at ts j) (outcome_at sensors (Count j c))) k (λ h. eqb-false j k f (sym h)) ∙ e,
+            other ts a.element (taken (tally_at ts a.element) (outcome_at sensors (Ok a))) k (λ h. eqb-false a.element k f (sym h)) ∙ e,
           )
 
   -- any list of lines, after others
   after :
-      (k : ℕ) (ls : List (List ℕ)) (n : ℕ) (ts : List ℕ) (qs : List Outcome)
+      (k : ℕ) (ls : List (List ℕ)) (n : ℕ) (ts : List ℕ) (qs : List (Result Outcome Rule))
       → length ts ≡ 480
       → length qs ≤ n
       → tally_at ts k ≡ tally_of qs
@@ -171,24 +171,27 @@ module _ (sensors : List ℕ) (elements : ℕ) (few : elements ≤ 96) where
 
   -- 'a refused line changes no tally'
   pub refused_line_lem :
-      (n : ℕ) (ts x : List ℕ) (j : ℕ) {m : ℕ}
+      (n : ℕ) (ts x : List ℕ) (j : ℕ) {m : Rule}
       → length ts ≡ 480
-      → outcome_at sensors (asked_of elements (later n) (read x)) ≡ RefusedBy m
+      → outcome_at sensors (asked_of elements (later n) (read x)) ≡ Err m
       → tally_at (tallied sensors ts (asked_of elements (later n) (read x))) j ≡ tally_at ts j
   unfolding Sound
   refused_line_lem n ts x j {m} l h = by_asked (asked_of elements (later n) (read x)) (sound elements (later n) (read x)) h
     where
       by_asked :
-          (q : Asked)
+          (q : Result Asked Rule)
           → Sound elements (later n) q
-          → outcome_at sensors q ≡ RefusedBy m
+          → outcome_at sensors q ≡ Err m
           → tally_at (tallied sensors ts q) j ≡ tally_at ts j
-      by_asked (Nothing y) s h = refl
-      by_asked (Count k c) s h = go (eqb j k) refl
+      by_asked (Err y) s h = refl
+      by_asked (Ok a) s h = go (eqb j a.element) refl
         where
-          go : (b : Bool) → eqb j k ≡ b → tally_at (tallied sensors ts (Count k c)) j ≡ tally_at ts j
+          go : (b : Bool) → eqb j a.element ≡ b → tally_at (tallied sensors ts (Ok a)) j ≡ tally_at ts j
           go true f =
+              let k = a.element in
               let here : j ≡ k = eqb-true j k f in
-              let o = outcome_at sensors (Count k c) in
+              let o = outcome_at sensors (Ok a) in
               rw here (stored ts k (taken (tally_at ts k) o) (omega (arith, s.0, few, l)) ∙ ap (taken (tally_at ts k)) h)
-          go false f = other ts k (taken (tally_at ts k) (outcome_at sensors (Count k c))) j (eqb-false j k f)
+          go false f =
+              let k = a.element in
+              other ts k (taken (tally_at ts k) (outcome_at sensors (Ok a))) j (eqb-false j k f)

@@ -11,7 +11,7 @@ use Rattle.format.specs.Records.{Record}
 use Rattle.format.specs.Verdict.{Accepts}
 use Rattle.format.specs.declared.settings.Settings.{Settings}
 use Rattle.format.specs.declared.records.Description.{Description}
-use Rattle.format.specs.declared.answers.Answer.TheVariants.{Accepted}
+use Rattle.format.specs.Answers.{Gives as Accepted}
 use Rattle.format.proofs.Lengths.{at_most_96}
 use Rattle.format.proofs.Demand3.{accepted_exactly, only_one_list}
 use Rattle.readying.specs.Starting.{laid, StartIs}

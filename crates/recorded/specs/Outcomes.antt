@@ -1,8 +1,9 @@
 -- 3/14: 'The program's running tallies, one set per element, are updated at each line and equal least, greatest and number of all
 -- readings so far': the answers that lines gave to one element.
 -- Assumes nothing.
-use Rattle.std.specs.Prelude.{ℕ, zero, suc, cond, List, [], ◌∷◌, ◌++◌, eqb, replicate}
+use Rattle.std.specs.Prelude.{ℕ, zero, suc, cond, List, [], ◌∷◌, ◌++◌, eqb, replicate, Result, Ok, Err}
 use Rattle.parsing.specs.Scanning.{read}
+use Rattle.format.specs.declared.answers.Rule.{Rule}
 use Rattle.converting.specs.declared.Outcome.{Outcome}
 use Rattle.answering.specs.Text.{tally_text}
 use Rattle.tallying.specs.Tallies.{tally_of}
@@ -11,15 +12,14 @@ use Rattle.gauges.specs.Numbers.{tally_at}
 use Rattle.tracing.specs.Lines.{asked_of, outcome_at, later}
 use Rattle.tracing.specs.Whole.{tallies}
 use Rattle.tracing.specs.declared.Asked.{Asked}
-use Rattle.tracing.specs.declared.Asked.TheVariants.{Count, Nothing}
 
 -- what a line that asks this answers to element k: nothing, unless it has a count of that element
-abbrev pub given : List ℕ → ℕ → Asked → List Outcome
-given sensors k (Count j c) = cond (eqb j k) (outcome_at sensors (Count j c) ∷ []) []
-given sensors k (Nothing n) = []
+abbrev pub given : List ℕ → ℕ → Result Asked Rule → List (Result Outcome Rule)
+given sensors k (Ok a) = cond (eqb a.element k) (outcome_at sensors (Ok a) ∷ []) []
+given sensors k (Err r) = []
 
 -- the answers to element k of lines in their order, after so many others
-abbrev pub outcomes_of : List ℕ → ℕ → ℕ → ℕ → List (List ℕ) → List Outcome
+abbrev pub outcomes_of : List ℕ → ℕ → ℕ → ℕ → List (List ℕ) → List (Result Outcome Rule)
 outcomes_of sensors elements k n [] = []
 outcomes_of sensors elements k n (l ∷ ls) =
     given sensors k (asked_of elements (later n) (read l)) ++ outcomes_of sensors elements k (later n) ls

@@ -18,7 +18,7 @@ use Rattle.format.specs.Asked.{nth}
 use Rattle.format.specs.Writing.{overwritten}
 use Rattle.format.specs.Verdict.{Accepts, Passed, Verdict, unzoned, unnamed}
 use Rattle.format.specs.declared.settings.Settings.{Settings}
-use Rattle.format.specs.declared.answers.Answer.TheVariants.{Refused}
+use Rattle.format.specs.Answers.{Refused}
 use Rattle.format.specs.declared.records.Description.{Description}
 use Rattle.format.proofs.Slots.{bytes_take, bytes_drop, bytes_append, starts_split, starts_rest}
 use Rattle.format.proofs.Asking.{never_both, nth_split}

@@ -2,12 +2,10 @@
 // standard output as raw bytes. Refused: the line R, number, place, with tabs. The option --chip names the chip.
 #![tactic(auto)]
 
-use format::answers::Written;
 use format::pins::Chip;
 use format::settings::Settings;
-use options::Options;
-use options::numerals::MaybeNumber;
-use sending::{read_input, refuse, send};
+use options::Chosen;
+use sending::read_input;
 use std::io;
 use std::rt::Env;
 
@@ -19,10 +17,8 @@ fn misuse(rt: &impl Eprint) -> io::Result<()> {
 
 // The table without element k, or the refusal.
 fn take_out(rt: &impl Print, table: &mut [u8], k: usize, chip: Chip) -> io::Result<()> {
-    match removing::remove(table, k, chip) {
-        Written::Length(n) => send(rt, n, table),
-        Written::Refused(number, place) => refuse(rt, number, place),
-    }
+    let removed = removing::remove(table, k, chip);
+    sending::answer(rt, removed, table)
 }
 
 // 4,097 bytes of input are enough: a longer table is refused by the first of them (2) or by its length (3).
@@ -34,29 +30,14 @@ fn answer(rt: &(impl Input + Print), k: usize, settings: Settings) -> io::Result
 }
 
 // The one word behind the options.
-fn ask(
-    rt: &(impl Env + Input + Print + Eprint),
-    settings: Settings,
-    first: usize,
-    count: usize,
-) -> io::Result<()> {
-    if first >= count {
-        return misuse(rt);
-    }
-    if count - first > 1 {
-        return misuse(rt);
-    }
-    let mut word = [0u8; 4096];
-    let length = options::read_word(rt, first, &mut word);
-    match options::numerals::below(&word[..length], 1000000000) {
-        MaybeNumber::Number(k) => answer(rt, k, settings),
-        MaybeNumber::Nothing => misuse(rt),
+fn ask(rt: &(impl Env + Input + Print + Eprint), chosen: Chosen) -> io::Result<()> {
+    match options::number_behind(rt, chosen.next, 1, 1000000000) {
+        Some(k) => answer(rt, k, chosen.settings),
+        None => misuse(rt),
     }
 }
 
 fn main(rt: HostRuntime) -> io::Result<()> {
-    match options::ordinary(options::read(&rt)) {
-        Options::Chosen(settings, first) => ask(&rt, settings, first, options::count_words(&rt)),
-        Options::Misused(m) => options::complain(&rt, m),
-    }
+    let chosen = options::ordinary(options::read(&rt));
+    options::run(&rt, chosen, |chosen| ask(&rt, chosen))
 }

@@ -10,13 +10,13 @@ use lib.Seq.{drop_at}
 use Rattle.format.specs.Records.{Record}
 use Rattle.format.specs.Layout.{layout, layouts, table}
 use Rattle.format.specs.Verdict.{Accepts}
-use Rattle.format.specs.Answers.{value_of_written}
+use Rattle.format.specs.Answers.{value_of}
 use Rattle.format.specs.Writing.{writing}
 use Rattle.format.specs.declared.pins.Chip.{Chip}
 use Rattle.format.specs.declared.records.Description.{Description}
-use Rattle.format.specs.declared.answers.Answer.TheVariants.{Refused as RefusedTable}
-use Rattle.format.specs.declared.answers.Written.{Written}
-use Rattle.format.specs.declared.answers.Written.TheVariants.{Length, Refused}
+use Rattle.format.specs.Answers.{Refused as RefusedTable}
+use Rattle.format.specs.Answers.{Written}
+use Rattle.format.specs.Answers.{Gives as Length, Refused}
 use Rattle.format.proofs.Asking.{nth_split}
 use Rattle.format.proofs.Lengths.{fits_length, layouts_append}
 use Rattle.reader.proofs.Bounds.{value_bound}
@@ -57,11 +57,11 @@ refused_leaves chip b k j p after (judged d rs a taken) = go taken
     go (stays_named at h) = refl
 
 -- no value is over 4,096
-pub remove_bound : (chip : Chip) (b : List ℕ) (k : ℕ) (w : Written) (after : List ℕ) → Removed chip b k w after → value_of_written w ≤ 4096
+pub remove_bound : (chip : Chip) (b : List ℕ) (k : ℕ) (w : Written) (after : List ℕ) → Removed chip b k w after → value_of w ≤ 4096
 remove_bound chip b k w after (refused {j = j} {p = p} v) = value_bound (writing chip) b (RefusedTable j p) v
 remove_bound chip b k w after (judged d rs a taken) = go taken
   where
-    go : {w : Written} {after : List ℕ} → Taken b d rs k w after → value_of_written w ≤ 4096
+    go : {w : Written} {after : List ℕ} → Taken b d rs k w after → value_of w ≤ 4096
     go (past at) = omega arith
     go (stays_named {r = r} at h) =
         omega (

@@ -12,8 +12,8 @@ use Rattle.format.specs.Verdict.{stated, Verdict, accepted}
 use Rattle.format.specs.Writing.{writing}
 use Rattle.format.specs.declared.pins.Chip.{Chip}
 use Rattle.format.specs.declared.settings.Settings.{Settings}
-use Rattle.format.specs.declared.answers.Answer.TheVariants.{Accepted}
-use Rattle.format.specs.declared.answers.Written.TheVariants.{Length, Refused}
+use Rattle.format.specs.Answers.{Gives as Accepted}
+use Rattle.format.specs.Answers.{Gives as Length, Refused}
 use Rattle.format.proofs.Strings.{own_nth}
 use Rattle.format.proofs.Theorem.{accepts_passed}
 use Rattle.walking.specs.Walk.{Located}

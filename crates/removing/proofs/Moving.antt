@@ -1,32 +1,15 @@
--- The move of the bytes behind: a byte that is read is still as it was, and with the length mended the lent bytes are closed up.
+-- The move of the bytes behind: with the length mended the lent bytes are closed up.
 -- Assumes nothing.
-use Prim.Native.Nat.{ℕ, ◌+◌, ◌-◌, ◌≤◌, ◌<◌}
+use Prim.Native.Nat.{ℕ, ◌+◌, ◌-◌, ◌≤◌}
 use native.Mathlib.Omega.{arith}
 use mathlib.Core.Path.{◌≡◌, refl, sym, ◌∙◌, ap}
 use mathlib.Core.List.{List, ◌++◌, append_assoc}
-use lib.ListN.{length, take, drop, get_or, length-append, length-drop}
-use lib.Seq.{paste, length_paste_head, get_or-append-add, get_or-drop, drop-drop, take-append-le, drop-append-le, length-take-le}
+use lib.ListN.{length, take, drop, length-append, length-drop}
+use lib.Seq.{drop-drop, take-append-le, drop-append-le, length-take-le}
 use Rattle.format.specs.Slots.{word, written}
 use Rattle.format.specs.Writing.{overwritten}
 use Rattle.removal.specs.Taking.{cut, closed}
 use Rattle.removing.specs.Judging.{Closable}
-
--- the byte read at a turn of the loop
-pub unmoved :
-    (b : List ℕ) (at n j : ℕ)
-    → at + n + j < length b
-    → get_or (paste b at (drop (at + n) b) j) (at + n + j) 0 ≡ get_or (drop (at + n) b) j 0
-unmoved b at n j h =
-    let s = drop (at + n) b in
-    let front = take at b ++ take j s in
-    let l : length front ≡ at + j = length_paste_head b at s j (omega arith) (omega (arith, length-drop (at + n) b)) in
-    let i : length front + n ≡ at + n + j = omega arith in
-    let q : at + j + n ≡ at + n + j = omega arith in
-    ap (λ (m : ℕ). get_or (front ++ drop (at + j) b) m 0) (sym i)
-    ∙ get_or-append-add front (drop (at + j) b) n 0
-    ∙ get_or-drop (at + j) b n 0
-    ∙ ap (λ (m : ℕ). get_or b m 0) q
-    ∙ sym (get_or-drop (at + n) b j 0)
 
 -- bytes 1-2 stand in the front
 mend_front :

@@ -10,16 +10,16 @@ use Rattle.format.specs.Records.{Record, fan, zone, string}
 use Rattle.format.specs.Known.{after, fan_f, zone1}
 use Rattle.format.specs.Decode.{pin_of, placement_of, fan_of, description_of}
 use Rattle.format.specs.declared.pins.Chip.TheVariants.{C8051F320}
-use Rattle.format.specs.declared.pins.OptionalPin.TheVariants.{Unused}
+use Rattle.std.specs.Prelude.{None}
 use Rattle.format.specs.declared.records.Description.{Description}
 use Rattle.removal.specs.Taking.{without, named, closed}
 
 abbrev box : Description
-box = description_of 2 1 41 true 0 Unused Unused Unused
+box = description_of 2 1 41 true 0 None None None
 
 -- a fan of a zone, with a string index; a zone descriptor with its number and its string index; a string
 abbrev fan_in : ℕ → ℕ → Record
-fan_in z n = fan (fan_of (placement_of n 0 0 0 z) (pin_of C8051F320 0x05) Unused 0 0 0 0)
+fan_in z n = fan (fan_of (placement_of n 0 0 0 z) (pin_of C8051F320 0x05) None 0 0 0 0)
 
 abbrev zone_of : ℕ → ℕ → Record
 zone_of z n = zone (z ∷ n ∷ 1 ∷ [])

@@ -1,7 +1,6 @@
 -- The walk for whoever names a number: what is left to search ends where the whole ends.
 -- Assumes nothing.
 use Prim.Native.Nat.{ℕ, ◌+◌, ◌≤◌, ◌<◌}
-use native.Mathlib.Omega.{arith}
 use mathlib.Core.Path.{◌≡◌, refl, sym, ◌∙◌, ap}
 use mathlib.Core.Bool.{Bool, true, false, ◌||◌}
 use mathlib.Core.List.{List, []}
@@ -45,9 +44,6 @@ module _ (σ : Settings) (t : List ℕ) (zone : Bool) (n at : ℕ) (rs : List Re
   pub some_role : (x : Role) × RoleBytes t at x
   some_role = (role element.r, role_here σ t at element)
 
-  pub room : (3 ≤ stated (drop at t)) × (at + stated (drop at t) ≤ length t)
-  room = omega (arith, element.here.size, element.here.within)
-
 -- what is told of the element at this place
 module _ (t : List ℕ) (zone : Bool) (n at : ℕ) (s : Seeking t zone n at) (h : at < length t) (r : Bool)
     (tells : (x : Role) → RoleBytes t at x → r ≡ among n (names_of zone x)) where
@@ -64,10 +60,10 @@ module _ (t : List ℕ) (zone : Bool) (n at : ℕ) (s : Seeking t zone n at) (h 
   pub hit : r ≡ true → TellsNames t zone n true
   hit e σ d rs a = let w = s σ d rs a in sym (first σ rs w (next σ t at (Sought zone n rs) w h) e)
 
-  pub turned : {m : ℕ} → r ≡ false → m ≡ stated (drop at t) → Seeking t zone n (at + m)
-  turned e is σ d rs a =
+  pub turned : r ≡ false → Seeking t zone n (at + stated (drop at t))
+  turned e σ d rs a =
       let w = s σ d rs a in
-      onward σ t at (Sought zone n rs) w (Sought zone n rs) h is (λ g. record { same = first σ rs w g e })
+      onward σ t at (Sought zone n rs) w (Sought zone n rs) h refl (λ g. record { same = first σ rs w g e })
 
 pub not_there : (t : List ℕ) (zone : Bool) (n at : ℕ) → Seeking t zone n at → length t ≤ at → TellsNames t zone n false
 not_there t zone n at s h σ d rs a = sym (ended σ t at (Sought zone n rs) (s σ d rs a) h).state.same

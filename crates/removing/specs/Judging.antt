@@ -8,11 +8,11 @@ use Rattle.format.specs.Verdict.{Accepts}
 use Rattle.format.specs.declared.pins.Chip.{Chip}
 use Rattle.format.specs.declared.settings.Settings.{Settings}
 use Rattle.format.specs.declared.records.Description.{Description}
-use Rattle.format.specs.declared.answers.Written.TheVariants.{Length, Refused as NotWritten}
+use Rattle.format.specs.Answers.{Gives as Length, Refused as NotWritten}
 use Rattle.places.specs.Walks.{RoleBytes, names_of}
 use Rattle.removal.specs.Taking.{named_as, closed}
-use Rattle.removing.specs.declared.Judged.{Judged}
-use Rattle.removing.specs.declared.Judged.TheVariants.{Out, Refused}
+use Rattle.format.specs.Answers.{Answered, Gives, Refused}
+use Rattle.removing.specs.declared.Out.{Out}
 use Rattle.removing.specs.Removed.{Removed}
 
 -- whether an element of an accepted table, under whichever settings, names the zone, or else the string, with this number
@@ -35,6 +35,6 @@ pub record Closable (b : List ℕ) (at n : ℕ) : Type 0 where
   pub top : length b ≤ 4096
 
 -- what was decided, as the call's words
-abbrev pub Judges : Chip → List ℕ → ℕ → Judged → Type 0
-Judges chip b k (Out at n) = Closable b at n × Removed chip b k (Length (length b - n)) (closed b at n)
+abbrev pub Judges : Chip → List ℕ → ℕ → Answered Out → Type 0
+Judges chip b k (Gives o) = Closable b o.at o.len × Removed chip b k (Length (length b - o.len)) (closed b o.at o.len)
 Judges chip b k (Refused j p) = Removed chip b k (NotWritten j p) b

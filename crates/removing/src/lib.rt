@@ -3,6 +3,7 @@
 #![tactic(auto)]
 
 ghost use Rattle.std.specs.Prelude.{◌≡◌, List, ◌+◌, ◌-◌, ◌≤◌, length, drop};
+ghost use Rattle.format.specs.Answers.{told};
 ghost use Rattle.format.specs.Records.{Record};
 ghost use Rattle.format.specs.Pins.{among};
 ghost use Rattle.format.specs.ZonesAndStrings.{Role};
@@ -15,50 +16,45 @@ ghost use Rattle.removal.specs.Taking.{closed};
 ghost use Rattle.removing.specs.Removed.{Removed};
 ghost use Rattle.removing.specs.Judging.{TellsNames, Standing, TellsNamed, Closable, Judges};
 
-use format::answers::{Answer, Written};
+use format::answers::{Refusal, Rule};
 use format::pins::Chip;
 use format::settings::{Rules, Settings};
-use walking::{length_at, place_of};
+use walking::{Places, length_at, place_of};
 
-// What becomes of an element that is asked to go: it goes, from its place so many bytes; or a refusal.
+// An element that goes: from its place so many bytes.
 #[derive(Clone, Copy)]
-enum Judged {
-    Out(usize, usize),
-    Refused(u8, usize),
+struct Out {
+    at: usize,
+    len: usize,
 }
 
 // Takes element k out of the lent table: 0 with the new length; the bytes from there on stay as they are. The table's refusal, 17 at 0, or
 // 22 at the element when something still names it; then no byte alters.
-pub fn remove(table: &mut [u8], k: usize, chip: Chip) -> Written
-    ensures { Removed chip table.old k result table.new }
+pub fn remove(table: &mut [u8], k: usize, chip: Chip) -> Result<usize, Refusal>
+    ensures { Removed chip table.old k (told result) table.new }
 {
-    match judge(table, k, chip) {
-        Judged::Out(at, n) => Written::Length(close_up(table, at, n)),
-        Judged::Refused(j, p) => Written::Refused(j, p),
-    }
+    let out = judge(table, k, chip)?;
+    Ok(close_up(table, out.at, out.len))
 }
 
 // Everything is decided before a byte is written.
-fn judge(table: &[u8], k: usize, chip: Chip) -> Judged
-    ensures { Judges chip table.now k result }
+fn judge(table: &[u8], k: usize, chip: Chip) -> Result<Out, Refusal>
+    ensures { Judges chip table.now k (told result) }
 {
     let settings = Settings {
         chip,
         rules: Rules::Ordinary,
     };
-    let answer = reader::check(table, settings);
-    let Answer::Accepted(n) = answer else {
-        let r = reader::handed_on(answer);
-        return Judged::Refused(r.number, r.place);
-    };
+    let n = reader::check(table, settings)?;
     if n <= k {
-        return Judged::Refused(17, 0);
+        return Err(Rule::PastTheLast.at(0));
     }
     let at = place_of(table, k);
     if still_named(table, at) {
-        return Judged::Refused(22, at);
+        return Err(Rule::StillNamed.at(at));
     }
-    Judged::Out(at, length_at(table, at))
+    let len = length_at(table, at);
+    Ok(Out { at, len })
 }
 
 // Whether something names the element at a place: a zone descriptor and a string have their numbers at byte 3, and no other element has
@@ -83,12 +79,10 @@ fn any_names(t: &[u8], zone: bool, number: u8) -> bool
     requires { (σ : Settings) × (d : Description) × (rs : List Record) × Accepts σ t.now d rs }
     ensures { TellsNames t.now zone number result }
 {
-    let mut at: usize = 16;
-    while at < t.len() {
+    for at in Places::of(t) {
         if names(t, at, zone, number) {
             return true;
         }
-        at += length_at(t, at);
     }
     false
 }
@@ -127,10 +121,5 @@ fn move_down(t: &mut [u8], at: usize, n: usize)
     requires { at + n ≤ length t.old }
     ensures { t.new ≡ overwritten at (drop (at + n) t.old) t.old }
 {
-    let count = t.len() - (at + n);
-    let mut j: usize = 0;
-    while j < count {
-        t[at + j] = t[at + n + j];
-        j += 1;
-    }
+    t.copy_within(at + n.., at);
 }

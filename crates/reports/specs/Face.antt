@@ -3,7 +3,7 @@
 use Rattle.std.specs.Prelude.{ℕ, ◌+◌, ◌*◌, ◌≡◌, List}
 use Rattle.format.specs.Answers.{number_of, value_of}
 use Rattle.format.specs.declared.settings.Settings.{Settings}
-use Rattle.format.specs.declared.answers.Answer.{Answer}
+use Rattle.format.specs.Answers.{Answer}
 use Rattle.pass.specs.Tracks.{Flags}
 use Rattle.receiving.specs.Receiving.{StartIs, EndIs}
 

@@ -3,14 +3,16 @@
 #![tactic(auto)]
 
 ghost use Rattle.std.specs.Prelude.{◌≡◌, ◌+◌, ◌*◌, ◌≤◌};
-ghost use Rattle.format.specs.Answers.{value_of};
+ghost use Rattle.format.specs.Answers.{fault_of, value_of};
+ghost use Rattle.ending.specs.Stopped.{ended};
 ghost use Rattle.pass.specs.Tracks.{flags};
 ghost use Rattle.states.specs.Numbers.{settings_of};
 ghost use Rattle.ending.specs.Stands.{lent};
 ghost use Rattle.receiving.specs.Receiving.{PieceIs};
 ghost use Rattle.reports.specs.Face.{packed as packed_of, StartedFor, EndedFor};
 
-use format::answers::Answer;
+use ending::Stop;
+use format::answers::Rule;
 
 // Begins with no byte, for the chip and by the rules of the settings: 0.
 pub fn start(n: &mut [usize; 16], first: &mut [u8; 30], head: &mut [u8; 30], settings: usize) -> u64
@@ -38,7 +40,7 @@ pub fn piece(
         piece.now result (lent n.new first.new head.new
         (flags zs.new ss.new zu.new su.new) zp.new sp.new) }
 {
-    long(receiving::piece(n, first, head, zs, ss, zu, su, zp, sp, piece))
+    after_piece(receiving::piece(n, first, head, zs, ss, zu, su, zp, sp, piece))
 }
 
 // No more bytes come: beside 0 stands the number of elements, beside a refusal its place.
@@ -59,10 +61,14 @@ pub fn end(
     packed(receiving::end(n, first, zs, ss, zu, su, zp, sp))
 }
 
-fn long(x: u8) -> u64
-    ensures { result ≡ x }
+// 0, or the number of the rule.
+fn after_piece(taken: Result<(), Rule>) -> u64
+    ensures { result ≡ fault_of taken }
 {
-    x as u64
+    match taken {
+        Ok(()) => 0,
+        Err(rule) => rule.number() as u64,
+    }
 }
 
 fn pack(number: u8, beside: usize) -> u64
@@ -72,12 +78,12 @@ fn pack(number: u8, beside: usize) -> u64
     (number as u64) + 256 * (beside as u64)
 }
 
-fn packed(a: Answer) -> u64
-    requires { value_of a ≤ 65535 }
-    ensures { result ≡ packed_of a }
+fn packed(a: Result<usize, Stop>) -> u64
+    requires { value_of (ended a) ≤ 65535 }
+    ensures { result ≡ packed_of (ended a) }
 {
     match a {
-        Answer::Accepted(k) => pack(0, k),
-        Answer::Refused(k, p) => pack(k, p),
+        Ok(k) => pack(0, k),
+        Err(stop) => pack(stop.number, stop.place),
     }
 }

@@ -8,8 +8,8 @@ use lib.ListN.{length, drop}
 use Rattle.format.specs.Slots.{Bytes}
 use Rattle.format.specs.Layout.{table}
 use Rattle.format.specs.Cleared.{cleared}
-use Rattle.format.specs.declared.answers.Answer.TheVariants.{Refused as RefusedTable}
-use Rattle.format.specs.declared.answers.Written.{Written}
+use Rattle.format.specs.Answers.{Refused as RefusedTable}
+use Rattle.format.specs.Answers.{Written}
 use Rattle.format.proofs.Asking.{never_both}
 use Rattle.format.proofs.Demand3.{unique, only_one_list}
 use Rattle.rewriting.specs.Again.{Rewritten, done, no_room, refused}

@@ -12,9 +12,9 @@ use Rattle.format.specs.Verdict.{stated, Verdict, accepted}
 use Rattle.format.specs.Decode.{read_description}
 use Rattle.format.specs.declared.records.Description.{Description}
 use Rattle.format.specs.declared.records.Element.{Element}
-use Rattle.format.specs.declared.answers.Answer.TheVariants.{Accepted}
-use Rattle.format.specs.declared.answers.Written.{Written}
-use Rattle.format.specs.declared.answers.Written.TheVariants.{Length, Refused}
+use Rattle.format.specs.Answers.{Gives as Accepted}
+use Rattle.format.specs.Answers.{Written}
+use Rattle.format.specs.Answers.{Gives as Length, Refused}
 use Rattle.walking.specs.Walk.{Here, Walk}
 use Rattle.walking.proofs.Left.{reads, begin, onward, ended}
 use Rattle.writer.specs.Calls.{Started, Appended}

@@ -6,9 +6,9 @@ use Rattle.format.specs.Layout.{table}
 use Rattle.format.specs.Cleared.{cleared}
 use Rattle.format.specs.Verdict.{Accepts, Verdict}
 use Rattle.format.specs.declared.records.Description.{Description}
-use Rattle.format.specs.declared.answers.Answer.TheVariants.{Refused as RefusedTable}
-use Rattle.format.specs.declared.answers.Written.{Written}
-use Rattle.format.specs.declared.answers.Written.TheVariants.{Length, Refused}
+use Rattle.format.specs.Answers.{Refused as RefusedTable}
+use Rattle.format.specs.Answers.{Written}
+use Rattle.format.specs.Answers.{Gives as Length, Refused}
 use Rattle.format.specs.declared.pins.Chip.{Chip}
 use Rattle.format.specs.Writing.{writing}
 

@@ -1,6 +1,7 @@
 -- The number of the first rule that is broken, as the code finds it.
 -- Assumes nothing.
-use Rattle.std.specs.Prelude.{ℕ, ◌≡◌, Bool, true, false, List}
+use Rattle.std.specs.Prelude.{ℕ, ◌≡◌, Bool, true, false, List, Result, Ok, Err}
+use Rattle.format.specs.declared.answers.Rule.{Rule}
 use Rattle.format.specs.Pins.{among}
 use Rattle.format.specs.Records.{Block, controller, tachometer, external}
 use Rattle.format.specs.Rules.{numbered, first_broken, own_rules, shaped, filled, chip_identifiers}
@@ -13,6 +14,11 @@ use Rattle.format.specs.declared.records.RegisterPair.{RegisterPair}
 abbrev pub or_else : Bool → ℕ → ℕ → ℕ
 or_else true k later = later
 or_else false k later = k
+
+-- nothing where a rule is kept; where it is not, the rule
+abbrev pub kept_or : Bool → Rule → Result (Unit {0}) Rule
+kept_or true r = Ok tt
+kept_or false r = Err r
 
 -- a device on a bus: what a controller breaks whose blocks are so many as they may be, filled or not, what a tachometer breaks, and
 -- what an external RGB LED breaks whose chip is identified, or not

@@ -1,5 +1,5 @@
 // What a record breaks by itself: 4, 5, 10 of the description, 8, 9, 23 and 10 of each kind of element (8 of 09h, 0Ah and 0Dh
-// is found in `blocks`). One place for the reader and the writer. A rule's number, or 0.
+// is found in `blocks`). One place for the reader and the writer. The first rule that is broken is the error.
 #![tactic(auto)]
 
 ghost use Rattle.std.specs.Prelude.{◌≡◌, List, ℕ, ◌≤◌, length};
@@ -12,9 +12,11 @@ ghost use Rattle.format.specs.Pins.{among, unused};
 ghost use Rattle.format.specs.declared.settings.Settings.{Settings};
 ghost use Rattle.format.specs.Table.{description_breaks};
 ghost use Rattle.format.specs.Utf16.{agrees, well_formed};
-ghost use Rattle.rules.specs.Broken.{or_else, DeviceBreaks};
+ghost use Rattle.format.specs.Answers.{fault_of};
+ghost use Rattle.rules.specs.Broken.{kept_or, DeviceBreaks};
 
-use format::pins::{Chip, OptionalPin, Pin, Use};
+use format::answers::Rule;
+use format::pins::{Chip, Pin, Use};
 use format::records::{
     Address, AnalogueSensor, BusDevice, CurrentSensor, Description, DigitalSensor, Lamp, PwmFan,
     RgbLed, StatusLed, VoltageSensor, WaterLevel,
@@ -23,11 +25,21 @@ use format::settings::{Rules, Settings};
 use format::units::Counts;
 use pinsets::{allowed, allowed_or_unused};
 
-// Where a rule is kept, what comes later; where it is not, its number.
-fn or_else(kept: bool, number: u8, later: u8) -> u8
-    ensures { result ≡ or_else kept number later }
+// The rule, where it is not kept.
+fn keep(kept: bool, rule: Rule) -> Result<(), Rule>
+    ensures { result ≡ kept_or kept rule }
 {
-    if kept { later } else { number }
+    if kept { Ok(()) } else { Err(rule) }
+}
+
+// The number of the rule that is broken, or 0: for the pass, whose state is numbers (a state that comes in pieces is lent by C).
+pub fn fault(kept: Result<(), Rule>) -> u8
+    ensures { result ≡ fault_of kept }
+{
+    match kept {
+        Ok(()) => 0,
+        Err(rule) => rule.number(),
+    }
 }
 
 // 4
@@ -56,26 +68,23 @@ fn strapped(d: Description, chip: Chip) -> bool
             & allowed_or_unused(chip, Use::HardwareRevision, c))
 }
 
-pub fn description_breaks(d: Description, chip: Chip) -> u8
-    ensures { result ≡ numbered (description_breaks chip d) }
+pub fn description_breaks(d: Description, chip: Chip) -> Result<(), Rule>
+    ensures { fault_of result ≡ numbered (description_breaks chip d) }
 {
-    or_else(
-        typed(d),
-        4,
-        or_else(powered(d), 5, or_else(strapped(d, chip), 10, 0)),
-    )
+    keep(typed(d), Rule::DeviceType)
+        .and(keep(powered(d), Rule::Power))
+        .and(keep(strapped(d, chip), Rule::Pin))
 }
 
 // 8, 9, 23 and 10 of a record of any kind, in their order.
-fn own_breaks(shape: bool, codes: bool, used: bool, pins: bool) -> u8
+fn own_breaks(shape: bool, codes: bool, used: bool, pins: bool) -> Result<(), Rule>
     ensures { (s : Settings) (x : Record) → shape ≡ shaped x → codes ≡ coded x → used ≡ in_use s.rules (element_of x) → pins
-        ≡ pinned s.chip x → result ≡ numbered (first_broken (own_rules s x)) }
+        ≡ pinned s.chip x → fault_of result ≡ numbered (first_broken (own_rules s x)) }
 {
-    or_else(
-        shape,
-        8,
-        or_else(codes, 9, or_else(used, 23, or_else(pins, 10, 0))),
-    )
+    keep(shape, Rule::Layout)
+        .and(keep(codes, Rule::Code))
+        .and(keep(used, Rule::Retired))
+        .and(keep(pins, Rule::Pin))
 }
 
 // 9: the bus type has a code, and the address is of its kind.
@@ -109,8 +118,8 @@ fn selected(a: Address, chip: Chip) -> bool
 }
 
 // 01h
-pub fn digital_breaks(d: DigitalSensor, s: Settings) -> u8
-    ensures { result ≡ numbered (first_broken (own_rules s (digital d))) }
+pub fn digital_breaks(d: DigitalSensor, s: Settings) -> Result<(), Rule>
+    ensures { fault_of result ≡ numbered (first_broken (own_rules s (digital d))) }
 {
     let chip = s.chip;
     let rules = s.rules;
@@ -137,8 +146,8 @@ fn calibrated(a: AnalogueSensor) -> bool
 }
 
 // 02h
-pub fn analogue_breaks(a: AnalogueSensor, s: Settings) -> u8
-    ensures { result ≡ numbered (first_broken (own_rules s (analogue a))) }
+pub fn analogue_breaks(a: AnalogueSensor, s: Settings) -> Result<(), Rule>
+    ensures { fault_of result ≡ numbered (first_broken (own_rules s (analogue a))) }
 {
     let chip = s.chip;
     let p = a.pin;
@@ -150,27 +159,27 @@ pub fn analogue_breaks(a: AnalogueSensor, s: Settings) -> u8
     )
 }
 
-pub fn unused(p: OptionalPin) -> bool
+pub fn unused(p: Option<Pin>) -> bool
     ensures { result ≡ unused p }
 {
     match p {
-        OptionalPin::Unused => true,
-        OptionalPin::Used(_) => false,
+        None => true,
+        Some(_) => false,
     }
 }
 
-fn rises(p: Pin, q: OptionalPin) -> bool
+fn rises(p: Pin, q: Option<Pin>) -> bool
     ensures { result ≡ rises p q }
 {
     match q {
-        OptionalPin::Unused => true,
-        OptionalPin::Used(r) => p.0 < r.0,
+        None => true,
+        Some(r) => p.0 < r.0,
     }
 }
 
 // 03h and 06h
-pub fn fan_breaks(f: PwmFan, s: Settings) -> u8
-    ensures { (result ≡ numbered (first_broken (own_rules s (fan f)))) × (result ≡ numbered (first_broken (own_rules s (pump f)))) }
+pub fn fan_breaks(f: PwmFan, s: Settings) -> Result<(), Rule>
+    ensures { (fault_of result ≡ numbered (first_broken (own_rules s (fan f)))) × (fault_of result ≡ numbered (first_broken (own_rules s (pump f)))) }
 {
     let chip = s.chip;
     let p = f.pwm;
@@ -189,8 +198,8 @@ fn coloured(l: Lamp) -> bool
 }
 
 // 04h
-pub fn led_breaks(l: StatusLed, s: Settings) -> u8
-    ensures { result ≡ numbered (first_broken (own_rules s (led l))) }
+pub fn led_breaks(l: StatusLed, s: Settings) -> Result<(), Rule>
+    ensures { fault_of result ≡ numbered (first_broken (own_rules s (led l))) }
 {
     let chip = s.chip;
     let a = l.one;
@@ -206,8 +215,8 @@ pub fn led_breaks(l: StatusLed, s: Settings) -> u8
 }
 
 // 05h
-pub fn water_breaks(w: WaterLevel, s: Settings) -> u8
-    ensures { result ≡ numbered (first_broken (own_rules s (water w))) }
+pub fn water_breaks(w: WaterLevel, s: Settings) -> Result<(), Rule>
+    ensures { fault_of result ≡ numbered (first_broken (own_rules s (water w))) }
 {
     let chip = s.chip;
     let p = w.pin;
@@ -216,8 +225,8 @@ pub fn water_breaks(w: WaterLevel, s: Settings) -> u8
 }
 
 // 07h
-pub fn voltage_breaks(v: VoltageSensor, s: Settings) -> u8
-    ensures { result ≡ numbered (first_broken (own_rules s (voltage v))) }
+pub fn voltage_breaks(v: VoltageSensor, s: Settings) -> Result<(), Rule>
+    ensures { fault_of result ≡ numbered (first_broken (own_rules s (voltage v))) }
 {
     let chip = s.chip;
     let p = v.pin;
@@ -225,8 +234,8 @@ pub fn voltage_breaks(v: VoltageSensor, s: Settings) -> u8
 }
 
 // 08h
-pub fn current_breaks(c: CurrentSensor, s: Settings) -> u8
-    ensures { result ≡ numbered (first_broken (own_rules s (current c))) }
+pub fn current_breaks(c: CurrentSensor, s: Settings) -> Result<(), Rule>
+    ensures { fault_of result ≡ numbered (first_broken (own_rules s (current c))) }
 {
     let chip = s.chip;
     let p = c.pin;
@@ -241,8 +250,8 @@ pub fn identified(chip: u8) -> bool
 }
 
 // 09h, where `filled` says that each speed block has a pair; 0Ah, with true; 0Dh, where it says that its chip is identified
-pub fn device_breaks(d: BusDevice, filled: bool, s: Settings) -> u8
-    ensures { DeviceBreaks s d filled result }
+pub fn device_breaks(d: BusDevice, filled: bool, s: Settings) -> Result<(), Rule>
+    ensures { DeviceBreaks s d filled (fault_of result) }
 {
     let chip = s.chip;
     let rules = s.rules;
@@ -256,8 +265,8 @@ pub fn device_breaks(d: BusDevice, filled: bool, s: Settings) -> u8
 }
 
 // 0Bh, of all bytes after the header: 30 bytes with it.
-pub fn zone_breaks(part: &[u8]) -> u8
-    ensures { (s : Settings) → result ≡ numbered (first_broken (own_rules s (zone part.now))) }
+pub fn zone_breaks(part: &[u8]) -> Result<(), Rule>
+    ensures { (s : Settings) → fault_of result ≡ numbered (first_broken (own_rules s (zone part.now))) }
 {
     own_breaks(part.len() == 27, true, true, true)
 }
@@ -288,26 +297,26 @@ pub fn well_formed(text: &[u8]) -> bool
 }
 
 // 0Ch, where there is room for its number: that it is not 0, and what is known of its text.
-pub fn text_rules(number: u8, good: bool) -> u8
-    ensures { (s : Settings) (c : List ℕ) → 3 ≤ length c → number ≡ byte c 0 → good ≡ well_formed (text_of c) → result
+pub fn text_rules(number: u8, good: bool) -> Result<(), Rule>
+    ensures { (s : Settings) (c : List ℕ) → 3 ≤ length c → number ≡ byte c 0 → good ≡ well_formed (text_of c) → fault_of result
         ≡ numbered (first_broken (own_rules s (string c))) }
 {
     own_breaks(true, (number != 0) & good, true, true)
 }
 
 // 0Ch, of all bytes after the header: its number and two bytes more, and the number not 0; then its text.
-pub fn text_breaks(part: &[u8]) -> u8
-    ensures { (s : Settings) → result ≡ numbered (first_broken (own_rules s (string part.now))) }
+pub fn text_breaks(part: &[u8]) -> Result<(), Rule>
+    ensures { (s : Settings) → fault_of result ≡ numbered (first_broken (own_rules s (string part.now))) }
 {
     if part.len() < 3 {
-        return 8;
+        return Err(Rule::Layout);
     }
     text_rules(part[0], well_formed(&part[3..]))
 }
 
 // 0Eh
-pub fn rgb_breaks(c: RgbLed, s: Settings) -> u8
-    ensures { result ≡ numbered (first_broken (own_rules s (rgb c))) }
+pub fn rgb_breaks(c: RgbLed, s: Settings) -> Result<(), Rule>
+    ensures { fault_of result ≡ numbered (first_broken (own_rules s (rgb c))) }
 {
     let chip = s.chip;
     let r = c.red;

@@ -3,35 +3,26 @@
 // Refused: the line R, number, place on standard output alone. The option --chip names the chip.
 #![tactic(auto)]
 
+use format::answers::Refusal;
 use format::settings::Settings;
-use options::Options;
-use saving::Salvaged;
-use sending::{put, read_input, refuse, send};
+use saving::Lengths;
+use sending::{read_input, refuse, send};
 use std::io;
-
-// The first n bytes of the text. None is longer than 32,768 bytes.
-fn tell(errors: &impl Print, n: usize, lines: &[u8]) -> io::Result<()> {
-    if n <= 32768 {
-        let count = n.min(lines.len());
-        put(errors, &lines[..count])?;
-    }
-    Ok(())
-}
 
 // The new table and its lines, or the refusal.
 fn answer(
     rt: &impl Print,
     errors: &impl Print,
-    salvaged: Salvaged,
+    salvaged: Result<Lengths, Refusal>,
     out: &[u8],
     lines: &[u8; 32768],
 ) -> io::Result<()> {
     match salvaged {
-        Salvaged::Done(n, m) => {
-            send(rt, n, out)?;
-            tell(errors, m, lines)
+        Ok(lengths) => {
+            send(rt, lengths.table, out)?;
+            send(errors, lengths.lines, lines)
         }
-        Salvaged::Refused(k, p) => refuse(rt, k, p),
+        Err(refusal) => refuse(rt, refusal),
     }
 }
 
@@ -46,8 +37,10 @@ fn salvage(rt: &(impl Input + Print), errors: &impl Print, settings: Settings) -
 }
 
 fn main(rt: HostRuntime) -> io::Result<()> {
-    match options::ordinary(options::read_alone(&rt)) {
-        Options::Chosen(settings, _) => salvage(&rt, &rt.stderr(), settings),
-        Options::Misused(m) => options::complain(&rt, m),
-    }
+    let chosen = options::ordinary(options::read_alone(&rt));
+    options::run(
+        &rt,
+        chosen,
+        |chosen| salvage(&rt, &rt.stderr(), chosen.settings),
+    )
 }

@@ -12,10 +12,10 @@ use Rattle.format.specs.Slots.{Bytes}
 use Rattle.format.specs.Verdict.{Verdict}
 use Rattle.format.specs.Writing.{writing}
 use Rattle.format.specs.declared.pins.Chip.{Chip}
-use Rattle.format.specs.declared.answers.Answer.TheVariants.{Accepted}
+use Rattle.format.specs.Answers.{Gives as Accepted}
 use Rattle.saving.specs.Saving.{taken, salvageable}
 use Rattle.saving.specs.Lines.{new_table, new_text, answer}
-use Rattle.saving.specs.declared.Salvaged.TheVariants.{Done, Refused}
+use Rattle.saving.specs.Salvaged.{Done, Refused}
 use Rattle.saving.proofs.Theorems.{kept, saved_accepted}
 use Rattle.salvaging.specs.Salvages.{Salvages}
 

@@ -6,7 +6,7 @@ use mathlib.Core.Path.{◌≡◌, refl, sym, ◌∙◌, ap}
 use mathlib.Core.Bool.{Bool, true, false, not}
 use mathlib.Core.List.{List, ◌∷◌}
 use mathlib.Core.Option.{none}
-use lib.ListN.{length, set}
+use lib.ListN.{length, take, set}
 use Rattle.format.specs.Records.{Record}
 use Rattle.format.specs.Pins.{among}
 use Rattle.format.specs.ZonesAndStrings.{gathered, zones, strings, zone_named, string_named, zoneless, nameless}
@@ -20,6 +20,8 @@ use Rattle.reader.proofs.Owed.{all_declared}
 use Rattle.reader.proofs.Concluding.{no_clash}
 use Rattle.saving.specs.Saving.{Saved, records, string_indexes, named, unclashed}
 use Rattle.saving.proofs.Whole.{zoned_whole, named_whole, unclashed_whole}
+use Rattle.fates.specs.declared.Kept.{Kept}
+use Rattle.fates.specs.declared.Note.{Note}
 use Rattle.fates.specs.Noted.{Notes}
 use Rattle.scanning.specs.Scanned.{after_pass, Scanned}
 use Rattle.scanning.specs.declared.Passage.{Passage}
@@ -28,7 +30,7 @@ use Rattle.salvaging.specs.Decided.{described, after_zones, after_all, Decided, 
 use Rattle.salvaging.specs.declared.Plan.{Plan}
 use Rattle.salvaging.proofs.Deciding.{listed, decided}
 
-module _ (c : Chip) (t kept log : List ℕ) (zs ss zu su : List Bool) (r : Passage) (w : Scanned c t kept log (flags zs ss zu su) r)
+module _ (c : Chip) (t : List ℕ) (kept : List Kept) (log : List Note) (zs ss zu su : List Bool) (r : Passage) (w : Scanned c t kept log (flags zs ss zu su) r)
     (e : Complete zs (set ss 0 true) zu su r.clash) where
   abbrev rs : List Record
   rs = records (after_pass c t).kept
@@ -62,7 +64,7 @@ module _ (c : Chip) (t kept log : List ℕ) (zs ss zu su : List Bool) (r : Passa
   noted_all : Notes c t kept log r.n (after_all c t)
   noted_all = rw same_all w.notes
 
-  pub listed_all : length t ≤ 4096 → Listed t kept r.n.kept
+  pub listed_all : length t ≤ 4096 → Listed t (take r.n.kept kept)
   listed_all top = listed c t kept log r.n noted_all top
 
   nothing_clears : false ≡ not (among (described c t).string (string_indexes (after_zones c t)))
@@ -71,5 +73,5 @@ module _ (c : Chip) (t kept log : List ℕ) (zs ss zu su : List Bool) (r : Passa
       (ap (λ (s : Saved). not (among (described c t).string (string_indexes s))) same_zones
       ∙ ap not (all_indexes (described c t).string (in_here (described c t).string (gathered string_named rs))))
 
-  pub decided_all : (p : Plan) → PlanIs t kept r.n false p → Decided c t p kept log
+  pub decided_all : (p : Plan) → PlanIs t (take r.n.kept kept) r.n false p → Decided c t p kept log
   decided_all p l = decided c t p kept log r.n false l noted_all nothing_clears

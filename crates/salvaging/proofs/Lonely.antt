@@ -17,6 +17,8 @@ use Rattle.scanning.specs.Scanned.{after_pass}
 use Rattle.scanning.proofs.Scanning.{none_standing}
 use Rattle.mending.specs.Laid.{LengthIs, PutsOpening, PutsTable}
 use Rattle.changes.specs.Written.{PutsLines}
+use Rattle.fates.specs.declared.Kept.{Kept}
+use Rattle.fates.specs.declared.Note.{Note}
 use Rattle.salvaging.specs.Decided.{described, after_zones, after_all, Alone, Decided}
 use Rattle.salvaging.specs.declared.Plan.{Plan}
 
@@ -24,11 +26,17 @@ use Rattle.salvaging.specs.declared.Plan.{Plan}
 abbrev pub nothing : Plan
 nothing = record { kept = 0; lines = 0; cleared = false; len = 16 }
 
-abbrev pub no_kept : List ℕ
-no_kept = replicate 96 0
+abbrev pub no_kept : List Kept
+no_kept = replicate 96 (record { place = 0; cleared = false })
 
-abbrev pub no_log : List ℕ
-no_log = replicate 1649 0
+abbrev pub no_log : List Note
+no_log = replicate 1649 (record { place = 0; number = 0; cleared = false })
+
+pub kept_long : length no_kept ≡ 96
+kept_long = length-replicate {A = Kept} 96 (record { place = 0; cleared = false })
+
+pub log_long : length no_log ≡ 1649
+log_long = length-replicate {A = Note} 1649 (record { place = 0; number = 0; cleared = false })
 
 module _ (c : Chip) (t : List ℕ) (a : Alone t) where
   no_elements : elements t ≡ []
@@ -51,7 +59,7 @@ module _ (c : Chip) (t : List ℕ) (a : Alone t) where
       ap (λ (s : Saved). unclashed (described c t) (named (described c t) s)) no_zones
       ∙ ap (λ (b : Bool). saved [] (cond b [] (line 0 14 cleared ∷ []))) no_index
 
-  no_size : LengthIs t no_kept 0 16
+  no_size : LengthIs t [] 16
   no_size chip [] all = refl
   no_size chip (k ∷ ks) all = absurd all
 
@@ -61,8 +69,8 @@ module _ (c : Chip) (t : List ℕ) (a : Alone t) where
         notes =
             rw no_change
             (record {
-              kept_long = length-replicate {A = ℕ} 96 0;
-              log_long = length-replicate {A = ℕ} 1649 0;
+              kept_long = kept_long;
+              log_long = log_long;
               few = omega arith;
               fitting = omega arith;
               keeps = tt;
@@ -74,10 +82,10 @@ module _ (c : Chip) (t : List ℕ) (a : Alone t) where
         size = no_size;
       }
 
-  pub alone_put : {out after : List ℕ} → PutsOpening c t false 16 out after → PutsTable c t no_kept 0 false 16 out after
+  pub alone_put : {out after : List ℕ} → PutsOpening c t false 16 out after → PutsTable c t [] false 16 out after
   alone_put p [] all = p
   alone_put p (k ∷ ks) all = absurd all
 
-pub no_lines : (lines : List ℕ) → PutsLines no_log 0 lines 0 lines
+pub no_lines : (lines : List ℕ) → PutsLines [] lines 0 lines
 no_lines lines [] all = put_none lines 0
 no_lines lines (l ∷ ls) all = absurd all

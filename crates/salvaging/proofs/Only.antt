@@ -5,7 +5,7 @@ use mathlib.Core.Path.{◌≡◌, sym, ◌∙◌, ap}
 use mathlib.Core.List.{List}
 use Rattle.format.specs.declared.pins.Chip.{Chip}
 use Rattle.saving.specs.Lines.{new_table, new_text, leaves_of}
-use Rattle.saving.specs.declared.Salvaged.{Salvaged}
+use Rattle.saving.specs.Salvaged.{Salvaged}
 use Rattle.salvaging.specs.Salvages.{Salvages}
 
 pub only_salvage :

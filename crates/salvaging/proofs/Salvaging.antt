@@ -6,7 +6,7 @@ use mathlib.Core.Path.{◌≡◌, refl, sym, ◌∙◌, ap, subst}
 use mathlib.Core.Bool.{Bool, true, false, not, cond}
 use mathlib.Core.List.{List, [], append-nil}
 use mathlib.Core.Option.{Option, none, some}
-use lib.ListN.{length, length-take, length-append}
+use lib.ListN.{length, take, length-take, length-append}
 use lib.Seq.{take_all}
 use lib.Dec.{eqb}
 use borrow.Author.Tests.{le-leb, lt-leb, eq-eqb, ne_eqb}
@@ -30,11 +30,13 @@ use Rattle.spelling.specs.Spelling.{Put}
 use Rattle.spelling.proofs.Putting.{put_one, put_one_way}
 use Rattle.saving.specs.Saving.{taken, is_none, salvageable, unindexed_description, records, string_indexes}
 use Rattle.saving.specs.Lines.{new_table, new_text, answer}
-use Rattle.saving.specs.declared.Salvaged.TheVariants.{Done, Refused}
+use Rattle.saving.specs.Salvaged.{Done, Refused}
 use Rattle.saving.proofs.Theorems.{salvageable_says}
 use Rattle.saving.proofs.Bounds.{table_short}
 use Rattle.mending.specs.Laid.{described_as, Fitting, PutsTable}
 use Rattle.changes.specs.Written.{Noted, PutsLines}
+use Rattle.fates.specs.declared.Kept.{Kept}
+use Rattle.fates.specs.declared.Note.{Note}
 use Rattle.salvaging.specs.Salvages.{Salvages}
 use Rattle.salvaging.specs.Decided.{described, after_zones, after_all, Decided}
 use Rattle.salvaging.specs.declared.Plan.{Plan}
@@ -113,7 +115,7 @@ module _ (c : Chip) (file out lines : List ℕ) where
   unfolding answer
   refused_24 h = record { answers = rw h refl; table = refl; text = refl }
 
-  module _ (small : Bytes file) (good : salvageable c (taken file) ≡ true) (p : Plan) (kept log : List ℕ)
+  module _ (small : Bytes file) (good : salvageable c (taken file) ≡ true) (p : Plan) (kept : List Kept) (log : List Note)
       (w : Decided c (taken file) p kept log) where
     -- the new table, as it is laid out
     same_description : (b : Bool) (d : Description) → described_as (not b) d ≡ cond b d (unindexed_description d)
@@ -156,14 +158,13 @@ module _ (c : Chip) (file out lines : List ℕ) where
         }
 
     -- what the writing asks
-    pub fitting : p.len ≤ length out → Fitting c (taken file) kept p.kept p.len out
+    pub fitting : p.len ≤ length out → Fitting c (taken file) (take p.kept kept) p.len out
     fitting h =
         let s = (salvageable_says c (taken file)).0 good in
         record {
           ks = (after_all c (taken file)).kept;
           keeps = w.notes.keeps;
-          few = w.notes.few;
-          long = w.notes.kept_long;
+          few = omega (arith, length-take p.kept kept, w.notes.few);
           start = s.long;
           revised = s.revised;
           top = taken_top file;
@@ -173,8 +174,8 @@ module _ (c : Chip) (file out lines : List ℕ) where
           room = h;
         }
 
-    pub noted : Noted log p.lines
-    noted = record { ls = (after_all c (taken file)).lines; codes = w.notes.codes; few = w.notes.fitting; long = w.notes.log_long }
+    pub noted : Noted (take p.lines log)
+    noted = record { ls = (after_all c (taken file)).lines; codes = w.notes.codes; few = omega (arith, length-take p.lines log, w.notes.fitting) }
 
     -- and what it leaves
     put_over : {b text after : List ℕ} {end : ℕ} → Put b 0 text end after → (end ≡ length text) × (after ≡ overwritten 0 text b)
@@ -186,8 +187,8 @@ module _ (c : Chip) (file out lines : List ℕ) where
     pub done :
         {end : ℕ} {out' lines' : List ℕ}
         → p.len ≤ length out
-        → PutsTable c (taken file) kept p.kept p.cleared p.len out out'
-        → PutsLines log p.lines lines end lines'
+        → PutsTable c (taken file) (take p.kept kept) p.cleared p.len out out'
+        → PutsLines (take p.lines log) lines end lines'
         → Salvages c file out lines (Done p.len end) out' lines'
     unfolding answer new_text after_all
     done {end} {out'} {lines'} h a b =
@@ -203,7 +204,7 @@ module _ (c : Chip) (file out lines : List ℕ) where
 -- the same of the bytes as the code took them
 module _
     (c : Chip) (file t out lines : List ℕ) (same : t ≡ taken file) (small : Bytes file) (good : salvageable c t ≡ true)
-    (p : Plan) (kept log : List ℕ) (w : Decided c t p kept log)
+    (p : Plan) (kept : List Kept) (log : List Note) (w : Decided c t p kept log)
   where
     good_there : salvageable c (taken file) ≡ true
     good_there = sym (ap (salvageable c) same) ∙ good
@@ -214,20 +215,20 @@ module _
     pub no_room : length out < p.len → Salvages c file out lines (Refused 16 0) out lines
     no_room h = refused_16 c file out lines small good_there p kept log decided_there h
 
-    pub room_there : p.len ≤ length out → Fitting c t kept p.kept p.len out
+    pub room_there : p.len ≤ length out → Fitting c t (take p.kept kept) p.len out
     room_there h =
-        subst (λ (x : List ℕ). Fitting c x kept p.kept p.len out) (sym same)
+        subst (λ (x : List ℕ). Fitting c x (take p.kept kept) p.len out) (sym same)
         (fitting c file out lines small good_there p kept log decided_there h)
 
-    pub lines_there : Noted log p.lines
+    pub lines_there : Noted (take p.lines log)
     lines_there = noted c file out lines small good_there p kept log decided_there
 
     pub salvaged_there :
         {end : ℕ} {out' lines' : List ℕ}
         → p.len ≤ length out
-        → PutsTable c t kept p.kept p.cleared p.len out out'
-        → PutsLines log p.lines lines end lines'
+        → PutsTable c t (take p.kept kept) p.cleared p.len out out'
+        → PutsLines (take p.lines log) lines end lines'
         → Salvages c file out lines (Done p.len end) out' lines'
     salvaged_there {out' = out'} h a b =
         done c file out lines small good_there p kept log decided_there h
-        (subst (λ (x : List ℕ). PutsTable c x kept p.kept p.cleared p.len out out') same a) b
+        (subst (λ (x : List ℕ). PutsTable c x (take p.kept kept) p.cleared p.len out out') same a) b

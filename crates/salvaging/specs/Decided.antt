@@ -11,6 +11,8 @@ use Rattle.format.specs.declared.records.Description.{Description}
 use Rattle.flags.specs.Marks.{Marks, Lacks}
 use Rattle.saving.specs.Saving.{Line, line, cleared, Saved, records, string_indexes, in_zones, named, ending}
 use Rattle.fates.specs.Noted.{Each, Codes, Notes}
+use Rattle.fates.specs.declared.Kept.{Kept}
+use Rattle.fates.specs.declared.Note.{Note}
 use Rattle.fates.specs.declared.Counts.{Counts}
 use Rattle.scanning.specs.Scanned.{after_pass}
 use Rattle.mending.specs.Laid.{LengthIs}
@@ -33,10 +35,10 @@ after_all c t = ending (described c t) (in_zones (writing c) t)
 abbrev pub counts_of : Plan → Counts
 counts_of p = record { kept = p.kept; lines = p.lines }
 
-pub record Decided (c : Chip) (t : List ℕ) (p : Plan) (kept log : List ℕ) : Type 0 where
+pub record Decided (c : Chip) (t : List ℕ) (p : Plan) (kept : List Kept) (log : List Note) : Type 0 where
   pub notes : Notes c t kept log (counts_of p) (after_all c t)
   pub clears : p.cleared ≡ not (among (described c t).string (string_indexes (after_zones c t)))
-  pub size : LengthIs t kept p.kept p.len
+  pub size : LengthIs t (take p.kept kept) p.len
 
 -- no element can stand behind the description, whose string index is 0
 abbrev pub Alone : List ℕ → Type 0
@@ -47,21 +49,21 @@ abbrev pub Complete : List Bool → List Bool → List Bool → List Bool → �
 Complete zs ss zu su clash = Lacks zu zs false × Lacks su ss false × (clash ≡ 65536)
 
 -- what 13, 14 and 15 start from, after the pass
-pub record Passed (c : Chip) (t kept log : List ℕ) (zs ss : List Bool) (n : Counts) : Type 0 where
+pub record Passed (c : Chip) (t : List ℕ) (kept : List Kept) (log : List Note) (zs ss : List Bool) (n : Counts) : Type 0 where
   pub notes : Notes c t kept log n (after_pass c t)
   pub zone : Marks zs (zones (records (after_pass c t).kept))
   pub index : Marks ss (string_indexes (after_zones c t))
   pub few_lines : n.lines ≤ 1360
 
 -- the plan of what is noted
-pub record PlanIs (t kept : List ℕ) (n : Counts) (clears : Bool) (p : Plan) : Type 0 where
+pub record PlanIs (t : List ℕ) (kept : List Kept) (n : Counts) (clears : Bool) (p : Plan) : Type 0 where
   pub keeps : p.kept ≡ n.kept
   pub lines : p.lines ≡ n.lines
   pub clear : p.cleared ≡ clears
-  pub size : LengthIs t kept n.kept p.len
+  pub size : LengthIs t kept p.len
 
 -- the description's line, where there is one
-pub record NotesFirst (log : List ℕ) (n : ℕ) (clear : Bool) (r : ℕ) (log' : List ℕ) : Type 0 where
+pub record NotesFirst (log : List Note) (n : ℕ) (clear : Bool) (r : ℕ) (log' : List Note) : Type 0 where
   pub long : length log' ≡ length log
   pub more : r ≤ n + 1
   pub notes :

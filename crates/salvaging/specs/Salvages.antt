@@ -3,7 +3,7 @@
 use Rattle.std.specs.Prelude.{ℕ, ◌≡◌, List, length}
 use Rattle.format.specs.declared.pins.Chip.{Chip}
 use Rattle.saving.specs.Lines.{answer, new_table, new_text, leaves_of}
-use Rattle.saving.specs.declared.Salvaged.{Salvaged}
+use Rattle.saving.specs.Salvaged.{Salvaged}
 
 pub record Salvages (c : Chip) (file out lines : List ℕ) (r : Salvaged) (out' lines' : List ℕ) : Type 0 where
   pub answers : r ≡ answer c file (length out)

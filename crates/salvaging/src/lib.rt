@@ -1,7 +1,8 @@
 // Saving what can be saved of a damaged table, as one call, with the ordinary rules. Memory holds no record: of each element that is
-// kept its old place, and of each change a number. Everything is decided before a byte is written.
+// kept its old place, and of each change its place and its rule. Everything is decided before a byte is written.
 #![tactic(auto)]
 
+ghost use Rattle.saving.specs.Salvaged.{salvaged};
 ghost use Rattle.std.specs.Prelude.{◌≡◌, true, ◌<◌, ◌≤◌, length};
 ghost use Rattle.format.specs.Slots.{Bytes};
 ghost use Rattle.format.specs.Claims.{made_at, first_claims};
@@ -15,12 +16,13 @@ ghost use Rattle.salvaging.specs.Salvages.{Salvages};
 
 use changes::put_lines;
 use claims::Held;
-use fates::Counts;
+use fates::{Counts, Kept, Note};
 use flags::lacks;
+use format::answers::{Refusal, Rule};
 use format::pins::Chip;
 use mending::{new_length, put_opening, put_table};
 use pass::State;
-use saving::Salvaged;
+use saving::Lengths;
 use scanning::{Passage, scan};
 use sifting::{Stage, sift};
 use words::wide;
@@ -34,31 +36,54 @@ struct Plan {
     len: usize,
 }
 
+// What stands in the two arrays at first.
+const NOBODY: Kept = Kept {
+    place: 0,
+    cleared: false,
+};
+
+const NOTHING: Note = Note {
+    place: 0,
+    number: 0,
+    cleared: false,
+};
+
 // The new table at the front of `out` and the text of the lines at the front of `lines`, with both lengths; or 24 at 0, or 16 at 0 where
 // the table does not fit. With a refusal no byte of the two alters. Only the first 4,096 bytes of the file are looked at.
-pub fn salvage(file: &[u8], out: &mut [u8], lines: &mut [u8; 32768], chip: Chip) -> Salvaged
-    ensures { Salvages chip file.now out.old lines.old result out.new lines.new }
+pub fn salvage(
+    file: &[u8],
+    out: &mut [u8],
+    lines: &mut [u8; 32768],
+    chip: Chip,
+) -> Result<Lengths, Refusal>
+    ensures { Salvages chip file.now out.old lines.old (salvaged result) out.new lines.new }
 {
     let t = taken(file);
     if !sound(t, chip) {
-        return Salvaged::Refused(24, 0);
+        return Err(Rule::Lost.at(0));
     }
     if alone(t) {
         if out.len() < 16 {
-            return Salvaged::Refused(16, 0);
+            return Err(Rule::NoRoom.at(0));
         }
         put_opening(t, false, 16, out, chip);
-        return Salvaged::Done(16, 0);
+        return Ok(Lengths {
+            table: 16,
+            lines: 0,
+        });
     }
-    let mut kept = [0usize; 96];
-    let mut log = [0usize; 1649];
+    let mut kept = [NOBODY; 96];
+    let mut log = [NOTHING; 1649];
     let plan = decide(t, &mut kept, &mut log, chip);
     if out.len() < plan.len {
-        return Salvaged::Refused(16, 0);
+        return Err(Rule::NoRoom.at(0));
     }
-    put_table(t, &kept, plan.kept, plan.cleared, plan.len, out, chip);
-    let end = put_lines(&log, plan.lines, lines);
-    Salvaged::Done(plan.len, end)
+    put_table(t, &kept[..plan.kept], plan.cleared, plan.len, out, chip);
+    let end = put_lines(&log[..plan.lines], lines);
+    Ok(Lengths {
+        table: plan.len,
+        lines: end,
+    })
 }
 
 // The first 4,096 bytes of a file.
@@ -82,7 +107,7 @@ fn sound(t: &[u8], chip: Chip) -> bool
         return false;
     }
     let d = fields::description(t, chip);
-    if rules::description_breaks(d, chip) != 0 {
+    if let Err(_) = rules::description_breaks(d, chip) {
         return false;
     }
     let held = claims::first_claims(d);
@@ -102,7 +127,7 @@ fn alone(t: &[u8]) -> bool
 
 // What is kept and what is changed, of bytes with a sound description: the pass, then 13, 14 and 15, unless the pass shows that none of
 // the three changes anything.
-fn decide(t: &[u8], kept: &mut [usize; 96], log: &mut [usize; 1649], chip: Chip) -> Plan
+fn decide(t: &[u8], kept: &mut [Kept; 96], log: &mut [Note; 1649], chip: Chip) -> Plan
     requires { (length t.now ≤ 4096) × Bytes t.now × (salvageable chip t.now ≡ true) × (length kept.old ≡ 96)
         × (length log.old ≡ 1649) }
     ensures { Decided chip t.now result kept.new log.new }
@@ -116,7 +141,7 @@ fn decide(t: &[u8], kept: &mut [usize; 96], log: &mut [usize; 1649], chip: Chip)
     ss[0] = true;
     let n = a.n;
     if complete(&zs, &ss, &zu, &su, a.clash) {
-        return planned(t, kept, n, false);
+        return planned(t, &kept[..n.kept], n, false);
     }
     choose(t, held, kept, log, &zs, &ss, n, chip)
 }
@@ -144,8 +169,8 @@ fn complete(
 fn choose(
     t: &[u8],
     held: Held,
-    kept: &mut [usize; 96],
-    log: &mut [usize; 1649],
+    kept: &mut [Kept; 96],
+    log: &mut [Note; 1649],
     zs: &[bool; 256],
     ss: &[bool; 256],
     n: Counts,
@@ -155,13 +180,12 @@ fn choose(
         × HeldIs held (made_at 0 (first_claims (described chip t.now))) × Passed chip t.now kept.old log.old zs.now ss.now n }
     ensures { Decided chip t.now result kept.new log.new }
 {
-    let mut one = [0usize; 96];
-    let mut two = [0usize; 96];
+    let mut one = [NOBODY; 96];
+    let mut two = [NOBODY; 96];
     let a = sift(
         t,
         Stage::Zones,
-        kept,
-        n.kept,
+        &kept[..n.kept],
         zs,
         held,
         &mut one,
@@ -175,8 +199,7 @@ fn choose(
     let b = sift(
         t,
         Stage::Strings,
-        &one,
-        a.kept,
+        &one[..a.kept],
         ss,
         held,
         &mut two,
@@ -187,8 +210,7 @@ fn choose(
     let c = sift(
         t,
         Stage::Pins,
-        &two,
-        b.kept,
+        &two[..b.kept],
         ss,
         held,
         kept,
@@ -196,19 +218,19 @@ fn choose(
         b.lines,
         chip,
     );
-    planned(t, kept, c, cleared)
+    planned(t, &kept[..c.kept], c, cleared)
 }
 
 // The plan of what is noted.
-fn planned(t: &[u8], kept: &[usize; 96], n: Counts, cleared: bool) -> Plan
-    requires { Listed t.now kept.now n.kept }
+fn planned(t: &[u8], kept: &[Kept], n: Counts, cleared: bool) -> Plan
+    requires { Listed t.now kept.now }
     ensures { PlanIs t.now kept.now n cleared result }
 {
     Plan {
         kept: n.kept,
         lines: n.lines,
         cleared,
-        len: new_length(t, kept, n.kept),
+        len: new_length(t, kept),
     }
 }
 
@@ -216,8 +238,8 @@ fn planned(t: &[u8], kept: &[usize; 96], n: Counts, cleared: bool) -> Plan
 fn pass(
     t: &[u8],
     held: Held,
-    kept: &mut [usize; 96],
-    log: &mut [usize; 1649],
+    kept: &mut [Kept; 96],
+    log: &mut [Note; 1649],
     zs: &mut [bool; 256],
     ss: &mut [bool; 256],
     zu: &mut [bool; 256],
@@ -244,13 +266,17 @@ fn pass(
     scan(t, start, kept, log, zs, ss, zu, su, chip)
 }
 
-// The line of the description, whose place is 0: 2 x 14 + 1.
-fn note_first(log: &mut [usize; 1649], n: usize, cleared: bool) -> usize
+// The line of the description, whose place is 0.
+fn note_first(log: &mut [Note; 1649], n: usize, cleared: bool) -> usize
     requires { n < 1649 }
     ensures { NotesFirst log.old n cleared result log.new }
 {
     if cleared {
-        log[n] = 29;
+        log[n] = Note {
+            place: 0,
+            number: 14,
+            cleared: true,
+        };
         return n + 1;
     }
     n

@@ -17,7 +17,7 @@ use Rattle.spelling.specs.Spelling.{decimal}
 use Rattle.saving.specs.Saving.{taken, salvageable}
 use Rattle.saving.specs.Lines.{text_of, new_table, new_text, answer}
 use Rattle.saving.specs.Known.{Row, salvages, by_chip, lost, full}
-use Rattle.saving.specs.declared.Salvaged.TheVariants.{Refused}
+use Rattle.saving.specs.Salvaged.{Refused}
 
 -- the test that is computed
 abbrev same : List ℕ → List ℕ → Bool

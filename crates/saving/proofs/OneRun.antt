@@ -17,8 +17,8 @@ use Rattle.format.specs.Verdict.{stated, framed, Stands, Breaks, Verdict}
 use Rattle.format.specs.Reader.{took, step}
 use Rattle.format.specs.declared.records.Description.{Description}
 use Rattle.format.specs.declared.settings.Settings.{Settings}
-use Rattle.format.specs.declared.answers.Answer.{Answer}
-use Rattle.format.specs.declared.answers.Answer.TheVariants.{Accepted, Refused}
+use Rattle.format.specs.Answers.{Answer}
+use Rattle.format.specs.Answers.{Gives as Accepted, Refused}
 use Rattle.format.proofs.Slots.{roomy_split, roomy_join}
 use Rattle.format.proofs.Written.{written_bytes}
 use Rattle.format.proofs.Decoding.{stands_decoded}
@@ -136,7 +136,7 @@ module _ (σ : Settings) where
       let same : written (table d' (records ks')) ≡ written (table d (records ks)) = cc in
       unique σ (written (table d (records ks))) x y (room_bytes ks h) v (subst (λ (b : List ℕ). Verdict σ b y) same w)
 
-  number : {n m p q : ℕ} → Refused n p ≡ Refused m q → (n ≡ m) × (p ≡ q)
+  number : {n m p q : ℕ} → ◌≡◌ {A = Answer} (Refused n p) (Refused m q) → (n ≡ m) × (p ≡ q)
   number e = (cc, cc)
 
   never : {n m p : ℕ} → Accepted n ≡ Refused m p → ⊥

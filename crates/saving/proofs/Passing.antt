@@ -18,7 +18,7 @@ use Rattle.format.specs.Verdict.{stated, framed, Stands, Breaks, header, crowded
 use Rattle.format.specs.Reader.{Outcome, took, stop, step}
 use Rattle.format.specs.declared.records.Description.{Description}
 use Rattle.format.specs.declared.settings.Settings.{Settings}
-use Rattle.format.specs.declared.answers.Answer.TheVariants.{Refused}
+use Rattle.format.specs.Answers.{Refused}
 use Rattle.format.proofs.Kept.{described_kind, unbroken_kind}
 use Rattle.format.proofs.Slots.{roomy_join, bytes_drop, starts_length, starts_roomy}
 use Rattle.format.proofs.Decoding.{starts_stated}

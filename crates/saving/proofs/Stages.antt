@@ -19,7 +19,7 @@ use Rattle.format.specs.Claims.{contested}
 use Rattle.format.specs.Verdict.{Verdict, unzoned, unnamed, clashing}
 use Rattle.format.specs.declared.records.Description.{Description}
 use Rattle.format.specs.declared.settings.Settings.{Settings}
-use Rattle.format.specs.declared.answers.Answer.TheVariants.{Refused}
+use Rattle.format.specs.Answers.{Refused}
 use Rattle.format.proofs.Growing.{gathered_append}
 use Rattle.removal.specs.Parts.{Part, keep, leave}
 use Rattle.removal.specs.Taking.{zones_named, strings_named}

@@ -25,7 +25,7 @@ use Rattle.format.specs.Decode.{read_description}
 use Rattle.format.specs.Writing.{writing}
 use Rattle.format.specs.declared.pins.Chip.{Chip}
 use Rattle.format.specs.declared.records.Description.{Description}
-use Rattle.format.specs.declared.answers.Answer.TheVariants.{Accepted}
+use Rattle.format.specs.Answers.{Gives as Accepted}
 use Rattle.format.proofs.Kept.{and-true, unless_none, described_kind}
 use Rattle.format.proofs.Slots.{bytes_take, bytes_drop, over_starts, starts_roomy}
 use Rattle.format.proofs.EachKind.{description_fits}
@@ -39,7 +39,7 @@ use Rattle.removal.proofs.Keeping.{opening_roomy}
 use Rattle.saving.specs.Saving.{At, Line, taken, is_none, sound, salvageable, Saved, saved, records, passed, zoned}
 use Rattle.saving.specs.Saving.{string_indexes, mended_description, unclashed, in_zones, ending}
 use Rattle.saving.specs.Lines.{text_of, table_of, new_table, new_text, answer}
-use Rattle.saving.specs.declared.Salvaged.TheVariants.{Done, Refused}
+use Rattle.saving.specs.Salvaged.{Done, Refused}
 use Rattle.saving.proofs.Bounds.{table_short}
 use Rattle.saving.proofs.Keeping.{none_is, Sound, in_zones_lem, ending_keeps}
 use Rattle.saving.specs.Repairing.{RepairsPass}

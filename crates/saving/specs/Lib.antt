@@ -1,3 +1,4 @@
+pub mod Salvaged
 pub mod Saving
 pub mod Lines
 pub mod Known

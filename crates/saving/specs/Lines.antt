@@ -10,8 +10,8 @@ use Rattle.format.specs.declared.records.Description.{Description}
 use Rattle.spelling.specs.Spelling.{decimal}
 use Rattle.saving.specs.Saving.{taken, salvageable, Change, left_out, cleared, Line, Saved, records, string_indexes}
 use Rattle.saving.specs.Saving.{mended_description, in_zones, ending}
-use Rattle.saving.specs.declared.Salvaged.{Salvaged}
-use Rattle.saving.specs.declared.Salvaged.TheVariants.{Done, Refused}
+use Rattle.saving.specs.Salvaged.{Salvaged}
+use Rattle.saving.specs.Salvaged.{Done, Refused}
 
 -- `left out` or `cleared`
 abbrev pub change_text : Change → List ℕ

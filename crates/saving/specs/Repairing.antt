@@ -10,7 +10,7 @@ use Rattle.format.specs.Table.{element_breaks}
 use Rattle.format.specs.Verdict.{stated, framed, Stands, Breaks, Verdict}
 use Rattle.format.specs.declared.settings.Settings.{Settings}
 use Rattle.format.specs.declared.records.Description.{Description}
-use Rattle.format.specs.declared.answers.Answer.TheVariants.{Accepted, Refused}
+use Rattle.format.specs.Answers.{Gives as Accepted, Refused}
 use Rattle.saving.specs.Saving.{At, at_place, Line, line, left_out, cleared, records, unindexed, unindexed_description}
 
 -- 13 to 15, of a table that is a description and records with their old places: the lines that are made, and what is left in the end

@@ -7,9 +7,9 @@
 //         Passing.
 #![tactic(auto)]
 
-// What salvage answers: done, with the length of the new table and that of the text of its lines; or the number and the place of a refusal.
+// What salvage writes: the length of the new table, and that of the text of its lines.
 #[derive(Clone, Copy)]
-pub enum Salvaged {
-    Done(usize, usize),
-    Refused(u8, usize),
+pub struct Lengths {
+    pub table: usize,
+    pub lines: usize,
 }

@@ -1,6 +1,6 @@
 -- The code's pass is the one that is defined: what is left to do ends where the whole ends.
 -- Assumes nothing.
-use Prim.Native.Nat.{ℕ, zero, suc, ◌+◌, ◌-◌, ◌*◌, ◌%◌, ◌<◌, ◌≤◌}
+use Prim.Native.Nat.{ℕ, zero, suc, ◌+◌, ◌-◌, ◌*◌, ◌<◌, ◌≤◌}
 use native.Mathlib.Omega.{arith}
 use mathlib.Core.Path.{◌≡◌, refl, sym, ◌∙◌, ap, subst}
 use mathlib.Core.Bool.{true, false}
@@ -28,10 +28,12 @@ use Rattle.format.proofs.Growing.{place_snoc}
 use Rattle.pass.specs.Tracks.{Flags, Low, Tracks, WalkIs}
 use Rattle.pass.proofs.Walking.{took_stated}
 use Rattle.pass.specs.declared.State.{State}
-use Rattle.pass.specs.declared.Over.{Over}
+use Rattle.pass.specs.Steps.{Over}
 use Rattle.saving.specs.Saving.{At, at_place, standing, Saved, saved, records, settled, sift, answered, by_pass}
 use Rattle.saving.specs.Saving as saving
 use Rattle.fates.specs.Noted.{Keeps, Notes, Tells, Settles}
+use Rattle.fates.specs.declared.Kept.{Kept}
+use Rattle.fates.specs.declared.Note.{Note}
 use Rattle.fates.specs.declared.Counts.{Counts}
 use Rattle.fates.specs.declared.Fate.{Fate}
 use Rattle.fates.proofs.Noting.{each_length}
@@ -47,6 +49,10 @@ pub records_length : (ks : List (At Record)) → length (records ks) ≡ length 
 records_length [] = refl
 records_length (k ∷ ks) = ap suc (records_length ks)
 
+-- what is held of an element as it stands
+abbrev standing_at : ℕ → Kept
+standing_at at = record { place = at; cleared = false }
+
 -- what the reader took from the bytes at a place is held there
 keeps_taken :
     (c : Chip) (t : List ℕ) (at : ℕ) (before : List Record) (x : Record)
@@ -54,18 +60,17 @@ keeps_taken :
     → stated (drop at t) ≤ length (drop at t)
     → 3 ≤ stated (drop at t)
     → step (writing c) before (drop at t) ≡ took x
-    → Keeps c t (2 * at) (at_place at x)
+    → Keeps c t (standing_at at) (at_place at x)
 keeps_taken c t at before x small fits low e =
     let bs = drop at t in
     go (step (writing c) before bs) e (step_meets (writing c) before bs (bytes_drop at t small) (omega (arith, fits, low)))
   where
-    go : (o : Outcome) → o ≡ took x → Meets (writing c) before (drop at t) o → Keeps c t (2 * at) (at_place at x)
+    go : (o : Outcome) → o ≡ took x → Meets (writing c) before (drop at t) o → Keeps c t (standing_at at) (at_place at x)
     go (stop k) q m = let z : ◌≡◌ {A = ℕ} 0 1 = cc in absurd (omega arith)
     go (took y) q m =
         let z : y ≡ x = cc in
         let s = subst (λ (r : Record). Starts (drop at t) (layout r) (drop (stated (drop at t)) (drop at t))) z m.2 in
         let b = subst (λ (r : Record). element_breaks (writing c) before r ≡ none) z m.1 in
-        let even : 2 * at % 2 ≡ 0 = omega arith in
         record {
           r = x;
           here =
@@ -75,12 +80,12 @@ keeps_taken c t at before x small fits low e =
                 within = omega (arith, fits, low, length-drop at t);
               };
           unbroken = own_unbroken (writing c) before x b;
-          place = omega arith;
-          what = rw even refl;
+          place = refl;
+          what = refl;
         }
 
 -- THE INVARIANT
-pub record Scanning (c : Chip) (t kept log : List ℕ) (f : Flags) (n : Counts) (s : State) (end at : ℕ) : Type 0 where
+pub record Scanning (c : Chip) (t : List ℕ) (kept : List Kept) (log : List Note) (f : Flags) (n : Counts) (s : State) (end at : ℕ) : Type 0 where
   pub so_far : Saved
   pub fuel : ℕ
   pub enough : length (drop at t) ≤ fuel
@@ -92,7 +97,7 @@ pub record Scanning (c : Chip) (t kept log : List ℕ) (f : Flags) (n : Counts) 
   pub onward : sift (by_pass (writing c)) so_far (standing fuel at (drop at t)) ≡ after_pass c t
 
 pub begun :
-    (c : Chip) (t kept log : List ℕ) (f : Flags) (n : Counts) (s : State)
+    (c : Chip) (t : List ℕ) (kept : List Kept) (log : List Note) (f : Flags) (n : Counts) (s : State)
     → length kept ≡ 96
     → length log ≡ 1649
     → n.kept ≡ 0
@@ -129,7 +134,7 @@ full_sift σ s [] h = refl
 full_sift σ s (x ∷ xs) h = rw (le-ltb (length (records s.kept)) 96 h) (full_sift σ s xs h)
 
 module _
-    (c : Chip) (t kept log : List ℕ) (f : Flags) (n : Counts) (s : State) (end at : ℕ) (w : Scanning c t kept log f n s end at)
+    (c : Chip) (t : List ℕ) (kept : List Kept) (log : List Note) (f : Flags) (n : Counts) (s : State) (end at : ℕ) (w : Scanning c t kept log f n s end at)
   where
     abbrev before : List Record
     before = records w.so_far.kept
@@ -172,12 +177,12 @@ not_zero zero h = refl
 not_zero (suc n) h = absurd (h (λ e. omega arith))
 
 module _
-    (c : Chip) (t kept log : List ℕ) (f : Flags) (n : Counts) (s : State) (end at : ℕ) (w : Scanning c t kept log f n s end at)
+    (c : Chip) (t : List ℕ) (kept : List Kept) (log : List Note) (f : Flags) (n : Counts) (s : State) (end at : ℕ) (w : Scanning c t kept log f n s end at)
     (small : Bytes t) (len : ℕ) (states : len ≡ stated (drop at t)) (low : 3 ≤ len) (fits : len ≤ length t - at) (inside : at ≤ length t)
     (room : n.kept < 96) (r : Over) (g : Flags)
     (walk : WalkIs (writing c) (take (at + len - at) (drop at t)) end s f r g)
     (fate : Fate) (fated : FateOf r.stop fate)
-    (m : Counts) (kept' log' : List ℕ) (settle : Settles kept log n (2 * at) fate m kept' log')
+    (m : Counts) (kept' : List Kept) (log' : List Note) (settle : Settles kept log n (standing_at at) fate m kept' log')
     (grow : ℕ) (grows : (r.stop ≡ 0 → grow ≡ len) × ((r.stop ≡ 0 → ⊥) → grow ≡ 0) × (grow ≤ len))
   where
     abbrev here : List ℕ
@@ -199,7 +204,7 @@ module _
     again :
         (o : Outcome)
         → step (writing c) so here ≡ o
-        → Tells c t (2 * at) at fate (answered o)
+        → Tells c t (standing_at at) at fate (answered o)
         → Tracks (read_description c (byte t)) r.state g (records (settled w.so_far at (answered o)).kept)
         → end + grow ≡ place_after (records (settled w.so_far at (answered o)).kept)
         → Scanning c t kept' log' g m r.state (end + grow) (at + len)
@@ -257,7 +262,7 @@ module _
         → Scanning c t kept' log' g m r.state (end + grow) (at + len)
     left_out k e j z q =
         again (stop k) e
-        (rw (fated.bad z) (sym j, omega arith))
+        (rw (fated.bad z) (sym j, refl))
         q
         (omega (arith, w.place, grows.1 z))
 

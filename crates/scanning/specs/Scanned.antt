@@ -10,6 +10,8 @@ use Rattle.pass.specs.Tracks.{Flags, Tracks}
 use Rattle.pass.specs.declared.State.{State}
 use Rattle.saving.specs.Saving.{Saved, records, passed}
 use Rattle.fates.specs.Noted.{Notes}
+use Rattle.fates.specs.declared.Kept.{Kept}
+use Rattle.fates.specs.declared.Note.{Note}
 use Rattle.fates.specs.declared.Fate.{Fate}
 use Rattle.fates.specs.declared.Fate.TheVariants.{Stays, Leaves}
 use Rattle.scanning.specs.declared.Passage.{Passage}
@@ -18,7 +20,7 @@ use Rattle.scanning.specs.declared.Passage.{Passage}
 unfoldable pub after_pass : Chip → List ℕ → Saved
 after_pass c t = passed (writing c) t
 
-pub record Scanned (c : Chip) (t kept log : List ℕ) (f : Flags) (r : Passage) : Type 0 where
+pub record Scanned (c : Chip) (t : List ℕ) (kept : List Kept) (log : List Note) (f : Flags) (r : Passage) : Type 0 where
   pub notes : Notes c t kept log r.n (after_pass c t)
   pub state : State
   pub tracks : Tracks (read_description c (byte t)) state f (records (after_pass c t).kept)

@@ -2,13 +2,15 @@
 // out. The reader's own pass judges each, against those that are kept so far.
 #![tactic(auto)]
 
+ghost use Rattle.pass.specs.Steps.{stop_number};
 ghost use Rattle.std.specs.Prelude.{◌≡◌, [], ◌≤◌, length};
 ghost use Rattle.format.specs.Slots.{byte, Bytes};
 ghost use Rattle.format.specs.Decode.{read_description};
 ghost use Rattle.pass.specs.Tracks.{flags, Tracks};
 ghost use Rattle.scanning.specs.Scanned.{Scanned, FateOf};
 
-use fates::{Counts, Fate, counted, settle};
+use fates::{Counts, Fate, Kept, Note, counted, settle};
+use format::answers::Rule;
 use format::pins::Chip;
 use format::settings::{Rules, Settings};
 use pass::{State, walk};
@@ -25,8 +27,8 @@ pub struct Passage {
 pub fn scan(
     t: &[u8],
     start: State,
-    kept: &mut [usize; 96],
-    log: &mut [usize; 1649],
+    kept: &mut [Kept; 96],
+    log: &mut [Note; 1649],
     zs: &mut [bool; 256],
     ss: &mut [bool; 256],
     zu: &mut [bool; 256],
@@ -61,7 +63,11 @@ pub fn scan(
         }
         let next = at + len;
         let r = walk(&t[at..next], end, s, zs, ss, zu, su, settings);
-        n = settle(kept, log, n, 2 * at, fate_of(r.stop));
+        let held = Kept {
+            place: at as u16,
+            cleared: false,
+        };
+        n = settle(kept, log, n, held, fate_of(r.stop));
         end += grown(r.stop, len);
         s = r.state;
         at = next;
@@ -80,19 +86,21 @@ fn summed(n: Counts, s: State) -> Passage
 }
 
 // What the pass's answer to one element makes of it.
-fn fate_of(stop: u8) -> Fate
-    ensures { FateOf stop result }
+fn fate_of(stop: Option<Rule>) -> Fate
+    ensures { FateOf (stop_number stop) result }
 {
-    if stop == 0 {
-        Fate::Stays
-    } else {
-        Fate::Leaves(stop)
+    match stop {
+        None => Fate::Stays,
+        Some(rule) => Fate::Leaves(rule.number()),
     }
 }
 
 // By how much the new table grows.
-fn grown(stop: u8, len: usize) -> usize
-    ensures { (stop ≡ 0 → result ≡ len) × ((stop ≡ 0 → ⊥) → result ≡ 0) × (result ≤ len) }
+fn grown(stop: Option<Rule>, len: usize) -> usize
+    ensures { (stop_number stop ≡ 0 → result ≡ len) × ((stop_number stop ≡ 0 → ⊥) → result ≡ 0) × (result ≤ len) }
 {
-    if stop == 0 { len } else { 0 }
+    match stop {
+        None => len,
+        Some(_) => 0,
+    }
 }

@@ -11,8 +11,8 @@ use Rattle.format.specs.Verdict.{stated}
 use Rattle.format.specs.declared.settings.Settings.{Settings}
 use Rattle.format.specs.declared.records.Description.{Description}
 use Rattle.format.specs.declared.records.Element.{Element}
-use Rattle.format.specs.declared.answers.Answer.{Answer}
-use Rattle.format.specs.declared.answers.Written.TheVariants.{Length}
+use Rattle.format.specs.Answers.{Answer}
+use Rattle.format.specs.Answers.{Gives as Length}
 use Rattle.writer.specs.Calls.{Appended}
 use Rattle.demands.proofs.Appending.{appended_one, appended_records}
 use Rattle.pinsheet.specs.Sheet.{sheet, forward}

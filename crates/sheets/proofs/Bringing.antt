@@ -13,7 +13,7 @@ use Rattle.format.specs.Rules.{pinned}
 use Rattle.format.specs.Claims.{Made, made_at, claims_of}
 use Rattle.format.specs.Verdict.{Accepts, Verdict, accepted}
 use Rattle.format.specs.declared.settings.Settings.{Settings}
-use Rattle.format.specs.declared.answers.Answer.TheVariants.{Accepted}
+use Rattle.format.specs.Answers.{Gives as Accepted}
 use Rattle.format.proofs.Demand3.{unique}
 use Rattle.walking.specs.Walk.{Here, Walk, Located}
 use Rattle.walking.proofs.Left.{Next, next, top}

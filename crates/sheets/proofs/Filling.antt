@@ -14,7 +14,7 @@ use Rattle.format.specs.Decode.{read_description}
 use Rattle.format.specs.Verdict.{stated, Verdict}
 use Rattle.format.specs.declared.settings.Settings.{Settings}
 use Rattle.format.specs.declared.records.Description.{Description}
-use Rattle.format.specs.declared.answers.Answer.TheVariants.{Accepted}
+use Rattle.format.specs.Answers.{Gives as Accepted}
 use Rattle.format.proofs.Kept.{own_kept, own_unbroken}
 use Rattle.walking.specs.Walk.{Here, Walk}
 use Rattle.walking.proofs.Left.{Next, begin, onward, ended, reads}

@@ -17,8 +17,9 @@ use Rattle.format.specs.Claims.{Claim, claim, alone, Made, made_at, own, own_use
 use Rattle.format.specs.Decode.{pick_pin, pin_of, optional_of, read_description}
 use Rattle.format.specs.declared.pins.Chip.{Chip}
 use Rattle.format.specs.declared.pins.Pin.{Pin}
-use Rattle.format.specs.declared.pins.OptionalPin.{OptionalPin}
-use Rattle.format.specs.declared.pins.OptionalPin.TheVariants.{Unused, Used}
+use Rattle.std.specs.Prelude.{Option}
+use Rattle.format.specs.declared.pins.Pin.{Pin}
+use Rattle.std.specs.Prelude.{None, Some}
 use Rattle.format.specs.declared.pins.Use.TheVariants.{ChipSelect}
 use Rattle.format.specs.declared.records.Address.{Address}
 use Rattle.format.specs.declared.records.Address.TheVariants.{Bus, Select}
@@ -45,12 +46,12 @@ module _ (p : ℕ) (pin : among p every ≡ true) where
   none : eqb p 0xff ≡ false
   none = not-true (eqb p 0xff) (at_among every (λ q. not (eqb q 0xff)) refl p pin)
 
-  used : (o : OptionalPin) → among p (named (own_used o)) ≡ eqb p (optional_byte o)
-  used Unused = sym none
-  used (Used q) = or-false (eqb p q.0)
+  used : (o : Option Pin) → among p (named (own_used o)) ≡ eqb p (optional_byte o)
+  used None = sym none
+  used (Some q) = or-false (eqb p q.0)
 
   three_used :
-      (a b c : OptionalPin)
+      (a b c : Option Pin)
       → among p (named (own_used a ++ own_used b ++ own_used c)) ≡ is_one p (three (optional_byte a) (optional_byte b) (optional_byte c))
   three_used a b c =
       rw (named_append p (own_used a ++ own_used b) (own_used c), named_append p (own_used a) (own_used b), used a, used b, used c)

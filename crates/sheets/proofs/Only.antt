@@ -16,8 +16,8 @@ use Rattle.format.specs.Pins.{every}
 use Rattle.format.specs.Verdict.{Verdict, accepted}
 use Rattle.format.specs.declared.settings.Settings.{Settings}
 use Rattle.format.specs.declared.records.Description.{Description}
-use Rattle.format.specs.declared.answers.Answer.{Answer}
-use Rattle.format.specs.declared.answers.Answer.TheVariants.{Accepted, Refused}
+use Rattle.format.specs.Answers.{Answer}
+use Rattle.format.specs.Answers.{Gives as Accepted, Refused}
 use Rattle.format.proofs.Asking.{never_both}
 use Rattle.format.proofs.Demand3.{unique, only_one_list}
 use Rattle.pinsheet.specs.Sheet.{Claimant, free, fault, place}

@@ -6,8 +6,8 @@ use Rattle.format.specs.Pins.{every}
 use Rattle.format.specs.Verdict.{Accepts, Verdict}
 use Rattle.format.specs.declared.settings.Settings.{Settings}
 use Rattle.format.specs.declared.records.Description.{Description}
-use Rattle.format.specs.declared.answers.Answer.{Answer}
-use Rattle.format.specs.declared.answers.Answer.TheVariants.{Accepted, Refused}
+use Rattle.format.specs.Answers.{Answer}
+use Rattle.format.specs.Answers.{Gives as Accepted, Refused}
 use Rattle.pinsheet.specs.Sheet.{Claimant, free, fault, place}
 
 -- a claimant as a number: 65,535 is free, 65,534 the fault LED, any other the place

@@ -3,6 +3,7 @@
 #![tactic(auto)]
 
 ghost use Rattle.std.specs.Prelude.{◌≡◌, true, [], ℕ, ◌<◌, ◌≤◌, length, get_or};
+ghost use Rattle.format.specs.Answers.{told};
 ghost use Rattle.format.specs.Slots.{byte, Bytes};
 ghost use Rattle.format.specs.Pins.{every};
 ghost use Rattle.format.specs.Records.{Record};
@@ -10,7 +11,7 @@ ghost use Rattle.format.specs.Rules.{pinned};
 ghost use Rattle.format.specs.Claims.{made_at, claims_of};
 ghost use Rattle.format.specs.Decode.{read_description};
 ghost use Rattle.format.specs.Verdict.{Verdict};
-ghost use Rattle.format.specs.declared.answers.Answer.TheVariants.{Accepted};
+ghost use Rattle.format.specs.Answers.{Gives as Accepted};
 ghost use Rattle.shown.specs.Own.{three as threeOf};
 ghost use Rattle.walking.specs.Walk.{Here};
 ghost use Rattle.pinsheet.specs.Sheet.{blank, entered, sheet as sheetOf, forward as forwardOf};
@@ -18,36 +19,30 @@ ghost use Rattle.sheets.specs.Lines.{read, line_from, Lines, Filled, Leaves};
 ghost use Rattle.sheets.specs.Named.{is_one, by_pins, bus_pins, shared_pins};
 
 use elements::id_of;
-use format::answers::Answer;
+use format::answers::Refusal;
 use format::pins::Chip;
 use format::settings::Settings;
 use shown::{OwnPins, shown};
-use walking::{element_at, length_at, part_at, place_of};
+use walking::{Places, element_at, part_at, place_of};
 
 // The sheet of a table, made afresh; with a refusal, the table's, the old one is kept.
-pub fn make(table: &[u8], sheet: &mut [u16; 25], settings: Settings) -> Answer
-    ensures { Leaves settings table.now sheetOf sheet.old result sheet.new }
+pub fn make(table: &[u8], sheet: &mut [u16; 25], settings: Settings) -> Result<usize, Refusal>
+    ensures { Leaves settings table.now sheetOf sheet.old (told result) sheet.new }
 {
-    let answer = reader::check(table, settings);
-    let Answer::Accepted(_) = answer else {
-        return answer;
-    };
+    let count = reader::check(table, settings)?;
     fill(table, sheet, settings);
-    answer
+    Ok(count)
 }
 
 // The sheet of a table before its last element was appended, brought forward: of the elements only the last is looked at. With a
 // refusal, the new table's, the old sheet is kept.
-pub fn forward(table: &[u8], sheet: &mut [u16; 25], settings: Settings) -> Answer
-    ensures { Leaves settings table.now (λ d rs. forwardOf rs (read sheet.old)) sheet.old result
+pub fn forward(table: &[u8], sheet: &mut [u16; 25], settings: Settings) -> Result<usize, Refusal>
+    ensures { Leaves settings table.now (λ d rs. forwardOf rs (read sheet.old)) sheet.old (told result)
         sheet.new }
 {
-    let answer = reader::check(table, settings);
-    let Answer::Accepted(n) = answer else {
-        return answer;
-    };
+    let n = reader::check(table, settings)?;
     bring(table, n, sheet, settings);
-    answer
+    Ok(n)
 }
 
 // The sheet of a table whose acceptance is shown.
@@ -57,11 +52,8 @@ fn fill(t: &[u8], s: &mut [u16; 25], settings: Settings)
 {
     let chip = settings.chip;
     first(t, s, chip);
-    let mut at: usize = 16;
-    while at < t.len() {
-        let chip = settings.chip;
+    for at in Places::of(t) {
         enter_element(t, at, s, chip);
-        at += length_at(t, at);
     }
 }
 
@@ -144,10 +136,8 @@ fn enter(s: &mut [u16; 25], pins: OwnPins, at: u16)
     ensures { Lines (entered every (made_at at (by_pins pins)) (read s.old)) s.new }
 {
     let mut new = [65535u16; 25];
-    let mut i: usize = 0;
-    while i < 25 {
+    for i in 0..25 {
         new[i] = line(s[i], pin_at(i), pins, at);
-        i += 1;
     }
     *s = new;
 }

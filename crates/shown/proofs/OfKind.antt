@@ -4,6 +4,7 @@ use Prim.Native.Nat.{ℕ}
 use mathlib.Core.Path.{◌≡◌}
 use mathlib.Core.Bool.{Bool}
 use mathlib.Core.List.{List}
+use Rattle.std.specs.declared.option.Option.{Option}
 use Rattle.format.specs.Rules.{in_use}
 use Rattle.format.specs.declared.settings.Rules.TheVariants.{Ordinary}
 use Rattle.format.specs.declared.records.Element.{Element}
@@ -11,7 +12,7 @@ use Rattle.shown.specs.Own.{own_pins, zone_of}
 use Rattle.shown.specs.declared.OwnPins.{OwnPins}
 
 module _ (e k : Element) (same : e ≡ k) where
-  pub zoned : (p : List ℕ) {z : ℕ} → z ≡ zone_of k p → z ≡ zone_of e p
+  pub zoned : (p : List ℕ) {z : Option ℕ} → z ≡ zone_of k p → z ≡ zone_of e p
   zoned p h = rw same h
 
   pub pinned : {q : OwnPins} → q ≡ own_pins k → q ≡ own_pins e

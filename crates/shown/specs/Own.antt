@@ -1,6 +1,8 @@
 -- What an element says of itself: its own pins and its zone.
 -- Assumes nothing.
 use Rattle.std.specs.Prelude.{ℕ, List}
+use Rattle.std.specs.declared.option.Option.{Option}
+use Rattle.std.specs.declared.option.Option.TheVariants.{Some, None}
 use Rattle.format.specs.Records.{zone_number}
 use Rattle.format.specs.Layout.{optional_byte}
 use Rattle.format.specs.declared.records.Address.{Address}
@@ -45,19 +47,19 @@ own_pins Text = no_pins
 own_pins (External x) = three (select_of x.device.address) 0xff 0xff
 own_pins (Rgb r) = three r.red.0 r.green.0 r.blue.0
 
--- 'zone (of a zone descriptor its own number)', from the element and its variable part; 256 of a string, which has none
-abbrev pub zone_of : Element → List ℕ → ℕ
-zone_of (Digital d) p = d.placement.zone
-zone_of (Analogue a) p = a.placement.zone
-zone_of (Fan f) p = f.placement.zone
-zone_of (Led l) p = l.placement.zone
-zone_of (Water w) p = w.placement.zone
-zone_of (Pump f) p = f.placement.zone
-zone_of (Voltage v) p = v.placement.zone
-zone_of (Current c) p = c.placement.zone
-zone_of (Controller d) p = d.placement.zone
-zone_of (Tachometer d) p = d.placement.zone
-zone_of Zone p = zone_number p
-zone_of Text p = 256
-zone_of (External x) p = x.device.placement.zone
-zone_of (Rgb r) p = r.placement.zone
+-- 'zone (of a zone descriptor its own number)', from the element and its variable part; a string has none
+abbrev pub zone_of : Element → List ℕ → Option ℕ
+zone_of (Digital d) p = Some d.placement.zone
+zone_of (Analogue a) p = Some a.placement.zone
+zone_of (Fan f) p = Some f.placement.zone
+zone_of (Led l) p = Some l.placement.zone
+zone_of (Water w) p = Some w.placement.zone
+zone_of (Pump f) p = Some f.placement.zone
+zone_of (Voltage v) p = Some v.placement.zone
+zone_of (Current c) p = Some c.placement.zone
+zone_of (Controller d) p = Some d.placement.zone
+zone_of (Tachometer d) p = Some d.placement.zone
+zone_of Zone p = Some (zone_number p)
+zone_of Text p = None
+zone_of (External x) p = Some x.device.placement.zone
+zone_of (Rgb r) p = Some r.placement.zone

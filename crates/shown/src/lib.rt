@@ -1,7 +1,7 @@
 // What an element says of itself in the listing: its zone, its own pins, and whether it is in use.
 #![tactic(auto)]
 
-ghost use Rattle.std.specs.Prelude.{◌≡◌, true};
+ghost use Rattle.std.specs.Prelude.{◌≡◌, true, Some};
 ghost use Rattle.format.specs.Rules.{type_in_use, in_use};
 ghost use Rattle.format.specs.Slots.{byte};
 ghost use Rattle.format.specs.declared.settings.Rules.TheVariants.{Ordinary};
@@ -10,7 +10,6 @@ ghost use Rattle.shown.specs.Own.{three as threeOf, select_of, fan_pins, lamp_pi
 use elements::byte_of;
 use format::records::{Address, BusDevice, Element, PwmFan, StatusLed};
 use format::settings::Rules;
-use words::wide;
 
 // An element's own pins in field order, FFh where there is none.
 #[derive(Clone, Copy)]
@@ -23,12 +22,12 @@ pub struct OwnPins {
 // What an element says of itself in the listing.
 #[derive(Clone, Copy)]
 pub struct Showing {
-    pub zone: usize,
+    pub zone: Option<u8>,
     pub pins: OwnPins,
     pub used: bool,
 }
 
-// The zone of an element, of a zone descriptor its own number, and 256 of a string, which has none; and its pins in field order,
+// The zone of an element, of a zone descriptor its own number; a string has none; and its pins in field order,
 // of which a chip select is one and shared pins are not; and whether the ordinary rules have it in use. One match for all: the kind
 // is told once (docs/BENCH.md).
 pub fn shown(e: Element, part: &[u8]) -> Showing
@@ -48,8 +47,8 @@ pub fn shown(e: Element, part: &[u8]) -> Showing
         Element::Current(c) => placed(c.placement.zone, c.pin.0, 255, 255),
         Element::Controller(d) => device(d),
         Element::Tachometer(d) => device(d),
-        Element::Zone => without_pins(number_of(part)),
-        Element::Text => without_pins(256),
+        Element::Zone => without_pins(Some(number_of(part))),
+        Element::Text => without_pins(None),
         Element::External(x) => {
             let d = x.device;
             device(d)
@@ -59,10 +58,10 @@ pub fn shown(e: Element, part: &[u8]) -> Showing
 }
 
 fn placed(zone: u8, one: u8, two: u8, three: u8) -> Showing
-    ensures { (result.zone ≡ zone) × (result.pins ≡ threeOf one two three) × (result.used ≡ true) }
+    ensures { (result.zone ≡ Some zone) × (result.pins ≡ threeOf one two three) × (result.used ≡ true) }
 {
     Showing {
-        zone: wide(zone),
+        zone: Some(zone),
         pins: own(one, two, three),
         used: true,
     }
@@ -70,7 +69,7 @@ fn placed(zone: u8, one: u8, two: u8, three: u8) -> Showing
 
 // 03h and 06h
 fn fan(f: PwmFan) -> Showing
-    ensures { (result.zone ≡ f.placement.zone) × (result.pins ≡ fan_pins f) × (result.used ≡ true) }
+    ensures { (result.zone ≡ Some f.placement.zone) × (result.pins ≡ fan_pins f) × (result.used ≡ true) }
 {
     let t = f.tachometer;
     placed(f.placement.zone, f.pwm.0, byte_of(t), 255)
@@ -78,7 +77,7 @@ fn fan(f: PwmFan) -> Showing
 
 // 04h
 fn led(l: StatusLed) -> Showing
-    ensures { (result.zone ≡ l.placement.zone) × (result.pins ≡ lamp_pins l) × (result.used ≡ true) }
+    ensures { (result.zone ≡ Some l.placement.zone) × (result.pins ≡ lamp_pins l) × (result.used ≡ true) }
 {
     let a = l.one;
     let b = l.two;
@@ -91,10 +90,10 @@ fn led(l: StatusLed) -> Showing
 
 // A device on a bus: its chip select, if it has one, and its bus type.
 fn on_bus(zone: u8, bus: u8, a: Address) -> Showing
-    ensures { (result.zone ≡ zone) × (result.pins ≡ threeOf (select_of a) 0xff 0xff) × (result.used ≡ type_in_use Ordinary bus) }
+    ensures { (result.zone ≡ Some zone) × (result.pins ≡ threeOf (select_of a) 0xff 0xff) × (result.used ≡ type_in_use Ordinary bus) }
 {
     Showing {
-        zone: wide(zone),
+        zone: Some(zone),
         pins: selected(a),
         used: rules::in_use(bus, Rules::Ordinary),
     }
@@ -102,14 +101,14 @@ fn on_bus(zone: u8, bus: u8, a: Address) -> Showing
 
 // 09h, 0Ah and 0Dh
 fn device(d: BusDevice) -> Showing
-    ensures { (result.zone ≡ d.placement.zone) × (result.pins ≡ threeOf (select_of d.address) 0xff 0xff)
+    ensures { (result.zone ≡ Some d.placement.zone) × (result.pins ≡ threeOf (select_of d.address) 0xff 0xff)
         × (result.used ≡ type_in_use Ordinary d.bus) }
 {
     let a = d.address;
     on_bus(d.placement.zone, d.bus, a)
 }
 
-fn without_pins(zone: usize) -> Showing
+fn without_pins(zone: Option<u8>) -> Showing
     ensures { (result.zone ≡ zone) × (result.pins ≡ threeOf 0xff 0xff 0xff) × (result.used ≡ true) }
 {
     Showing {
@@ -142,11 +141,8 @@ fn selected(a: Address) -> OwnPins
 }
 
 // A zone descriptor's own number, from its part.
-fn number_of(part: &[u8]) -> usize
+fn number_of(part: &[u8]) -> u8
     ensures { result ≡ byte part.now 0 }
 {
-    if part.len() == 0 {
-        return 0;
-    }
-    wide(part[0])
+    part.first().copied().unwrap_or(0)
 }

@@ -27,6 +27,7 @@ use Rattle.claiming.proofs.Bare.{bare_same}
 use Rattle.saving.specs.Saving.{At, by_claim}
 use Rattle.saving.specs.Saving as saving
 use Rattle.fates.specs.Noted.{Keeps, Tells}
+use Rattle.fates.specs.declared.Kept.{Kept}
 use Rattle.fates.specs.declared.Fate.TheVariants.{Stays, Leaves}
 use Rattle.sifting.specs.Stages.{Claimed, afterwards}
 use Rattle.sifting.proofs.Judging.{kept_alike, keeps_same}
@@ -58,7 +59,7 @@ none_is : (o : Option ℕ) → saving.is_none o ≡ true → o ≡ none
 none_is none h = refl
 none_is (some p) h = let z : ◌≡◌ {A = ℕ} 0 1 = cc in absurd (omega arith)
 
-module _ (c : Chip) (t : List ℕ) (n : ℕ) (k : At Record) (h : Keeps c t n k) (d : Description) (kept : List Record) (held : Held)
+module _ (c : Chip) (t : List ℕ) (n : Kept) (k : At Record) (h : Keeps c t n k) (d : Description) (kept : List Record) (held : Held)
     (w : Claimed d kept held) where
   -- its claims
   pub claims_there :
@@ -71,7 +72,7 @@ module _ (c : Chip) (t : List ℕ) (n : ℕ) (k : At Record) (h : Keeps c t n k)
       let p = (own_kept (writing c) h.r h.unbroken).pins_10 in
       let g =
       subst (λ (x : Element). (y : Chip) → pinned y (bare x) ≡ true → ClaimsAre cs (claims_of (bare x))) same f in
-      rw (h.what, (kept_alike n h.r).claims, ← b.0) (g c (b.1 ∙ p))
+      rw (h.what, (kept_alike n.cleared h.r).claims, ← b.0) (g c (b.1 ∙ p))
 
   module _ (next : Held) (p : ℕ) (is : HeldIs next (w.made ++ made_at p (claims_of k.what))) where
     abbrev more : List Made

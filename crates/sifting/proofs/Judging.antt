@@ -1,11 +1,9 @@
 -- What the bytes at the old place tell of an element that is kept: 13 and 14.
 -- Assumes nothing.
-use Prim.Native.Nat.{ℕ, ◌+◌, ◌*◌, ◌/◌, ◌%◌}
-use native.Mathlib.Omega.{arith}
+use Prim.Native.Nat.{ℕ}
 use mathlib.Core.Path.{◌≡◌, refl, sym, ◌∙◌, ap}
 use mathlib.Core.Bool.{Bool, true, false, cond}
 use mathlib.Core.List.{List, [], ◌∷◌}
-use lib.Dec.{eqb}
 use Rattle.format.specs.Records.{Record}
 use Rattle.format.specs.Pins.{among}
 use Rattle.format.specs.ZonesAndStrings.{role, zone_named, string_named, all_among}
@@ -20,6 +18,7 @@ use Rattle.saving.specs.Saving.{At, at_place, unindexed, by_zone, by_string}
 use Rattle.saving.proofs.Clearing.{Alike, alike_same, unindexed_alike, unindexed_named}
 use Rattle.fates.specs.Noted.{Keeps, as_kept, Tells}
 use Rattle.claims.specs.declared.Held.{Held}
+use Rattle.fates.specs.declared.Kept.{Kept}
 use Rattle.fates.specs.declared.Fate.{Fate}
 use Rattle.fates.specs.declared.Fate.TheVariants.{Stays, Leaves, Mends}
 use Rattle.sifting.specs.Stages.{JudgeIs, JudgeZone, JudgeString, JudgeClaim}
@@ -28,21 +27,21 @@ use Rattle.sifting.specs.declared.Stage.TheVariants.{Zones, Strings, Pins}
 use Rattle.sifting.specs.declared.Judged.{Judged}
 
 -- a record as it is kept differs at most in its index from the one that stands there
-pub kept_alike : (n : ℕ) (r : Record) → Alike (as_kept n r) r
-kept_alike n r = go (eqb (n % 2) 1)
+pub kept_alike : (clear : Bool) (r : Record) → Alike (as_kept clear r) r
+kept_alike clear r = go clear
   where
     go : (t : Bool) → Alike (cond t (unindexed r) r) r
     go true = unindexed_alike r
     go false = alike_same r
 
-module _ (c : Chip) (t : List ℕ) (n : ℕ) (k : At Record) (h : Keeps c t n k) where
-  pub role_there : RoleBytes t (n / 2) (role h.r)
+module _ (c : Chip) (t : List ℕ) (n : Kept) (k : At Record) (h : Keeps c t n k) where
+  pub role_there : RoleBytes t n.place (role h.r)
   role_there =
       rw h.place
       (role_bytes t k.place h.r h.here.stands.rest h.here.stands.starts
       (own_kept (writing c) h.r h.unbroken).shape_8)
 
-  pub here_there : Here c t (n / 2) h.r
+  pub here_there : Here c t n.place h.r
   here_there = rw h.place h.here
 
   -- an element that stays as it is
@@ -51,7 +50,7 @@ module _ (c : Chip) (t : List ℕ) (n : ℕ) (k : At Record) (h : Keeps c t n k)
 
   -- its zone
   pub zone_same : all_among (zone_named (role k.what)) ≡ all_among (zone_named (role h.r))
-  zone_same = rw h.what (ap (λ (l : List ℕ). all_among l) (kept_alike n h.r).zone_n)
+  zone_same = rw h.what (ap (λ (l : List ℕ). all_among l) (kept_alike n.cleared h.r).zone_n)
 
   pub zone_stays :
       (ns : List ℕ) (kept : List Record) (m : Bool)
@@ -70,15 +69,15 @@ module _ (c : Chip) (t : List ℕ) (n : ℕ) (k : At Record) (h : Keeps c t n k)
       rw q (refl, h.place)
 
   -- its string index, as it stands there or cleared
-  even_what : n % 2 ≡ 0 → k.what ≡ h.r
+  even_what : n.cleared ≡ false → k.what ≡ h.r
   even_what e = h.what ∙ rw e refl
 
-  odd_what : n % 2 ≡ 1 → k.what ≡ unindexed h.r
+  odd_what : n.cleared ≡ true → k.what ≡ unindexed h.r
   odd_what e = h.what ∙ rw e refl
 
   pub cleared_stays :
       (ns : List ℕ) (kept : List Record)
-      → n % 2 ≡ 1
+      → n.cleared ≡ true
       → among 0 ns ≡ true
       → Tells c t n k.place Stays (by_string ns kept k.what)
   cleared_stays ns kept e z =
@@ -91,7 +90,7 @@ module _ (c : Chip) (t : List ℕ) (n : ℕ) (k : At Record) (h : Keeps c t n k)
 
   pub string_stays :
       (ns : List ℕ) (kept : List Record) (m : Bool)
-      → n % 2 ≡ 0
+      → n.cleared ≡ false
       → m ≡ all_among (string_named (role h.r)) ns
       → m ≡ true
       → Tells c t n k.place Stays (by_string ns kept k.what)
@@ -101,26 +100,25 @@ module _ (c : Chip) (t : List ℕ) (n : ℕ) (k : At Record) (h : Keeps c t n k)
 
   pub string_mends :
       (ns : List ℕ) (kept : List Record) (m : Bool)
-      → n % 2 ≡ 0
+      → n.cleared ≡ false
       → m ≡ all_among (string_named (role h.r)) ns
       → m ≡ false
       → Tells c t n k.place Mends (by_string ns kept k.what)
   string_mends ns kept m e f z =
       let q : all_among (string_named (role k.what)) ns ≡ false = rw (even_what e) (sym f ∙ z) in
-      let odd : (2 * (n / 2) + 1) % 2 ≡ 1 = omega arith in
       rw q (
         record {
           r = h.r;
           here = h.here;
           unbroken = h.unbroken;
-          place = omega (arith, h.place);
-          what = rw (even_what e, odd) refl;
+          place = h.place;
+          what = rw (even_what e) refl;
         },
         h.place,
       )
 
 -- by the pass
-module _ (c : Chip) (stage : Stage) (t : List ℕ) (n : ℕ) (l : List Bool) (h : Held) (r : Judged) where
+module _ (c : Chip) (stage : Stage) (t : List ℕ) (n : Kept) (l : List Bool) (h : Held) (r : Judged) where
   pub zone_judges : (f : Fate) → stage ≡ Zones → JudgeZone c t n l f → (r.fate ≡ f) × (r.held ≡ h) → JudgeIs c stage t n l h r
   zone_judges f is z e = rw is (record { judges = λ d ns kept k keeps marks carries. (rw e.0 (z ns kept k keeps marks), tt) })
 

@@ -6,8 +6,7 @@ use native.Mathlib.Numerals.{add-one}
 use mathlib.Core.Path.{◌≡◌, refl, sym, ◌∙◌, ap, subst}
 use mathlib.Core.Bool.{Bool}
 use mathlib.Core.List.{List, [], ◌∷◌}
-use lib.ListN.{length, take, drop, get_or, drop_of_length-le}
-use lib.Seq.{length-take-le, get_or-take}
+use lib.ListN.{length, drop, get_or, drop_of_length-le}
 use Rattle.format.specs.Records.{Record}
 use Rattle.format.specs.declared.pins.Chip.{Chip}
 use Rattle.format.specs.declared.records.Description.{Description}
@@ -16,6 +15,8 @@ use Rattle.saving.specs.Saving.{At, at_place, Saved, records, settled}
 use Rattle.saving.specs.Saving as saving
 use Rattle.saving.proofs.Reading.{records_append}
 use Rattle.fates.specs.Noted.{Keeps, Notes, Settles}
+use Rattle.fates.specs.declared.Kept.{Kept}
+use Rattle.fates.specs.declared.Note.{Note}
 use Rattle.fates.specs.declared.Counts.{Counts}
 use Rattle.fates.proofs.Noting.{Spot, each_at, each_length}
 use Rattle.sifting.specs.Stages.{by_stage, Carries, afterwards, JudgeIs, Given, Sifted}
@@ -30,25 +31,25 @@ after_records s p (saving.mends r) = records_append s.kept (at_place p r ∷ [])
 after_records s p saving.unseen = refl
 
 -- THE INVARIANT, of whatever was given
-pub record So (c : Chip) (stage : Stage) (t from : List ℕ) (n : ℕ) (l : List Bool) (h : Held) (log : List ℕ) (m : ℕ) (i : ℕ) (held : Held)
-    (r : Counts) (to log' : List ℕ) (d : Description) (ns : List ℕ) (s : Saved) (ks : List (At Record)) : Type 0 where
+pub record So (c : Chip) (stage : Stage) (t : List ℕ) (from : List Kept) (l : List Bool) (h : Held) (log : List Note) (m : ℕ) (i : ℕ) (held : Held)
+    (r : Counts) (to : List Kept) (log' : List Note) (d : Description) (ns : List ℕ) (s : Saved) (ks : List (At Record)) : Type 0 where
   pub so_far : Saved
   pub notes : Notes c t to log' r so_far
   pub carries : Carries stage ns d (records so_far.kept) held
   pub onward : saving.sift (by_stage stage ns d) so_far (drop i ks) ≡ saving.sift (by_stage stage ns d) s ks
 
-pub record Sifting (c : Chip) (stage : Stage) (t from : List ℕ) (n : ℕ) (l : List Bool) (h : Held) (log : List ℕ) (m : ℕ) (i : ℕ)
-    (held : Held) (r : Counts) (to log' : List ℕ) : Type 0 where
-  pub within : i ≤ n
+pub record Sifting (c : Chip) (stage : Stage) (t : List ℕ) (from : List Kept) (l : List Bool) (h : Held) (log : List Note) (m : ℕ) (i : ℕ)
+    (held : Held) (r : Counts) (to : List Kept) (log' : List Note) : Type 0 where
+  pub within : i ≤ length from
   pub fewer : r.kept ≤ i
   pub not_many : r.lines ≤ m + i
   pub so :
       (d : Description) (ns : List ℕ) (s : Saved) (ks : List (At Record))
-      → Given c stage t from n l h log m d ns s ks
-      → So c stage t from n l h log m i held r to log' d ns s ks
+      → Given c stage t from l h log m d ns s ks
+      → So c stage t from l h log m i held r to log' d ns s ks
 
-module _ (c : Chip) (stage : Stage) (t from : List ℕ) (n : ℕ) (l : List Bool) (h : Held) (log : List ℕ) (m : ℕ) where
-  pub begun : (r : Counts) (to : List ℕ) → length to ≡ 96 → r.kept ≡ 0 → r.lines ≡ m → Sifting c stage t from n l h log m 0 h r to log
+module _ (c : Chip) (stage : Stage) (t : List ℕ) (from : List Kept) (l : List Bool) (h : Held) (log : List Note) (m : ℕ) where
+  pub begun : (r : Counts) (to : List Kept) → length to ≡ 96 → r.kept ≡ 0 → r.lines ≡ m → Sifting c stage t from l h log m 0 h r to log
   begun r to long e f =
       record {
         within = omega arith;
@@ -72,28 +73,25 @@ module _ (c : Chip) (stage : Stage) (t from : List ℕ) (n : ℕ) (l : List Bool
       }
 
   -- the element at a position
-  module _ (d : Description) (ns : List ℕ) (s : Saved) (ks : List (At Record)) (g : Given c stage t from n l h log m d ns s ks) (i : ℕ)
-      (b : i < n) where
-    long : length (take n from) ≡ n
-    long = length-take-le n from (omega (arith, g.few, g.from_long))
+  module _ (d : Description) (ns : List ℕ) (s : Saved) (ks : List (At Record)) (g : Given c stage t from l h log m d ns s ks) (i : ℕ)
+      (b : i < length from) where
+    pub spot : Spot (Keeps c t) from ks i
+    spot = each_at (Keeps c t) from ks i g.keeps b
 
-    pub spot : Spot (Keeps c t) (take n from) ks i
-    spot = each_at (Keeps c t) (take n from) ks i g.keeps (omega (arith, long, b))
+    pub keeps_at : (v : Kept) → Keeps c t (get_or from i v) spot.x
+    keeps_at = spot.stands
 
-    pub keeps_at : Keeps c t (get_or from i 0) spot.x
-    keeps_at = rw (get_or-take n from i 0 b) at spot.stands
-
-    pub low_at : length t ≤ 4096 → get_or from i 0 < 8192
-    low_at top =
-        let k = keeps_at in
+    pub low_at : (v : Kept) → length t ≤ 4096 → (get_or from i v).place < 4096
+    low_at v top =
+        let k = keeps_at v in
         omega (arith, k.place, k.here.within, k.here.size, top)
 
   module _
-      (i : ℕ) (held : Held) (r : Counts) (to log' : List ℕ) (w : Sifting c stage t from n l h log m i held r to log') (b : i < n)
-      (judged : Judged) (judge : JudgeIs c stage t (get_or from i 0) l held judged)
-      (r' : Counts) (to' log'' : List ℕ) (settle : Settles to log' r (get_or from i 0) judged.fate r' to' log'')
+      (i : ℕ) (held : Held) (r : Counts) (to : List Kept) (log' : List Note) (w : Sifting c stage t from l h log m i held r to log') (b : i < length from)
+      (v : Kept) (judged : Judged) (judge : JudgeIs c stage t (get_or from i v) l held judged)
+      (r' : Counts) (to' : List Kept) (log'' : List Note) (settle : Settles to log' r (get_or from i v) judged.fate r' to' log'')
     where
-      pub turned : Sifting c stage t from n l h log m (i + 1) judged.held r' to' log''
+      pub turned : Sifting c stage t from l h log m (i + 1) judged.held r' to' log''
       turned =
           record {
             within = omega arith;
@@ -103,7 +101,7 @@ module _ (c : Chip) (stage : Stage) (t from : List ℕ) (n : ℕ) (l : List Bool
                 let o = w.so d ns s ks g in
                 let x = spot d ns s ks g i b in
                 let f = by_stage stage ns d (records o.so_far.kept) x.x.what in
-                let j = judge.judges d ns (records o.so_far.kept) x.x (keeps_at d ns s ks g i b) g.marks o.carries in
+                let j = judge.judges d ns (records o.so_far.kept) x.x (keeps_at d ns s ks g i b v) g.marks o.carries in
                 record {
                   so_far = settled o.so_far x.x.place f;
                   notes = settle.settles c t o.so_far x.x.place f o.notes j.0;
@@ -115,8 +113,8 @@ module _ (c : Chip) (stage : Stage) (t from : List ℕ) (n : ℕ) (l : List Bool
                 };
           }
 
-  module _ (i : ℕ) (held : Held) (r : Counts) (to log' : List ℕ) (w : Sifting c stage t from n l h log m i held r to log') (b : n ≤ i) where
-    pub ended : Sifted c stage t from n l h log m r to log'
+  module _ (i : ℕ) (held : Held) (r : Counts) (to : List Kept) (log' : List Note) (w : Sifting c stage t from l h log m i held r to log') (b : length from ≤ i) where
+    pub ended : Sifted c stage t from l h log m r to log'
     ended =
         record {
           fewer = omega (arith, w.fewer, w.within);
@@ -124,12 +122,7 @@ module _ (c : Chip) (stage : Stage) (t from : List ℕ) (n : ℕ) (l : List Bool
           sifts = λ d ns s ks g.
               let o = w.so d ns s ks g in
               let many : length ks ≤ i =
-              omega (
-                arith,
-                b,
-                each_length (Keeps c t) (take n from) ks g.keeps,
-                length-take-le n from (omega (arith, g.few, g.from_long)),
-              ) in
+              omega (arith, b, each_length (Keeps c t) from ks g.keeps) in
               let none_left : drop i ks ≡ [] = drop_of_length-le ks many in
               let e : o.so_far ≡ saving.sift (by_stage stage ns d) s ks =
               sym (ap (saving.sift (by_stage stage ns d) o.so_far) none_left) ∙ o.onward in

@@ -13,6 +13,8 @@ use Rattle.claims.specs.declared.Held.{Held}
 use Rattle.saving.specs.Saving.{At, Saved, by_zone, by_string, by_claim}
 use Rattle.saving.specs.Saving as saving
 use Rattle.fates.specs.Noted.{Each, Keeps, Codes, Notes, Tells}
+use Rattle.fates.specs.declared.Kept.{Kept}
+use Rattle.fates.specs.declared.Note.{Note}
 use Rattle.fates.specs.declared.Counts.{Counts}
 use Rattle.fates.specs.declared.Fate.{Fate}
 use Rattle.sifting.specs.declared.Stage.{Stage}
@@ -45,7 +47,7 @@ afterwards kept (saving.leaves k) = kept
 afterwards kept (saving.mends r) = kept ++ r ∷ []
 afterwards kept saving.unseen = kept
 
-pub record JudgeIs (c : Chip) (stage : Stage) (t : List ℕ) (n : ℕ) (l : List Bool) (h : Held) (r : Judged) : Type 0 where
+pub record JudgeIs (c : Chip) (stage : Stage) (t : List ℕ) (n : Kept) (l : List Bool) (h : Held) (r : Judged) : Type 0 where
   pub judges :
       (d : Description) (ns : List ℕ) (kept : List Record) (k : At Record)
       → Keeps c t n k
@@ -54,11 +56,11 @@ pub record JudgeIs (c : Chip) (stage : Stage) (t : List ℕ) (n : ℕ) (l : List
       → Tells c t n k.place r.fate (by_stage stage ns d kept k.what)
       × Carries stage ns d (afterwards kept (by_stage stage ns d kept k.what)) r.held
 
-abbrev pub JudgeZone : Chip → List ℕ → ℕ → List Bool → Fate → Type 0
+abbrev pub JudgeZone : Chip → List ℕ → Kept → List Bool → Fate → Type 0
 JudgeZone c t n l f =
     (ns : List ℕ) (kept : List Record) (k : At Record) → Keeps c t n k → Marks l ns → Tells c t n k.place f (by_zone ns kept k.what)
 
-abbrev pub JudgeString : Chip → List ℕ → ℕ → List Bool → Fate → Type 0
+abbrev pub JudgeString : Chip → List ℕ → Kept → List Bool → Fate → Type 0
 JudgeString c t n l f =
     (ns : List ℕ) (kept : List Record) (k : At Record)
     → Keeps c t n k
@@ -66,7 +68,7 @@ JudgeString c t n l f =
     → among 0 ns ≡ true
     → Tells c t n k.place f (by_string ns kept k.what)
 
-abbrev pub JudgeClaim : Chip → List ℕ → ℕ → Held → Judged → Type 0
+abbrev pub JudgeClaim : Chip → List ℕ → Kept → Held → Judged → Type 0
 JudgeClaim c t n h r =
     (d : Description) (kept : List Record) (k : At Record)
     → Keeps c t n k
@@ -74,31 +76,30 @@ JudgeClaim c t n h r =
     → Tells c t n k.place r.fate (by_claim d kept k.what) × Claimed d (afterwards kept (by_claim d kept k.what)) r.held
 
 -- what a pass starts from: some elements are kept and some lines made
-pub record Given (c : Chip) (stage : Stage) (t from : List ℕ) (n : ℕ) (l : List Bool) (h : Held) (log : List ℕ) (m : ℕ) (d : Description)
+pub record Given (c : Chip) (stage : Stage) (t : List ℕ) (from : List Kept) (l : List Bool) (h : Held) (log : List Note) (m : ℕ) (d : Description)
     (ns : List ℕ) (s : Saved) (ks : List (At Record)) : Type 0 where
-  pub few : n ≤ 96
-  pub from_long : length from ≡ 96
+  pub few : length from ≤ 96
   pub log_long : length log ≡ 1649
-  pub fitting : m + n ≤ 1649
-  pub keeps : Each (Keeps c t) (take n from) ks
+  pub fitting : m + length from ≤ 1649
+  pub keeps : Each (Keeps c t) from ks
   pub codes : Each Codes (take m log) s.lines
   pub none_yet : s.kept ≡ []
   pub marks : Marks l ns
   pub carries : Carries stage ns d [] h
 
-pub record Ready (c : Chip) (stage : Stage) (t from : List ℕ) (n : ℕ) (l : List Bool) (h : Held) (log : List ℕ) (m : ℕ) : Type 0 where
+pub record Ready (c : Chip) (stage : Stage) (t : List ℕ) (from : List Kept) (l : List Bool) (h : Held) (log : List Note) (m : ℕ) : Type 0 where
   pub d : Description
   pub ns : List ℕ
   pub s : Saved
   pub ks : List (At Record)
-  pub given : Given c stage t from n l h log m d ns s ks
+  pub given : Given c stage t from l h log m d ns s ks
   pub small : length t ≤ 4096
 
-pub record Sifted (c : Chip) (stage : Stage) (t from : List ℕ) (n : ℕ) (l : List Bool) (h : Held) (log : List ℕ) (m : ℕ) (r : Counts)
-    (to log' : List ℕ) : Type 0 where
-  pub fewer : r.kept ≤ n
-  pub not_many : r.lines ≤ m + n
+pub record Sifted (c : Chip) (stage : Stage) (t : List ℕ) (from : List Kept) (l : List Bool) (h : Held) (log : List Note) (m : ℕ) (r : Counts)
+    (to : List Kept) (log' : List Note) : Type 0 where
+  pub fewer : r.kept ≤ length from
+  pub not_many : r.lines ≤ m + length from
   pub sifts :
       (d : Description) (ns : List ℕ) (s : Saved) (ks : List (At Record))
-      → Given c stage t from n l h log m d ns s ks
+      → Given c stage t from l h log m d ns s ks
       → Notes c t to log' r (saving.sift (by_stage stage ns d) s ks)

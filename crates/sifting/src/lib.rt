@@ -10,7 +10,7 @@ ghost use Rattle.sifting.specs.Stages.{JudgeIs, JudgeZone, JudgeString, JudgeCla
 
 use claiming::claims_of;
 use claims::{Held, claim};
-use fates::{Counts, Fate, counted, settle};
+use fates::{Counts, Fate, Kept, Note, counted, settle};
 use format::pins::Chip;
 use places::marked;
 use walking::element_at;
@@ -30,33 +30,28 @@ pub struct Judged {
     pub held: Held,
 }
 
-// One pass over the n that are held in `from`, judged against the numbers that are declared or against the pins that the kept ones claim.
+// One pass over those that are held in `from`, judged against the numbers that are declared or against the pins that the kept ones claim.
 pub fn sift(
     t: &[u8],
     stage: Stage,
-    from: &[usize; 96],
-    n: usize,
+    from: &[Kept],
     declared: &[bool; 256],
     first: Held,
-    to: &mut [usize; 96],
-    log: &mut [usize; 1649],
+    to: &mut [Kept; 96],
+    log: &mut [Note; 1649],
     lines: usize,
     chip: Chip,
 ) -> Counts
-    requires { Ready chip stage t.now from.now n declared.now first log.old lines × (length to.old ≡ 96) }
-    ensures { Sifted chip stage t.now from.now n declared.now first log.old lines result
+    requires { Ready chip stage t.now from.now declared.now first log.old lines × (length to.old ≡ 96) }
+    ensures { Sifted chip stage t.now from.now declared.now first log.old lines result
         to.new log.new }
 {
     let mut c = counted(0, lines);
     let mut held = first;
-    let mut i: usize = 0;
-    while i < n {
-        let kept = from[i];
-        let r = judge(t, stage, kept, declared, held, chip);
-        let fate = r.fate;
-        c = settle(to, log, c, kept, fate);
+    for kept in from {
+        let r = judge(t, stage, *kept, declared, held, chip);
+        c = settle(to, log, c, *kept, r.fate);
         held = r.held;
-        i += 1;
     }
     c
 }
@@ -65,12 +60,12 @@ pub fn sift(
 fn judge(
     t: &[u8],
     stage: Stage,
-    kept: usize,
+    kept: Kept,
     declared: &[bool; 256],
     held: Held,
     chip: Chip,
 ) -> Judged
-    requires { ((k : At Record) × Keeps chip t.now kept k) × (kept < 8192) }
+    requires { ((k : At Record) × Keeps chip t.now kept k) × (kept.place < 4096) }
     ensures { JudgeIs chip stage t.now kept declared.now held result }
 {
     match stage {
@@ -87,11 +82,11 @@ fn fated(fate: Fate, held: Held) -> Judged
 }
 
 // 13
-fn by_zone(t: &[u8], kept: usize, declared: &[bool; 256], chip: Chip) -> Fate
+fn by_zone(t: &[u8], kept: Kept, declared: &[bool; 256], chip: Chip) -> Fate
     requires { (k : At Record) × Keeps chip t.now kept k }
     ensures { JudgeZone chip t.now kept declared.now result }
 {
-    if marked(t, kept / 2, declared, true) {
+    if marked(t, usize::from(kept.place), declared, true) {
         Fate::Stays
     } else {
         Fate::Leaves(13)
@@ -99,14 +94,14 @@ fn by_zone(t: &[u8], kept: usize, declared: &[bool; 256], chip: Chip) -> Fate
 }
 
 // 14. An index that is cleared already is not missing.
-fn by_string(t: &[u8], kept: usize, declared: &[bool; 256], chip: Chip) -> Fate
+fn by_string(t: &[u8], kept: Kept, declared: &[bool; 256], chip: Chip) -> Fate
     requires { (k : At Record) × Keeps chip t.now kept k }
     ensures { JudgeString chip t.now kept declared.now result }
 {
-    if kept % 2 == 1 {
+    if kept.cleared {
         return Fate::Stays;
     }
-    if marked(t, kept / 2, declared, false) {
+    if marked(t, usize::from(kept.place), declared, false) {
         Fate::Stays
     } else {
         Fate::Mends
@@ -114,11 +109,11 @@ fn by_string(t: &[u8], kept: usize, declared: &[bool; 256], chip: Chip) -> Fate
 }
 
 // 15: one that clashes holds no pin.
-fn by_claim(t: &[u8], kept: usize, held: Held, chip: Chip) -> Judged
-    requires { ((k : At Record) × Keeps chip t.now kept k) × (kept < 8192) }
+fn by_claim(t: &[u8], kept: Kept, held: Held, chip: Chip) -> Judged
+    requires { ((k : At Record) × Keeps chip t.now kept k) × (kept.place < 4096) }
     ensures { JudgeClaim chip t.now kept held result }
 {
-    let at = kept / 2;
+    let at = usize::from(kept.place);
     let e = element_at(t, at, chip);
     let next = claim(held, claims_of(e), at);
     if next.clash == 65536 {

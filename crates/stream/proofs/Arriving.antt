@@ -16,7 +16,7 @@ use Rattle.format.specs.Decode.{read_description}
 use Rattle.format.specs.Reader.{or_refuse_at0, after_description, verdict_of}
 use Rattle.format.specs.declared.pins.Chip.{Chip}
 use Rattle.format.specs.declared.settings.Settings.{Settings}
-use Rattle.format.specs.declared.answers.Answer.{Answer}
+use Rattle.format.specs.Answers.{Answer}
 use Rattle.format.proofs.Theorem.{meets, only}
 use Rattle.stream.specs.Running.{Run, run_byte, run_bytes, begin}
 use Rattle.stream.specs.Arriving.{State, state_of, after, got_by, got, piece, pieces, joined, answer}

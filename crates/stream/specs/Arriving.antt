@@ -8,7 +8,7 @@ use Rattle.format.specs.Reader.{or_refuse_at0, unless_misdescribed, conclude}
 use Rattle.format.specs.Table.{description_breaks}
 use Rattle.format.specs.declared.settings.Settings.{Settings}
 use Rattle.format.specs.declared.records.Description.{Description}
-use Rattle.format.specs.declared.answers.Answer.{Answer}
+use Rattle.format.specs.Answers.{Answer}
 use Rattle.stream.specs.Running.{Run, run_byte, run_bytes, begin, finish}
 
 -- the description's 16 bytes, as far as they are there; the number of bytes; the pass

@@ -5,8 +5,10 @@ use mathlib.Core.Path.{◌≡◌, sym, ◌∙◌, ap}
 use mathlib.Core.Bool.{true}
 use lib.Dec.{eqb}
 use borrow.Author.Tests.{eqb-true}
+use Rattle.std.specs.Prelude.{Result}
 use Rattle.converting.specs.Conversions.{Temperature}
 use Rattle.converting.specs.Formula.{temperature_of, meant}
+use Rattle.format.specs.declared.answers.Rule.{Rule}
 use Rattle.converting.specs.declared.Converted.{Converted}
 use Rattle.converting.specs.declared.Calibration.{Calibration}
 use Rattle.converting.proofs.Walking.{both}
@@ -28,7 +30,7 @@ own p h =
     let b4 = both (eqb p.at75.0 320) _ b3.1 in
     alike (eqb-true _ _ b1.0) (eqb-true _ _ b2.0) (eqb-true _ _ b3.0) (eqb-true _ _ b4.0) (eqb-true _ _ b4.1)
 
-pub by_table : (p : Calibration) {n : ℕ} {r : Converted} → owned p ≡ true → Temperature ours n r → Temperature p n r
+pub by_table : (p : Calibration) {n : ℕ} {r : Result Converted Rule} → owned p ≡ true → Temperature ours n r → Temperature p n r
 by_table p h t = rw (own p h) t
 
 pub code_table : (p : Calibration) (n x : ℕ) → owned p ≡ true → meant x ≡ temperature_of ours n → meant x ≡ temperature_of p n

@@ -10,6 +10,7 @@ mod tenths;
 
 use crate::tenths::TENTHS;
 use converting::{Calibration, Converted};
+use format::answers::Rule;
 
 // The ready table, to be lent: the compiler lays it out on the stack at each call of this one.
 pub fn ready() -> [u16; 1024]
@@ -26,11 +27,11 @@ fn entry(table: &[u16; 1024], count: usize) -> u16
 }
 
 // The calibration 850, 700, 500, 320, 200, without a division.
-pub fn ours(count: u32) -> Converted
+pub fn ours(count: u32) -> Result<Converted, Rule>
     ensures { Temperature ours count result }
 {
     if 1023 < count {
-        return Converted::Refused(18);
+        return Err(Rule::NoReading);
     }
     let table = ready();
     converting::meaning(entry(&table, count as usize))
@@ -44,7 +45,7 @@ fn own(p: Calibration) -> bool
 }
 
 // Any calibration: our own by the table, the others by the formula.
-pub fn temperature(p: Calibration, count: u32) -> Converted
+pub fn temperature(p: Calibration, count: u32) -> Result<Converted, Rule>
     ensures { Temperature p count result }
 {
     if own(p) {
@@ -65,12 +66,12 @@ fn coded_by(table: &[u16; 1024], p: Calibration, c: u16) -> u16
 }
 
 // The same answer, by the table that is lent: for many counts.
-pub fn temperature_by(table: &[u16; 1024], p: Calibration, count: u32) -> Converted
+pub fn temperature_by(table: &[u16; 1024], p: Calibration, count: u32) -> Result<Converted, Rule>
     requires { Ready table.now }
     ensures { Temperature p count result }
 {
     if 1023 < count {
-        return Converted::Refused(18);
+        return Err(Rule::NoReading);
     }
     converting::meaning(coded_by(table, p, count as u16))
 }

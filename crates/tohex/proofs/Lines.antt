@@ -1,14 +1,7 @@
 -- The data records of a list of bytes, as long as they are; and the part that goes into one.
 -- Assumes nothing.
-use Prim.Native.Nat.{ℕ, zero, suc, ◌+◌, ◌-◌, ◌*◌, ◌≤◌, min}
-use native.Mathlib.Omega.{arith}
-use mathlib.Core.Path.{◌≡◌, refl, sym, ◌∙◌}
-use mathlib.Core.Bool.{Bool, true, false}
-use mathlib.Core.List.{List}
-use lib.ListN.{length, take, drop, length-append, length-take, length-drop}
-use lib.Seq.{take_all}
-use lib.Dec.{leb}
-use borrow.Author.Tests.{leb-true, leb-false}
+use Rattle.std.proofs.Common.{ℕ, zero, suc, ◌+◌, ◌*◌, ◌≤◌, ◌<◌, min, ◌≡◌, refl, sym, ap, ◌∙◌, List, ◌++◌, length, take, drop, arith}
+use Rattle.std.proofs.lemmas.List.{length-append, length-take, length-drop, take_at, drop_at, take_min, drop_min, drop-drop}
 use Rattle.hextext.specs.Text.{data_line, data_lines, line_count, data_text, end_line, hex_of}
 use Rattle.hextext.proofs.Spelled.{line_length}
 
@@ -31,16 +24,21 @@ module _ (b : List ℕ) where
   hex_length =
       omega (arith, length-append (data_text b) end_line, lines_length (line_count (length b)) (omega arith))
 
-  -- 16 bytes, or as many as are left
-  pub part : (at : ℕ) → take (min (at + 16) (length b) - at) (drop at b) ≡ take 16 (drop at b)
-  part at = go (leb (at + 16) (length b)) refl
-    where
-      go : (x : Bool) → leb (at + 16) (length b) ≡ x → take (min (at + 16) (length b) - at) (drop at b) ≡ take 16 (drop at b)
-      go true e =
-          let h = leb-true (at + 16) (length b) e in
-          let n : min (at + 16) (length b) - at ≡ 16 = omega arith in
-          rw n
-      go false e =
-          let h = leb-false (at + 16) (length b) e in
-          let l = length-drop at b in
-          take_all (min (at + 16) (length b) - at) (drop at b) (omega arith) ∙ sym (take_all 16 (drop at b) (omega arith))
+  -- 16 bytes come off what is left, or as many as there are
+  pub cut :
+      (k : ℕ) (part rest : List ℕ)
+      → drop (16 * k) b ≡ part ++ rest
+      → length part ≡ min 16 (length (drop (16 * k) b))
+      → 0 < length (drop (16 * k) b)
+      → (part ≡ take 16 (drop (16 * k) b)) × (rest ≡ drop (16 * (k + 1)) b) × (k + 1 ≤ line_count (length b))
+  cut k part rest e size some =
+      let l = drop (16 * k) b in
+      let left = length-drop (16 * k) b in
+      let n : ℕ = length part in
+      let front : take n l ≡ part = rw e (take_at part rest n refl) in
+      let behind : drop n l ≡ rest = rw e (drop_at part rest n refl) in
+      let on : drop 16 l ≡ drop (16 * (k + 1)) b = drop-drop 16 (16 * k) b ∙ ap (λ (m : ℕ). drop m b) (omega arith) in (
+        sym front ∙ ap (λ (m : ℕ). take m l) size ∙ take_min 16 l,
+        sym behind ∙ ap (λ (m : ℕ). drop m l) size ∙ drop_min 16 l ∙ on,
+        omega arith,
+      )

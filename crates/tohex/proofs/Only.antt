@@ -5,7 +5,7 @@ use mathlib.Core.Path.{◌≡◌}
 use mathlib.Core.List.{List}
 use Rattle.format.specs.Slots.{Bytes}
 use Rattle.format.specs.declared.pins.Chip.{Chip}
-use Rattle.format.specs.declared.answers.Written.{Written}
+use Rattle.format.specs.Answers.{Written}
 use Rattle.hextext.specs.Text.{hex_of}
 use Rattle.hextext.specs.Moved.{Moved}
 use Rattle.hextext.proofs.Moving.{only_moved}

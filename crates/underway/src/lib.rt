@@ -55,10 +55,8 @@ fn each(head: &mut [u8; 30], from: usize, p: &[u8], end: usize)
     requires { (end ≤ length p.now) × (0 < end → from + end ≤ 30) }
     ensures { CopiedIs from 0 end p.now head.old head.new }
 {
-    let mut j: usize = 0;
-    while j < end {
+    for j in 0..end {
         head[from + j] = p[j];
-        j += 1;
     }
 }
 
@@ -155,12 +153,10 @@ fn units_on(t: Units, had: usize, p: &[u8], end: usize) -> usize
 {
     let mut good = t.good;
     let mut last = top_of(t.high);
-    let mut k = t.whole;
-    while k < end {
+    for k in t.whole..end {
         let top = p[7 + 2 * k - had] / 4;
         good = good & rules::agrees(last == 54, top == 55);
         last = top;
-        k += 1;
     }
     mark_of(good, last == 54)
 }

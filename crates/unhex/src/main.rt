@@ -2,18 +2,9 @@
 // standard output. Refused: the line R, number, place (of 21 the line's number), with tabs. The option --chip names the chip.
 #![tactic(auto)]
 
-use format::answers::Written;
 use format::settings::Settings;
-use options::Options;
-use sending::{read_input, refuse, send};
+use sending::{answer, read_input};
 use std::io;
-
-fn answer(rt: &impl Print, written: Written, out: &[u8]) -> io::Result<()> {
-    match written {
-        Written::Length(n) => send(rt, n, out),
-        Written::Refused(k, p) => refuse(rt, k, p),
-    }
-}
 
 // No table is longer than 4,096 bytes.
 fn unhex(rt: &(impl Input + Print), input: &mut [u8], settings: Settings) -> io::Result<()> {
@@ -36,8 +27,10 @@ fn within(
 
 fn main(rt: HostRuntime) -> io::Result<()> {
     let mut input = [0u8; 918025];
-    match options::ordinary(options::read_alone(&rt)) {
-        Options::Chosen(settings, _) => within(&rt, &mut input, settings),
-        Options::Misused(m) => options::complain(&rt, m),
-    }
+    let chosen = options::ordinary(options::read_alone(&rt));
+    options::run(
+        &rt,
+        chosen,
+        |chosen| within(&rt, &mut input, chosen.settings),
+    )
 }

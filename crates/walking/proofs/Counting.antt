@@ -12,7 +12,7 @@ use Rattle.format.specs.Layout.{place_after}
 use Rattle.format.specs.Verdict.{stated, Verdict}
 use Rattle.format.specs.Asked.{nth}
 use Rattle.format.specs.declared.settings.Settings.{Settings}
-use Rattle.format.specs.declared.answers.Answer.TheVariants.{Accepted}
+use Rattle.format.specs.Answers.{Gives as Accepted}
 use Rattle.walking.specs.Walk.{Walk, Located}
 use Rattle.walking.proofs.Left.{Next, begin, next, onward, unfinished}
 

@@ -16,14 +16,16 @@ use Rattle.format.specs.Verdict.{stated, Accepts, Verdict, accepted}
 use Rattle.format.specs.Decode.{read_description}
 use Rattle.format.specs.declared.settings.Settings.{Settings}
 use Rattle.format.specs.declared.records.Description.{Description}
-use Rattle.format.specs.declared.answers.Answer.TheVariants.{Accepted}
+use Rattle.format.specs.Answers.{Gives as Accepted}
 use Rattle.format.proofs.Slots.{starts_split, starts_rest, starts_length, take_fits}
 use Rattle.format.proofs.Opening.{opened_only, opened_facts, table_length, table_split}
 use Rattle.format.proofs.Lengths.{layouts_append, snoc_length}
 use Rattle.format.proofs.Decoding.{starts_stated}
 use Rattle.format.proofs.Kept.{unbroken_kind, described_kind}
 use Rattle.format.proofs.Theorem.{accepts_passed}
+use Rattle.walking.specs.Division.{Divided}
 use Rattle.walking.specs.Walk.{Here, Walk}
+use Rattle.walking.proofs.Division.{divided}
 
 -- the description of an accepted table is the one that is read
 pub reads :
@@ -89,6 +91,13 @@ first_left σ t at done (r ∷ rs) f k h =
       bytes = rw n (take_fits bs (layout r) c.0 c.1);
       keeps = k.1;
     }
+
+-- an accepted table is divided from its first element on
+pub accepted_divided : (σ : Settings) (t : List ℕ) (d : Description) (rs : List Record) → Accepts σ t d rs → Divided t 16
+accepted_divided σ t d rs a = divided t 16 rs (fits_from t d [] rs a.fits)
+
+pub verdict_divided : (σ : Settings) (t : List ℕ) {n : ℕ} → Verdict σ t (Accepted n) → Divided t 16
+verdict_divided σ t (accepted d rs a) = accepted_divided σ t d rs a
 
 -- all records of the table lie behind
 pub record Whole (σ : Settings) (t : List ℕ) (S : List Record → List Record → Type 0) : Type 0 where

@@ -1,3 +1,5 @@
 pub mod Left
 pub mod Bytes
 pub mod Counting
+pub mod Division
+pub mod Stepping

@@ -8,7 +8,8 @@ use lib.Dec.{ltb}
 use borrow.Author.Tests.{ltb-true, ltb-false, lt-ltb, le-ltb}
 use Rattle.format.specs.Slots.{halves, roomy, all_roomy}
 use Rattle.format.specs.Layout.{address, device, optional_pin_slot}
-use Rattle.format.specs.declared.pins.OptionalPin.{OptionalPin}
+use Rattle.std.specs.Prelude.{Option}
+use Rattle.format.specs.declared.pins.Pin.{Pin}
 use Rattle.format.specs.Rules.{description_roomy, element_roomy}
 use Rattle.format.specs.declared.records.Description.{Description}
 use Rattle.format.specs.declared.records.Placement.{Placement}
@@ -67,7 +68,7 @@ high_byte_lem n = go (ltb n 16777216) refl
     go false e = sym (le-ltb (n / 65536) 256 (omega (arith, ltb-false n 16777216 e)))
 
 -- a place that may be unused
-abbrev pub pin_roomy : OptionalPin → Bool
+abbrev pub pin_roomy : Option Pin → Bool
 pin_roomy p = roomy (optional_pin_slot p)
 
 last : (a b : Bool) → a && b ≡ a && (b && true)

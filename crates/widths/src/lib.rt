@@ -7,7 +7,7 @@ ghost use Rattle.format.specs.Layout.{device, optional_pin_slot};
 ghost use Rattle.format.specs.Rules.{description_roomy, element_roomy};
 ghost use Rattle.format.specs.declared.records.Element.TheVariants.{Digital, Analogue, Fan, Led, Pump, Controller, Tachometer, External};
 
-use format::pins::OptionalPin;
+use format::pins::Pin;
 use format::records::{
     Address, AnalogueSensor, BusDevice, Description, DigitalSensor, Element, ExternalRgb, Lamp,
     PwmFan, StatusLed,
@@ -24,12 +24,12 @@ pub fn description_roomy(d: Description) -> bool
 }
 
 // Of a place that may be unused: FFh and every pin's byte fit a byte.
-fn pin_roomy(p: OptionalPin) -> bool
+fn pin_roomy(p: Option<Pin>) -> bool
     ensures { result ≡ roomy (optional_pin_slot p) }
 {
     match p {
-        OptionalPin::Unused => true,
-        OptionalPin::Used(_) => true,
+        None => true,
+        Some(_) => true,
     }
 }
 

@@ -11,7 +11,7 @@ pub fn word(b: &[u8], i: usize) -> u16
     requires { i + 1 < length b.now }
     ensures { result ≡ word_at (byte b.now) i }
 {
-    wide16(b[i]) + 256 * wide16(b[i + 1])
+    u16::from(b[i]) + 256 * u16::from(b[i + 1])
 }
 
 // The number in the four bytes from a place on.
@@ -19,7 +19,10 @@ pub fn long(b: &[u8], i: usize) -> u32
     requires { i + 3 < length b.now }
     ensures { result ≡ long_at (byte b.now) i }
 {
-    wide32(b[i]) + 256 * wide32(b[i + 1]) + 65536 * wide32(b[i + 2]) + 16777216 * wide32(b[i + 3])
+    u32::from(b[i])
+        + 256 * u32::from(b[i + 1])
+        + 65536 * u32::from(b[i + 2])
+        + 16777216 * u32::from(b[i + 3])
 }
 
 // A byte, as wide as the code counts. The bound goes with it, as sums are to fit.
@@ -27,16 +30,4 @@ pub fn wide(x: u8) -> usize
     ensures { (result ≡ x) × (result < 256) }
 {
     x as usize
-}
-
-pub fn wide16(x: u8) -> u16
-    ensures { (result ≡ x) × (result < 256) }
-{
-    x as u16
-}
-
-pub fn wide32(x: u8) -> u32
-    ensures { (result ≡ x) × (result < 256) }
-{
-    x as u32
 }

@@ -21,8 +21,8 @@ use Rattle.format.specs.declared.records.Description.{Description}
 use Rattle.format.specs.declared.records.Element.{Element}
 use Rattle.format.specs.declared.records.Element.TheVariants.{Digital, Analogue, Fan, Led, Water, Pump, Voltage, Current, Controller}
 use Rattle.format.specs.declared.records.Element.TheVariants.{Tachometer, Zone, Text, External, Rgb}
-use Rattle.format.specs.declared.answers.Written.{Written}
-use Rattle.format.specs.declared.answers.Written.TheVariants.{Length, Refused}
+use Rattle.format.specs.Answers.{Written}
+use Rattle.format.specs.Answers.{Gives as Length, Refused}
 use Rattle.format.proofs.Kept.{and-true, zero_none, some_number, own_numbered, description_numbered}
 use Rattle.writer.specs.Calls.{Started, Appended, room_answer}
 use Rattle.format.specs.declared.pins.Chip.{Chip}

@@ -6,7 +6,7 @@ use mathlib.Core.List.{List}
 use Rattle.format.specs.Writing.{start_leaves, append_leaves}
 use Rattle.format.specs.declared.records.Description.{Description}
 use Rattle.format.specs.declared.records.Element.{Element}
-use Rattle.format.specs.declared.answers.Written.{Written}
+use Rattle.format.specs.Answers.{Written}
 use Rattle.writer.specs.Calls.{Started, Appended}
 use Rattle.format.specs.declared.pins.Chip.{Chip}
 

@@ -5,8 +5,8 @@ use Rattle.std.specs.Prelude.{ℕ, ◌+◌, ◌≡◌, List, length}
 use Rattle.format.specs.Writing.{element_slots, or_refused, has_room, start_answer, start_leaves, append_answer, append_leaves}
 use Rattle.format.specs.declared.records.Description.{Description}
 use Rattle.format.specs.declared.records.Element.{Element}
-use Rattle.format.specs.declared.answers.Written.{Written}
-use Rattle.format.specs.declared.answers.Written.TheVariants.{Length}
+use Rattle.format.specs.Answers.{Written}
+use Rattle.format.specs.Answers.{Gives as Length}
 use Rattle.format.specs.declared.pins.Chip.{Chip}
 
 pub record Started (c : Chip) (b : List ℕ) (d : Description) (r : Written) (after : List ℕ) : Type 0 where

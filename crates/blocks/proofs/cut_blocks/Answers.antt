@@ -14,26 +14,26 @@ returns-then-p-lead c =
     let a = c.args in
     (sym (stays a.lead a.p.now a.most a.lead true c.if-p-lead.true), omega (arith, c.requires))
 
-pub loop-n-init : goal.loop-n-init
-loop-n-init c =
+pub loop-init : goal.loop-init
+loop-init c =
     let m = c.args.most in
     let e : m - 0 ≡ m = omega arith in
-    (omega arith, rw e refl, omega arith)
+    (rw e refl, omega arith)
 
 pub past_block-c-requires : goal.past_block-c-requires
 past_block-c-requires c = (search rules, omega arith, omega arith)
 
-pub loop-n-preserved : goal.loop-n-preserved
-loop-n-preserved c =
-    let l = c.loop-n in
+pub loop-preserved : goal.loop-preserved
+loop-preserved c =
+    let l = c.loop in
     let a = c.args in
     let e = c.past_block-c.ensures in
-    let h = c.loop-n-test.true in
-    (omega arith, sym (turn a.lead a.p.now a.most l.n l.c _ h e.0) ∙ l.invariant.1, omega (arith, e.1))
+    let h = c.loop-test.true in
+    (sym (turn a.lead a.p.now a.most l.counter l.c _ h e.0) ∙ l.invariant.0, omega (arith, e.1))
 
 pub returns : goal.returns
 returns c =
-    let l = c.loop-n in
+    let l = c.loop in
     let m = c.args.most in
-    let e : m - l.n ≡ 0 = omega (arith, c.loop-n-test.false) in
-    (rw e at l.invariant.1, omega arith)
+    let e : m - l.counter ≡ 0 = omega (arith, c.loop-test.false) in
+    (rw e at l.invariant.0, omega arith)

@@ -1,31 +1,40 @@
 -- `text` meets its contract by what is held of it.
 -- Assumes nothing.
 use native.Mathlib.Omega.{arith}
-use mathlib.Core.Path.{sym, ◌∙◌}
+use mathlib.Core.Path.{refl, ◌∙◌}
+use Rattle.std.specs.Prelude.{Ok, Err}
+use Rattle.format.proofs.Refusals.{rule_above}
+use Rattle.pass.specs.Steps.{stepped}
 use Rattle.closing.proofs.Parts.{text_closes}
 use Rattle.closing.proofs.text.Goals as goal
 
-pub returns-then-r-ne0 : goal.returns-then-r-ne0
-returns-then-r-ne0 c =
+pub returns-in-Err : goal.returns-in-Err
+returns-in-Err c =
     let b = c.broken.ensures in
-    let n = c.if-r-ne0.true in
+    let r = c.in-Err.rule in
+    let above = rule_above r in
     record {
-      plain = record { low = rw b.4 c.text_judged-r.ensures.low; none_held = b.2; none_cut = b.3; within = omega (arith, b.1) };
+      plain = record { low = rw b.4 c.in-Err.ensures.low; none_held = b.2; none_cut = b.3; within = omega (arith, b.1) };
       then =
-          text_closes _ _ _ _ c.text_judged-r.result _
-          (record { none_held = b.2; none_cut = b.3; same = b.0; good = λ z. absurd (n z); bad = λ _. b.1 }) c.requires.1 _ _ _ _
-          c.text.ensures c.number.ensures c.text_judged-r.ensures;
+          text_closes _ _ _ _ (stepped c.args.s (Err r)) _
+          (record {
+            none_held = b.2;
+            none_cut = b.3;
+            same = b.0 ∙ c.number-in-Err.ensures;
+            good = λ z. absurd (omega (arith, above, z));
+            bad = λ _. b.1;
+          }) c.requires.1 _ _ _ _
+          c.text.ensures c.number.ensures c.in-Err.ensures;
     }
 
-pub returns : goal.returns
-returns c =
-    let b = c.broken-2.ensures in
-    let n = c.if-r-ne0.false in
+pub returns-in-Ok : goal.returns-in-Ok
+returns-in-Ok c =
+    let b = c.broken-in-Ok.ensures in
     record {
-      plain = record { low = rw b.4 c.text_judged-r.ensures.low; none_held = b.2; none_cut = b.3; within = omega (arith, b.1) };
+      plain = record { low = rw b.4 c.in-Ok.ensures.low; none_held = b.2; none_cut = b.3; within = omega (arith, b.1) };
       then =
-          text_closes _ _ _ _ c.text_judged-r.result _
-          (record { none_held = b.2; none_cut = b.3; same = b.0 ∙ sym n; good = λ _. (b.1, b.4); bad = λ z. absurd (z n) })
+          text_closes _ _ _ _ (stepped c.args.s (Ok c.in-Ok.state)) _
+          (record { none_held = b.2; none_cut = b.3; same = b.0; good = λ _. (b.1, b.4); bad = λ z. absurd (z refl) })
           c.requires.1 _ _ _ _
-          c.text.ensures c.number.ensures c.text_judged-r.ensures;
+          c.text.ensures c.number.ensures c.in-Ok.ensures;
     }

@@ -5,17 +5,18 @@ use mathlib.Core.Path.{refl, sym, ◌∙◌}
 use Rattle.closing.proofs.Pieces.{other_stop, these_stops, whole_goes, whole_breaks}
 use Rattle.closing.proofs.whole.Goals as goal
 
-pub returns-then-r : goal.returns-then-r
-returns-then-r c =
+pub returns-then-stop : goal.returns-then-stop
+returns-then-stop c =
     let w = c.walk-r in
     let b = c.broken.ensures in
-    let n = other_stop w.result.stop c.if-r.true in
+    let n = other_stop c.stop_of-stop.result c.if-stop.true in
     record {
       plain = record { low = rw b.4 w.ensures.low; none_held = b.2; none_cut = b.3; within = omega (arith, b.1, w.ensures.to) };
       within = omega arith;
       here = λ z. absurd (n.0 (sym b.0 ∙ z));
       goes = λ z. absurd (n.0 (sym b.0 ∙ z));
-      breaks = λ _ d before small e k. rw (b.0, b.1) (whole_breaks _ _ _ _ _ _ _ _ _ w.ensures d before small e k n.0 n.1);
+      breaks = λ _ d before small e k. rw (b.0, b.1, c.stop_of-stop.ensures) (whole_breaks _ _ _ _ _ _ _ _ _ w.ensures d before small e k
+          (rw c.stop_of-stop.ensures at n.0) (rw c.stop_of-stop.ensures at n.1));
     }
 
 pub overflow_sub-taken : goal.overflow_sub-taken
@@ -29,12 +30,12 @@ pub returns : goal.returns
 returns c =
     let w = c.walk-r in
     let b = c.broken-2.ensures in
-    let n = these_stops w.result.stop c.if-r.false in
+    let n = these_stops c.stop_of-stop.result c.if-stop.false in
     record {
       plain = record { low = rw b.4 w.ensures.low; none_held = b.2; none_cut = b.3; within = omega (arith, b.1, w.ensures.to) };
       within = omega (arith, w.ensures.from, w.ensures.to);
       here = λ _. omega (arith, b.1, w.ensures.from);
-      goes = λ _ d before small e k. whole_goes _ _ _ _ _ _ _ _ _ w.ensures d before small e k _ _ _ n refl b.1 b.4
+      goes = λ _ d before small e k. whole_goes _ _ _ _ _ _ _ _ _ w.ensures d before small e k _ _ _ (rw c.stop_of-stop.ensures at n) refl b.1 b.4
           c.name_all.ensures;
       breaks = λ z. absurd (z b.0);
     }

@@ -12,4 +12,4 @@ pub returns-then-ppr-eq0 : goal.returns-then-ppr-eq0
 returns-then-ppr-eq0 c = none c.if-pulses-gt65535.false c.if-ppr-eq0.true
 
 pub returns : goal.returns
-returns c = read (search rules) (divided _ (search rules))
+returns c = rw c.from.ensures (read (search rules) (divided _ (search rules)))

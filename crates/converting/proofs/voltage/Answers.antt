@@ -12,4 +12,4 @@ pub overflow_cast-result : goal.overflow_cast-result
 overflow_cast-result c = omega (arith, within {m = 255} (omega arith) (omega arith) c.if-count-gt1023.false c.between.ensures)
 
 pub returns : goal.returns
-returns c = read c.if-count-gt1023.false c.between.ensures
+returns c = read c.if-count-gt1023.false (rw (c.from.ensures, c.from-2.ensures) at c.between.ensures)

@@ -5,7 +5,7 @@ use Rattle.ending.proofs.Answering.{passed_stop, passed_alone, passed_6, passed_
 use Rattle.ending.proofs.passed.Goals as goal
 
 pub returns-then-w-ne0 : goal.returns-then-w-ne0
-returns-then-w-ne0 c = passed_stop _ _ _ _ _ _ _ c.if-w-ne0.true (rw c.rule.ensures refl)
+returns-then-w-ne0 c = passed_stop _ _ _ _ _ _ _ c.if-w-ne0.true (rw c.byte_of.ensures refl)
 
 pub returns-then-bare : goal.returns-then-bare
 returns-then-bare c =
@@ -13,7 +13,8 @@ returns-then-bare c =
 
 pub returns-then-u-ne0 : goal.returns-then-u-ne0
 returns-then-u-ne0 c =
-    passed_6 _ _ _ _ _ _ _ c.if-w-ne0.false c.if-bare.false c.if-u-ne0.true refl
+    rw c.by.ensures
+    (passed_6 _ _ _ _ _ _ _ c.if-w-ne0.false c.if-bare.false c.if-u-ne0.true refl)
 
 pub returns : goal.returns
 returns c =

@@ -5,20 +5,26 @@ use Rattle.ending.proofs.Answering.{verdict_1, verdict_2, verdict_3, verdict_3_o
 use Rattle.ending.proofs.verdict.Goals as goal
 
 pub returns-then-count-lt16 : goal.returns-then-count-lt16
-returns-then-count-lt16 c = verdict_1 _ _ _ _ _ _ c.if-count-lt16.true refl
+returns-then-count-lt16 c =
+    rw c.by.ensures
+    (verdict_1 _ _ _ _ _ _ c.if-count-lt16.true refl)
 
 pub returns-then-first-ne1 : goal.returns-then-first-ne1
-returns-then-first-ne1 c = verdict_2 _ _ _ _ _ _ c.if-count-lt16.false c.if-first-ne1.true refl
+returns-then-first-ne1 c =
+    rw c.by-then-first-ne1.ensures
+    (verdict_2 _ _ _ _ _ _ c.if-count-lt16.false c.if-first-ne1.true refl)
 
 pub returns-then-told-count : goal.returns-then-told-count
 returns-then-told-count c =
-    verdict_3 _ _ _ _ _ _ c.if-count-lt16.false c.if-first-ne1.false _ _ c.wide.ensures.0 c.wide-2.ensures.0
-    c.if-told-count.true refl
+    rw c.by-then-told-count.ensures
+    (verdict_3 _ _ _ _ _ _ c.if-count-lt16.false c.if-first-ne1.false _ _ c.wide.ensures.0 c.wide-2.ensures.0
+    c.if-told-count.true refl)
 
 pub returns-then-told-gt4096 : goal.returns-then-told-gt4096
 returns-then-told-gt4096 c =
-    verdict_3_over _ _ _ _ _ _ c.if-count-lt16.false c.if-first-ne1.false _ _ c.wide.ensures.0 c.wide-2.ensures.0
-    c.if-told-count.false c.if-told-gt4096.true refl
+    rw c.by-then-told-gt4096.ensures
+    (verdict_3_over _ _ _ _ _ _ c.if-count-lt16.false c.if-first-ne1.false _ _ c.wide.ensures.0 c.wide-2.ensures.0
+    c.if-told-count.false c.if-told-gt4096.true refl)
 
 pub returns : goal.returns
 returns c =

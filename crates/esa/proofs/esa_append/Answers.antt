@@ -1,17 +1,18 @@
 -- `esa_append` meets its contract: the element is the one in the numbers, or none, and no value is too large.
 -- Assumes nothing.
+use native.Mathlib.Omega.{arith}
 use Rattle.esa.proofs.Joining.{append_bound, appended_for, unknown_for}
 use Rattle.esa.proofs.esa_append.Goals as goal
 
-pub written-requires : goal.written-requires
-written-requires c = append_bound _ _ _ _ _ _ c.append.ensures
+pub answer-requires : goal.answer-requires
+answer-requires c = let b = append_bound _ _ _ _ _ _ c.append.ensures in omega arith
 
-pub returns-in-Element : goal.returns-in-Element
-returns-in-Element c =
+pub returns-in-Some : goal.returns-in-Some
+returns-in-Some c =
     rw (← c.chip_of-chip.ensures)
-    (appended_for _ _ _ _ _ _ c.element.ensures _ _ _ _ c.in-Element.is c.append.ensures c.written.ensures)
+    (appended_for _ _ _ _ _ _ c.element.ensures _ _ _ _ c.in-Some.is c.append.ensures c.answer.ensures)
 
-pub returns-in-Unknown : goal.returns-in-Unknown
-returns-in-Unknown c =
+pub returns-in-None : goal.returns-in-None
+returns-in-None c =
     rw (← c.chip_of-chip.ensures)
-    (unknown_for _ _ _ _ _ _ c.element.ensures c.in-Unknown.is)
+    (unknown_for _ _ _ _ _ _ c.element.ensures c.in-None.is)

@@ -5,17 +5,17 @@ use mathlib.Core.Path.{refl}
 use Rattle.esa.proofs.Reading.{described_bound, described_for}
 use Rattle.esa.proofs.esa_describe.Goals as goal
 
-pub pack-requires : goal.pack-requires
-pack-requires c = omega (arith, described_bound _ _ _ _ c.description.ensures c.in-Refused.is)
+pub refused-requires : goal.refused-requires
+refused-requires c = omega (arith, described_bound _ _ _ _ c.in-Err.ensures refl)
 
-pub returns-in-Description : goal.returns-in-Description
-returns-in-Description c =
+pub returns-in-Ok : goal.returns-in-Ok
+returns-in-Ok c =
     rw (← c.settings_of-s.ensures)
-    (described_for _ _ _ _ c.description.ensures c.in-Description.is _ _ _ refl
-    c.description-in-Description.ensures)
+    (described_for _ _ _ _ c.in-Ok.ensures refl _ _ _ refl
+    c.description-in-Ok.ensures)
 
-pub returns-in-Refused : goal.returns-in-Refused
-returns-in-Refused c =
+pub returns-in-Err : goal.returns-in-Err
+returns-in-Err c =
     rw (← c.settings_of-s.ensures)
-    (described_for _ _ _ _ c.description.ensures c.in-Refused.is _ _ _
-    c.pack.ensures refl)
+    (described_for _ _ _ _ c.in-Err.ensures refl _ _ _
+    c.refused.ensures refl)

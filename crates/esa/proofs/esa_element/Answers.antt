@@ -1,5 +1,6 @@
 -- `esa_element` meets its contract: no place is too large.
 -- Assumes nothing.
+use Rattle.format.specs.Answers.{told}
 use Rattle.reader.proofs.Bounds.{place_bound}
 use Rattle.esa.proofs.esa_element.Goals as goal
 
@@ -10,4 +11,4 @@ pub returns : goal.returns
 returns c =
     let g = c.element.ensures in
     rw (← c.settings_of.ensures)
-    (record { answer = c.element.result; part = g.beside; gives = g.gives; number = c.asked.ensures })
+    (record { answer = told c.element.result; part = g.beside; gives = g.gives; number = c.asked.ensures })

@@ -5,22 +5,20 @@ use mathlib.Core.Path.{refl}
 use Rattle.esa.proofs.Reading.{gives_as, asked_bound, gives_beside, fields_for}
 use Rattle.esa.proofs.esa_fields.Goals as goal
 
-pub pack-requires-in-Refused : goal.pack-requires-in-Refused
-pack-requires-in-Refused c = omega (arith, asked_bound _ _ _ _ _ c.element.ensures c.in-Refused.is)
+pub refused-requires : goal.refused-requires
+refused-requires c = omega (arith, asked_bound _ _ _ _ _ c.in-Err.ensures refl)
 
-pub returns-in-Element : goal.returns-in-Element
-returns-in-Element c =
-    let g = c.element.ensures in
-    let e = c.in-Element.is in
+pub returns-in-Ok : goal.returns-in-Ok
+returns-in-Ok c =
+    let g = c.in-Ok.ensures in
     rw (← c.settings_of-s.ensures)
-    (fields_for _ _ _ _ _ g e _ _ _ _ (gives_beside _ _ _ _ _ g e _
+    (fields_for _ _ _ _ _ g refl _ _ _ _ (gives_beside _ _ _ _ _ g refl _
     (λ i. omega (arith, c.type_inv.table i)) c.part.ensures)
     (rw (c.pack.ensures, c.wide.ensures.0, c.id_of.ensures) refl)
-    c.element-in-Element.ensures)
+    c.element-in-Ok.ensures)
 
-pub returns-in-Refused : goal.returns-in-Refused
-returns-in-Refused c =
-    let g = c.element.ensures in
-    let e = c.in-Refused.is in
+pub returns-in-Err : goal.returns-in-Err
+returns-in-Err c =
+    let g = c.in-Err.ensures in
     rw (← c.settings_of-s.ensures)
-    (fields_for _ _ _ _ _ g e _ _ _ _ (gives_as _ _ _ _ _ g e).gives c.pack-in-Refused.ensures refl)
+    (fields_for _ _ _ _ _ g refl _ _ _ _ (gives_as _ _ _ _ _ g refl).gives c.refused.ensures refl)

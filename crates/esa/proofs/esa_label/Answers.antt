@@ -1,5 +1,6 @@
 -- `esa_label` meets its contract: no place is too large.
 -- Assumes nothing.
+use Rattle.labels.specs.Called.{sourced}
 use Rattle.esa.proofs.Labels.{label_fits}
 use Rattle.esa.proofs.esa_label.Goals as goal
 
@@ -9,4 +10,4 @@ label-requires c = label_fits _ _ _ _ c.find.ensures
 pub returns : goal.returns
 returns c =
     rw (← c.settings_of.ensures)
-    (record { answer = c.find.result; found = c.find.ensures; number = c.label.ensures })
+    (record { answer = sourced c.find.result; found = c.find.ensures; number = c.label.ensures })

@@ -1,5 +1,6 @@
 -- `esa_salvage` meets its contract: no length is too large.
 -- Assumes nothing.
+use Rattle.saving.specs.Salvaged.{salvaged}
 use native.Mathlib.Omega.{arith}
 use Rattle.esa.proofs.Salvage.{salvage_fits}
 use Rattle.esa.proofs.esa_salvage.Goals as goal
@@ -12,4 +13,4 @@ salvaged-requires c =
 pub returns : goal.returns
 returns c =
     rw (← c.chip_of.ensures)
-    (record { answer = c.salvage.result; salvages = c.salvage.ensures; number = c.salvaged.ensures })
+    (record { answer = salvaged c.salvage.result; salvages = c.salvage.ensures; number = c.salvaged.ensures })

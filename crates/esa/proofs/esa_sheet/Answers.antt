@@ -1,5 +1,6 @@
 -- `esa_sheet` meets its contract: no value is too large.
 -- Assumes nothing.
+use native.Mathlib.Omega.{arith}
 use Rattle.pinsheet.specs.Sheet.{sheet}
 use Rattle.esa.proofs.Sheets.{leaves_bound, sheet_for}
 use Rattle.esa.proofs.esa_sheet.Goals as goal
@@ -7,7 +8,7 @@ use Rattle.esa.proofs.esa_sheet.Goals as goal
 pub answer-requires : goal.answer-requires
 answer-requires c =
     let old = c.args.sheet.now in
-    leaves_bound _ _ sheet old _ _ c.make.ensures
+    let b = leaves_bound _ _ sheet old _ _ c.make.ensures in omega arith
 
 pub returns : goal.returns
 returns c =

@@ -1,5 +1,6 @@
 -- `esa_sheet_forward` meets its contract: no value is too large.
 -- Assumes nothing.
+use native.Mathlib.Omega.{arith}
 use Rattle.pinsheet.specs.Sheet.{forward}
 use Rattle.sheets.specs.Lines.{read}
 use Rattle.esa.proofs.Sheets.{leaves_bound, sheet_for}
@@ -8,7 +9,7 @@ use Rattle.esa.proofs.esa_sheet_forward.Goals as goal
 pub answer-requires : goal.answer-requires
 answer-requires c =
     let old = c.args.sheet.now in
-    leaves_bound _ _ (λ d rs. forward rs (read old)) old _ _ c.forward.ensures
+    let b = leaves_bound _ _ (λ d rs. forward rs (read old)) old _ _ c.forward.ensures in omega arith
 
 pub returns : goal.returns
 returns c =

@@ -1,12 +1,12 @@
--- `seek` meets its contract: what is left to seek ends where the whole ends, and is shorter at each turn.
+-- `seek` meets its contract: what is left to seek ends where the whole ends.
 -- Assumes nothing.
-use Prim.Native.Nat.{◌-◌}
-use lib.ListN.{length}
+use mathlib.Core.Path.{◌≡◌}
 use Rattle.fans.proofs.Seeking.{Seeking}
 use Rattle.fans.proofs.seek.Given as goal
 
 abbrev pub invariant-loop-at : goal.invariant-loop-at
-invariant-loop-at l = Seeking l.t l.zone l.at l.count
-
-abbrev pub decreases-loop-at : goal.decreases-loop-at
-decreases-loop-at l = length l.t - l.at
+invariant-loop-at l =
+    (goal.iterator-loop-at).can_next l.at-iterator
+    × (goal.iterator-loop-at).is_finite l.at-iterator
+    × (l.at-iterator.table.now ≡ l.t)
+    × Seeking l.t l.zone l.at-iterator.at l.count

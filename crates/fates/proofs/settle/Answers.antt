@@ -1,7 +1,6 @@
 -- `settle` meets its contract: by the fate.
 -- Assumes nothing.
 use native.Mathlib.Omega.{arith}
-use mathlib.Core.Path.{refl}
 use Rattle.fates.proofs.Noting.{stays_settles, leaves_settles, mends_settles}
 use Rattle.fates.proofs.settle.Goals as goal
 
@@ -12,12 +11,10 @@ returns-in-Stays c =
 
 pub returns-in-Leaves : goal.returns-in-Leaves
 returns-in-Leaves c =
-    let w = c.wide.ensures in
-    leaves_settles _ _ _ _ _ c.requires.0 c.requires.1 c.requires.2 _ _ _ c.in-Leaves.is (omega (arith, w))
-    (omega (arith, w.0))
+    leaves_settles _ _ _ _ _ c.requires.0 c.requires.1 c.requires.2 _ _ c.in-Leaves.is (omega arith)
     c.counted-in-Leaves.ensures.0 c.counted-in-Leaves.ensures.1
 
 pub returns-in-Mends : goal.returns-in-Mends
 returns-in-Mends c =
-    mends_settles _ _ _ _ _ c.requires.0 c.requires.1 c.requires.2 _ _ _ c.in-Mends.is refl refl
+    mends_settles _ _ _ _ _ c.requires.0 c.requires.1 c.requires.2 _ c.in-Mends.is
     c.counted-in-Mends.ensures.0 c.counted-in-Mends.ensures.1

@@ -5,9 +5,9 @@ use Rattle.fields.proofs.description.Goals as goal
 pub returns : goal.returns
 returns c =
     rw (
-      c.wide32.ensures.0,
-      c.wide32-2.ensures.0,
-      c.wide32-3.ensures.0,
+      c.from.ensures,
+      c.from-2.ensures,
+      c.from-3.ensures,
       c.optional.ensures,
       c.optional-2.ensures,
       c.optional-3.ensures,

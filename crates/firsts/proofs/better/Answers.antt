@@ -7,4 +7,4 @@ pub returns-then-seen : goal.returns-then-seen
 returns-then-seen c = sym (rw c.if-seen.true refl)
 
 pub returns : goal.returns
-returns c = c.lesser.ensures ∙ rw (c.if-seen.false, c.wide16.ensures) refl
+returns c = c.lesser.ensures ∙ rw (c.if-seen.false, c.from.ensures) refl

@@ -8,11 +8,11 @@ use Rattle.found.proofs.analogue_found.Goals as goal
 
 pub returns-then-b-ne17 : goal.returns-then-b-ne17
 unfolding decode
-returns-then-b-ne17 c = wrong_length _ 2 _ _ analogue (read_analogue _) 17 refl c.if-b-ne17.true c.refused.ensures
+returns-then-b-ne17 c = wrong_length _ 2 _ _ analogue (read_analogue _) 17 refl c.if-b-ne17.true refl
 
 pub returns : goal.returns
 unfolding decode
 returns c =
     right_length _ 2 _ _ analogue (read_analogue _) 17 refl _ c.if-b-ne17.false refl c.analogue-a.ensures
-    c.analogue_breaks.ensures c.analogue_claims.ensures c.no_fans.ensures
+    c.analogue_breaks.ensures c.analogue_claims.ensures refl
     c.together.ensures

@@ -9,8 +9,8 @@ use Rattle.found.proofs.fan_found.Goals as goal
 pub returns-then-b-ne13 : goal.returns-then-b-ne13
 unfolding decode
 returns-then-b-ne13 c = (
-  wrong_length _ 3 _ _ fan (read_fan _) 13 refl c.if-b-ne13.true c.refused.ensures,
-  wrong_length _ 6 _ _ pump (read_fan _) 13 refl c.if-b-ne13.true c.refused.ensures,
+  wrong_length _ 3 _ _ fan (read_fan _) 13 refl c.if-b-ne13.true refl,
+  wrong_length _ 6 _ _ pump (read_fan _) 13 refl c.if-b-ne13.true refl,
 )
 
 pub returns : goal.returns

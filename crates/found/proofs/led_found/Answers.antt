@@ -8,11 +8,11 @@ use Rattle.found.proofs.led_found.Goals as goal
 
 pub returns-then-b-ne11 : goal.returns-then-b-ne11
 unfolding decode
-returns-then-b-ne11 c = wrong_length _ 4 _ _ led (read_led _) 11 refl c.if-b-ne11.true c.refused.ensures
+returns-then-b-ne11 c = wrong_length _ 4 _ _ led (read_led _) 11 refl c.if-b-ne11.true refl
 
 pub returns : goal.returns
 unfolding decode
 returns c =
     right_length _ 4 _ _ led (read_led _) 11 refl _ c.if-b-ne11.false refl c.led-l.ensures
-    c.led_breaks.ensures c.led_claims.ensures c.no_fans.ensures
+    c.led_breaks.ensures c.led_claims.ensures refl
     c.together.ensures

@@ -8,7 +8,7 @@ use Rattle.found.proofs.rgb_found.Goals as goal
 
 pub returns-then-b-ne8 : goal.returns-then-b-ne8
 unfolding decode
-returns-then-b-ne8 c = wrong_length _ 14 _ _ rgb (read_rgb _) 8 refl c.if-b-ne8.true c.refused.ensures
+returns-then-b-ne8 c = wrong_length _ 14 _ _ rgb (read_rgb _) 8 refl c.if-b-ne8.true refl
 
 pub returns : goal.returns
 unfolding decode

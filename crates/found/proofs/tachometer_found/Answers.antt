@@ -1,10 +1,11 @@
 -- `tachometer_found` meets its contract: fixed bytes and part are judged apart, and joined.
 -- Assumes nothing.
+use mathlib.Core.Path.{refl}
 use Rattle.found.proofs.Judging.{rest, tachometer_short, tachometer_judged}
 use Rattle.found.proofs.tachometer_found.Goals as goal
 
 pub returns-then-b-lt9 : goal.returns-then-b-lt9
-returns-then-b-lt9 c = tachometer_short _ _ _ c.if-b-lt9.true c.refused.ensures
+returns-then-b-lt9 c = tachometer_short _ _ _ c.if-b-lt9.true refl
 
 pub returns : goal.returns
 returns c =

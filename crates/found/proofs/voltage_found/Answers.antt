@@ -8,11 +8,11 @@ use Rattle.found.proofs.voltage_found.Goals as goal
 
 pub returns-then-b-ne8 : goal.returns-then-b-ne8
 unfolding decode
-returns-then-b-ne8 c = wrong_length _ 7 _ _ voltage (read_voltage _) 8 refl c.if-b-ne8.true c.refused.ensures
+returns-then-b-ne8 c = wrong_length _ 7 _ _ voltage (read_voltage _) 8 refl c.if-b-ne8.true refl
 
 pub returns : goal.returns
 unfolding decode
 returns c =
     right_length _ 7 _ _ voltage (read_voltage _) 8 refl _ c.if-b-ne8.false refl c.voltage-v.ensures
-    c.voltage_breaks.ensures c.analogue_claims.ensures c.no_fans.ensures
+    c.voltage_breaks.ensures c.analogue_claims.ensures refl
     c.together.ensures

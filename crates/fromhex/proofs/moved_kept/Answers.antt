@@ -24,10 +24,10 @@ pub returns-then-table-ne1 : goal.returns-then-table-ne1
 returns-then-table-ne1 c =
     λ b e k.
     let h : 4096 < length b = omega (arith, c.if-n-le4096.false) in
-    refused (long_unrevised _ b h (λ x. c.if-table-ne1.true (kept_head h k ∙ x)))
+    rw c.at.ensures (refused (long_unrevised _ b h (λ x. c.if-table-ne1.true (kept_head h k ∙ x))))
 
 pub returns : goal.returns
 returns c =
     λ b e k.
     let h : 4096 < length b = omega (arith, c.if-n-le4096.false) in
-    refused (long_missized _ b h (sym (kept_head h k) ∙ c.if-table-ne1.false))
+    rw c.at-2.ensures (refused (long_missized _ b h (sym (kept_head h k) ∙ c.if-table-ne1.false)))

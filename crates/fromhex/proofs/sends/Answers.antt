@@ -1,14 +1,11 @@
 -- `sends` meets its contract: the line is spelled, and compared.
 -- Assumes nothing.
-use native.Mathlib.Omega.{arith}
-use mathlib.Core.Path.{ap}
-use lib.ListN.{length}
+use lib.ListN.{take}
+use Rattle.fromhex.proofs.Judging.{begun}
 use Rattle.fromhex.proofs.sends.Goals as goal
 
-pub slice_bounds-starts-end : goal.slice_bounds-starts-end
-slice_bounds-starts-end c =
-    let p = c.put_data-end.ensures.0 in
-    omega (arith, ap length p.front, p.ends)
-
 pub returns : goal.returns
-returns c = rw c.put_data-end.ensures.0.front at c.starts.ensures
+returns c =
+    let line = c.put_data-end in
+    rw line.ensures.0.front at
+    (begun c.args.text.now (take line.result line.new.out) c.starts_with.result c.starts_with.ensures.value)

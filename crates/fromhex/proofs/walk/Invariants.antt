@@ -6,9 +6,9 @@ use lib.ListN.{length}
 use Rattle.fromhex.specs.Reading.{Midway}
 use Rattle.fromhex.proofs.walk.Given as goal
 
-abbrev pub invariant-loop-into : goal.invariant-loop-into
-invariant-loop-into l =
+abbrev pub invariant-loop-n : goal.invariant-loop-n
+invariant-loop-n l =
     Midway l.text l.at l.lines l.total l.table × (length l.into ≡ 255) × (length l.table ≡ length l.initial.table)
 
-abbrev pub decreases-loop-into : goal.decreases-loop-into
-decreases-loop-into l = length l.text - l.at
+abbrev pub decreases-loop-n : goal.decreases-loop-n
+decreases-loop-n l = length l.text - l.at

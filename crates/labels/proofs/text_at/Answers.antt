@@ -3,7 +3,7 @@
 use Prim.Native.Nat.{ℕ, ◌+◌}
 use native.Mathlib.Omega.{arith}
 use mathlib.Core.Path.{ap}
-use Rattle.labels.specs.declared.Source.TheVariants.{Text}
+use Rattle.labels.specs.Called.{Text}
 use Rattle.labels.proofs.Telling.{string_length}
 use Rattle.labels.proofs.text_at.Goals as goal
 

@@ -7,9 +7,9 @@ use Rattle.listing.proofs.put_after_type.Goals as goal
 pub returns : goal.returns
 returns c = (
   then
-      (rw c.wide.ensures.0 at c.put_number-a.ensures.0)
+      (rw c.from.ensures at c.put_number-a.ensures.0)
       (then
-      (rw c.wide32.ensures at c.put_number-b.ensures.0)
+      c.put_number-b.ensures.0
       (then c.put_supply-c.ensures.0 c.put_hardware.ensures.0)),
   omega (arith, c.put_number-a.ensures.1, c.put_number-b.ensures.1, c.put_supply-c.ensures.1, c.put_hardware.ensures.1),
 )

@@ -10,5 +10,5 @@ returns c =
     then
     c.put-a.ensures
     (then
-    (rw c.wide.ensures.0 at c.put_number-b.ensures.0)
+    (rw c.from.ensures at c.put_number-b.ensures.0)
     (then c.put_decimal-c.ensures.0 c.put.ensures))

@@ -12,6 +12,6 @@ returns c = (
       c.put-a.ensures
       (then
       c.put_number-b.ensures.0
-      (then (rw c.wide.ensures.0 at c.put_number-c.ensures.0) c.put_after_type.ensures.0)),
+      (then (rw c.from.ensures at c.put_number-c.ensures.0) c.put_after_type.ensures.0)),
   omega (arith, c.put-a.ensures.ends, c.put_number-b.ensures.1, c.put_number-c.ensures.1, c.put_after_type.ensures.1),
 )

@@ -15,12 +15,12 @@ put_opening-requires c =
 pub copy_kept-requires : goal.copy_kept-requires
 copy_kept-requires c =
     let p = c.requires in
-    copyable _ _ _ _ p.few p.long _ p.keeps p (omega (arith, c.out-1.given))
+    copyable _ _ _ _ p.keeps p (omega (arith, c.out-1.given))
 
 pub tidy_kept-requires : goal.tidy_kept-requires
 tidy_kept-requires c =
     let p = c.requires in
-    copyable _ _ _ _ p.few p.long _ p.keeps p (omega (arith, c.out-1.given, c.out-2-1.given))
+    copyable _ _ _ _ p.keeps p (omega (arith, c.out-1.given, c.out-2-1.given))
 
 pub shape_of-out : goal.shape_of-out
 shape_of-out c =
@@ -30,7 +30,7 @@ pub returns : goal.returns
 returns c =
     let p = c.requires in
     λ ks all.
-    table_put _ _ _ _ p.few p.long ks all
+    table_put _ _ _ ks all
     (described_as c.args.cleared (read_description c.args.chip (byte c.args.t.now))) _ _ _ _ _ (p.size _ ks all)
     p.room c.put_opening.ensures
     c.copy_kept.ensures c.tidy_kept.ensures

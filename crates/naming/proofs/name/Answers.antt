@@ -17,7 +17,7 @@ returns-then-id-eq11 c =
     let i = c.if-id-eq11.true in
     record {
       text = λ e. absurd (omega (arith, e, i));
-      zoning = λ _. (refl, rw (← c.byte_at.ensures, ← c.narrow.ensures) c.note.ensures);
+      zoning = λ _. (refl, rw (← c.byte_at.ensures) c.note.ensures);
       placed = λ n _. absurd (n i);
     }
 
@@ -28,7 +28,7 @@ returns c =
       zoning = λ e. absurd (c.if-id-eq11.false e);
       placed =
           λ _ _. (
-            rw (← c.byte_at-2.ensures, ← c.narrow-2.ensures) c.note-2.ensures,
-            rw (← c.byte_at-3.ensures, ← c.narrow-3.ensures) c.note-3.ensures,
+            rw (← c.byte_at-2.ensures) c.note-2.ensures,
+            rw (← c.byte_at-3.ensures) c.note-3.ensures,
           );
     }

@@ -5,8 +5,5 @@ use mathlib.Core.Path.{◌≡◌}
 use Rattle.parts.specs.Inside.{lists_from}
 use Rattle.parts.proofs.lists_from.Given as goal
 
-abbrev pub invariant-loop-left : goal.invariant-loop-left
-invariant-loop-left l = lists_from (l.left + (l.blocks - l.w)) l.r l.left ≡ lists_from l.blocks l.part l.w
-
-abbrev pub decreases-loop-left : goal.decreases-loop-left
-decreases-loop-left l = l.left
+abbrev pub invariant-loop : goal.invariant-loop
+invariant-loop l = lists_from (l.w - l.counter + (l.blocks - l.w)) l.r (l.w - l.counter) ≡ lists_from l.blocks l.part l.w

@@ -3,5 +3,8 @@
 use Rattle.pass.proofs.Following.{in_order_lem}
 use Rattle.pass.proofs.follows.Goals as goal
 
-pub returns : goal.returns
-returns c = λ ps h. rw c.wide.ensures.0 (in_order_lem c.args.fans c.args.last ps h)
+pub returns-in-None : goal.returns-in-None
+returns-in-None c = λ ps h. let a = c.args in rw c.in-None.is at (in_order_lem a.fans a.last ps h)
+
+pub returns-in-Some : goal.returns-in-Some
+returns-in-Some c = λ ps h. let a = c.args in rw c.wide.ensures.0 (rw c.in-Some.is at (in_order_lem a.fans a.last ps h))

@@ -1,12 +1,10 @@
 -- `last_of` meets its contract, by whether there is any pin.
 -- Assumes nothing.
-use mathlib.Core.Path.{◌∙◌}
-use Rattle.pass.proofs.Following.{last_of_some, last_of_none}
+use Rattle.pass.proofs.Following.{last_of_lem}
 use Rattle.pass.proofs.last_of.Goals as goal
 
-pub returns-then-fans : goal.returns-then-fans
-returns-then-fans c = λ ps h. c.wide.ensures.0 ∙ last_of_some c.args.fans c.args.last
-    c.if-fans.true ps h
+pub returns-in-None : goal.returns-in-None
+returns-in-None c = λ ps h. let a = c.args in rw c.in-None.is at (last_of_lem a.fans a.last ps h)
 
-pub returns-else-fans : goal.returns-else-fans
-returns-else-fans c = last_of_none c.args.fans c.args.last c.if-fans.false
+pub returns-in-Some : goal.returns-in-Some
+returns-in-Some c = λ ps h. let a = c.args in rw c.wide.ensures.0 (rw c.in-Some.is at (last_of_lem a.fans a.last ps h))

@@ -3,33 +3,36 @@
 use native.Mathlib.Omega.{arith}
 use mathlib.Core.Path.{refl}
 use borrow.Author.Tests.{not-true, not-false}
+use Rattle.format.proofs.Refusals.{handed, rule_above}
 use Rattle.pass.proofs.Stepped.{low_kept}
 use Rattle.pass.proofs.Taking.{placed_fault, placed_late, placed_good}
 use Rattle.pass.proofs.placed_step.Goals as goal
 
-pub returns-then-f-ne0 : goal.returns-then-f-ne0
-returns-then-f-ne0 c =
-    placed_fault _ _ (λ i. omega (arith, c.type_inv.b i)) _ _ _ _ _
-    (low_kept _ _ (omega arith) (omega arith) c.stopped.ensures.1) c.if-f-ne0.true c.stopped.ensures.0
-    c.stopped.ensures.1
+pub returns-in_err-f : goal.returns-in_err-f
+returns-in_err-f c =
+    let e = c.in_err-f.field-0.0 in
+    let p = rule_above e in
+    rw (handed _ e c.from_residual.ensures.1, c.in_err-f.was)
+    (placed_fault _ _ (λ i. omega (arith, c.type_inv.b i)) _ _ _ _ _
+    (low_kept _ _ (omega arith) (omega arith) refl) (λ n. omega (arith, p, n)) refl refl)
 
 pub returns-then-not-follows : goal.returns-then-not-follows
 returns-then-not-follows c =
-    placed_late _ _ (λ i. omega (arith, c.type_inv.b i)) _ _ _ _ _
-    (low_kept _ _ (omega (arith, c.requires.0)) c.requires.1 c.stopped-then-not-follows.ensures.1)
-    c.if-f-ne0.false c.follows.ensures (not-true _ c.if-not-follows.true-raw) c.stopped-then-not-follows.ensures.0 c.stopped-then-not-follows.ensures.1
+    rw c.in_ok-f.was
+    (placed_late _ _ (λ i. omega (arith, c.type_inv.b i)) _ _ _ _ _
+    (low_kept _ _ (omega (arith, c.requires.0)) c.requires.1 refl)
+    refl c.follows.ensures (not-true _ c.if-not-follows.true-raw) refl refl)
 
 pub bounds-b-4 : goal.bounds-b-4
-bounds-b-4 c =
-    omega (arith, c.requires.3 c.if-f-ne0.false)
+bounds-b-4 c = let l = rw c.in_ok-f.was at c.requires.3 in omega (arith, l refl)
 
 pub bounds-b-0 : goal.bounds-b-0
-bounds-b-0 c =
-    omega (arith, c.requires.3 c.if-f-ne0.false)
+bounds-b-0 c = let l = rw c.in_ok-f.was at c.requires.3 in omega (arith, l refl)
 
 pub returns : goal.returns
 returns c =
-    placed_good _ _ (λ i. omega (arith, c.type_inv.b i)) _ _ _ _ _
-    (record { most = omega (arith, c.requires.0); few = c.requires.1 }) c.if-f-ne0.false
+    rw c.in_ok-f.was
+    (placed_good _ _ (λ i. omega (arith, c.type_inv.b i)) _ _ _ _ _
+    (record { most = omega (arith, c.requires.0); few = c.requires.1 }) refl
     c.follows.ensures (not-false _ c.if-not-follows.false-raw) c.requires.2
-    c.wide-z.ensures.0 c.wide-t.ensures.0 refl refl refl refl c.claim.ensures c.last_of.ensures refl refl
+    c.wide-z.ensures.0 c.wide-t.ensures.0 refl refl refl refl c.claim.ensures c.last_of.ensures refl refl)

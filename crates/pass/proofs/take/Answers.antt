@@ -16,41 +16,41 @@ returns-in-12 c =
 
 pub returns-in_default : goal.returns-in_default
 returns-in_default c =
-    take_unknown _ _ _ _ _ _ _ _ (low_kept _ _ (omega arith) (omega arith) c.stopped.ensures.1) (search not_known)
-    c.stopped.ensures.0 c.stopped.ensures.1 refl
+    take_unknown _ _ _ _ _ _ _ _ (low_kept _ _ (omega arith) (omega arith) refl) (search not_known)
+    refl refl refl
 
 pub returns-in-1 : goal.returns-in-1
-returns-in-1 c = search (take_placed, refl)
+returns-in-1 c = search take_placed
 
 pub returns-in-2 : goal.returns-in-2
-returns-in-2 c = search (take_placed, refl)
+returns-in-2 c = search take_placed
 
 pub returns-in-3 : goal.returns-in-3
-returns-in-3 c = search (take_placed, refl)
+returns-in-3 c = search take_placed
 
 pub returns-in-4 : goal.returns-in-4
-returns-in-4 c = search (take_placed, refl)
+returns-in-4 c = search take_placed
 
 pub returns-in-5 : goal.returns-in-5
-returns-in-5 c = search (take_placed, refl)
+returns-in-5 c = search take_placed
 
 pub returns-in-6 : goal.returns-in-6
-returns-in-6 c = search (take_placed, refl)
+returns-in-6 c = search take_placed
 
 pub returns-in-7 : goal.returns-in-7
-returns-in-7 c = search (take_placed, refl)
+returns-in-7 c = search take_placed
 
 pub returns-in-8 : goal.returns-in-8
-returns-in-8 c = search (take_placed, refl)
+returns-in-8 c = search take_placed
 
 pub returns-in-9 : goal.returns-in-9
-returns-in-9 c = search (take_placed, refl)
+returns-in-9 c = search take_placed
 
 pub returns-in-10 : goal.returns-in-10
-returns-in-10 c = search (take_placed, refl)
+returns-in-10 c = search take_placed
 
 pub returns-in-13 : goal.returns-in-13
-returns-in-13 c = search (take_placed, refl)
+returns-in-13 c = search take_placed
 
 pub returns-in-14 : goal.returns-in-14
-returns-in-14 c = search (take_placed, refl)
+returns-in-14 c = search take_placed

@@ -7,7 +7,7 @@ pub returns : goal.returns
 returns c =
     let j = c.text_judged.ensures in (
       λ σ at zs zu su.
-          j.steps σ _ (λ i. omega (arith, c.type_inv.b i)) (c.text_breaks-own.ensures σ)
+          j.steps σ _ (λ i. omega (arith, c.type_inv.b i)) (c.text_breaks.ensures σ)
           c.first.ensures at zs zu su,
       j.low,
     )

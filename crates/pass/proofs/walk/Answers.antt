@@ -2,6 +2,7 @@
 -- Assumes nothing.
 use native.Mathlib.Omega.{arith}
 use mathlib.Core.Path.{refl}
+use Rattle.format.proofs.Refusals.{rule_above}
 use Rattle.pass.proofs.Walking.{begin, go_on, stopped, cut_short, finish}
 use Rattle.pass.proofs.walk.Goals as goal
 
@@ -11,47 +12,48 @@ loop-at-init c = (omega arith, c.requires.1, λ d before small e k. begin _ _ _ 
 pub overflow_add-at : goal.overflow_add-at
 overflow_add-at c = omega (arith, c.loop-at.invariant.0, c.requires.0)
 
-pub one_step-r-requires : goal.one_step-r-requires
-one_step-r-requires c =
+pub one_step-requires : goal.one_step-requires
+one_step-requires c =
     (omega (arith, c.loop-at-test.true), c.requires.0, c.loop-at.invariant.1)
 
 pub overflow_add-result : goal.overflow_add-result
 overflow_add-result c =
     omega (arith, c.loop-at.invariant.0, c.requires.0)
 
-pub returns-then-r-ne0 : goal.returns-then-r-ne0
-returns-then-r-ne0 c =
+pub returns-in-Err : goal.returns-in-Err
+returns-in-Err c =
     let i = c.loop-at.invariant in
+    let above = rule_above c.in-Err.rule in
     record {
       from = omega arith;
       to = omega (arith, i.0);
-      low = c.one_step-r.ensures.low;
+      low = c.in-Err.ensures.low;
       walks =
           λ e before small p k.
-          stopped _ _ _ _ _ _ _ _ (i.2 e before small p k) small c.one_step-r.result _
-          (omega (arith, c.loop-at-test.true)) c.one_step-r.ensures
-          c.if-r-ne0.true _ refl refl refl;
+          stopped _ _ _ _ _ _ _ _ (i.2 e before small p k) small _ _
+          (omega (arith, c.loop-at-test.true)) c.in-Err.ensures
+          (λ n. omega (arith, above, n)) _ refl refl refl;
     }
 
-pub overflow_add-at-in-loop-at : goal.overflow_add-at-in-loop-at
-overflow_add-at-in-loop-at c =
-    let g = c.one_step-r.ensures.fits c.if-r-ne0.false in
+pub overflow_add-at-in-Ok : goal.overflow_add-at-in-Ok
+overflow_add-at-in-Ok c =
+    let g = c.in-Ok.ensures.fits refl in
     omega (arith, g.1, c.requires.0)
 
 pub loop-at-smaller : goal.loop-at-smaller
 loop-at-smaller c =
-    let g = c.one_step-r.ensures.fits c.if-r-ne0.false in
+    let g = c.in-Ok.ensures.fits refl in
     omega (arith, g.0, g.1)
 
 pub loop-at-preserved : goal.loop-at-preserved
 loop-at-preserved c =
     let i = c.loop-at.invariant in
-    let g = c.one_step-r.ensures.fits c.if-r-ne0.false in (
+    let g = c.in-Ok.ensures.fits refl in (
       g.1,
-      c.one_step-r.ensures.low,
+      c.in-Ok.ensures.low,
       λ e before small p k.
-          go_on _ _ _ _ _ _ _ _ (i.2 e before small p k) small c.one_step-r.result _
-          (omega (arith, c.loop-at-test.true)) c.one_step-r.ensures c.if-r-ne0.false,
+          go_on _ _ _ _ _ _ _ _ (i.2 e before small p k) small _ _
+          (omega (arith, c.loop-at-test.true)) c.in-Ok.ensures refl,
     )
 
 pub overflow_add-result-then-at-t : goal.overflow_add-result-then-at-t

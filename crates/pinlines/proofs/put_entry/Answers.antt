@@ -15,7 +15,7 @@ returns-then-n-eq65534 c =
 
 pub returns : goal.returns
 returns c =
-    let put = c.put_decimal.ensures.0 in (
+    let put = rw c.from.ensures at c.put_decimal.ensures.0 in (
       rw (ne_eqb _ _ c.if-n-eq65535.false, ne_eqb _ _ c.if-n-eq65534.false) put,
       omega (arith, put.ends, decimal_short _ c.ranges.n.fits),
     )

@@ -1,11 +1,7 @@
 -- `text` meets its contract: at each turn the line of one pin.
 -- Assumes nothing.
-use Prim.Native.Nat.{◌-◌}
 use Rattle.pinlines.proofs.Lining.{Lining}
 use Rattle.pinlines.proofs.text.Given as goal
 
 abbrev pub invariant-loop-i : goal.invariant-loop-i
 invariant-loop-i l = Lining l.chip l.sheet l.initial.out l.i l.end l.out
-
-abbrev pub decreases-loop-i : goal.decreases-loop-i
-decreases-loop-i l = 25 - l.i

@@ -2,5 +2,5 @@
 -- Assumes nothing.
 use Rattle.pinsets.proofs.allowed_or_unused.Goals as goal
 
-pub returns-in-Used : goal.returns-in-Used
-returns-in-Used c = rw c.in-Used.is c.allowed.ensures
+pub returns-in-Some : goal.returns-in-Some
+returns-in-Some c = rw c.in-Some.is c.allowed.ensures

@@ -32,8 +32,8 @@ bounds-t-at-then-id-eq11 c = omega (
 
 pub returns-then-id-eq11 : goal.returns-then-id-eq11
 returns-then-id-eq11 c = λ x ns h m. string_of_zone c.args.t.now
-    c.args.at _ x ns h m c.wide-s.result
-    c.wide-s.ensures.0 c.wide-s.ensures.1 c.if-id-eq11.true
+    c.args.at _ x ns h m c.from-s.result
+    c.from-s.ensures (omega arith) c.if-id-eq11.true
 
 pub overflow_add-at-2 : goal.overflow_add-at-2
 overflow_add-at-2 c = omega (
@@ -52,6 +52,6 @@ bounds-t-at-2 c = omega (
 
 pub returns : goal.returns
 returns c = λ x ns h m. string_read c.args.t.now
-    c.args.at _ x ns h m c.wide-s-2.result
-    c.wide-s-2.ensures.0 c.wide-s-2.ensures.1 c.if-id-eq11.false
+    c.args.at _ x ns h m c.from-s-2.result
+    c.from-s-2.ensures (omega arith) c.if-id-eq11.false
     c.if-id-eq12.false

@@ -37,6 +37,6 @@ bounds-t-at-2 c = omega (
 
 pub returns : goal.returns
 returns c = λ x ns h m. zone_read c.args.t.now
-    c.args.at _ x ns h m c.wide-z.result
-    c.wide-z.ensures.0 c.wide-z.ensures.1 c.if-id-eq11.false
+    c.args.at _ x ns h m c.from-z.result
+    c.from-z.ensures (omega arith) c.if-id-eq11.false
     c.if-id-eq12.false

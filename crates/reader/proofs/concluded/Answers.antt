@@ -8,15 +8,19 @@ pub zoneless-requires : goal.zoneless-requires
 zoneless-requires c = let g = c.requires in (_, g.table, g.zone)
 
 pub returns-then-lacks : goal.returns-then-lacks
-returns-then-lacks c = refused_13 _ _ _ _ _ _ _ c.requires _ c.lacks.ensures
-    c.if-lacks.true _ c.zoneless.ensures
+returns-then-lacks c =
+    rw c.at.ensures
+    (refused_13 _ _ _ _ _ _ _ c.requires _ c.lacks.ensures
+    c.if-lacks.true _ c.zoneless.ensures)
 
 pub returns-then-not-ss-n : goal.returns-then-not-ss-n
-returns-then-not-ss-n c = refused_14_description _ _ _ _ _ _ _ c.requires _
+returns-then-not-ss-n c =
+    rw c.at-then-not-ss-n.ensures
+    (refused_14_description _ _ _ _ _ _ _ c.requires _
     c.lacks.ensures _
     c.lacks-2.ensures c.if-lacks.false
     c.if-lacks-2.true c.wide-n.result c.wide-n.ensures.0
-    c.wide-n.ensures.1 (not-true _ c.if-not-ss-n.true-raw)
+    c.wide-n.ensures.1 (not-true _ c.if-not-ss-n.true-raw))
 
 pub nameless-requires : goal.nameless-requires
 nameless-requires c =
@@ -24,17 +28,21 @@ nameless-requires c =
     (_, g.table, g.string)
 
 pub returns-then-lacks-2 : goal.returns-then-lacks-2
-returns-then-lacks-2 c = refused_14 _ _ _ _ _ _ _ c.requires _
+returns-then-lacks-2 c =
+    rw c.at-then-lacks-2.ensures
+    (refused_14 _ _ _ _ _ _ _ c.requires _
     c.lacks.ensures _
     c.lacks-2.ensures
     c.if-lacks.false c.if-lacks-2.true
     c.wide-n.result c.wide-n.ensures.0 c.wide-n.ensures.1
-    (not-false _ c.if-not-ss-n.false-raw) _ c.nameless.ensures
+    (not-false _ c.if-not-ss-n.false-raw) _ c.nameless.ensures)
 
 pub returns-then-held-ne65536 : goal.returns-then-held-ne65536
-returns-then-held-ne65536 c = refused_15 _ _ _ _ _ _ _ c.requires _
+returns-then-held-ne65536 c =
+    rw c.at-then-held-ne65536.ensures
+    (refused_15 _ _ _ _ _ _ _ c.requires _
     c.lacks.ensures _ c.lacks-2.ensures
-    c.if-lacks.false c.if-lacks-2.false c.if-held-ne65536.true
+    c.if-lacks.false c.if-lacks-2.false c.if-held-ne65536.true)
 
 pub returns : goal.returns
 returns c = accepted_0 _ _ _ _ _ _ _ c.requires _

@@ -4,13 +4,13 @@ use native.Mathlib.Omega.{arith}
 use Rattle.reports.proofs.packed.Goals as goal
 
 pub pack-requires : goal.pack-requires
-pack-requires c = omega (arith, rw c.in-Accepted.is at c.requires)
+pack-requires c = omega (arith, rw c.in-Ok.is at c.requires)
 
-pub pack-requires-in-Refused : goal.pack-requires-in-Refused
-pack-requires-in-Refused c = omega (arith, rw c.in-Refused.is at c.requires)
+pub pack-requires-in-Err : goal.pack-requires-in-Err
+pack-requires-in-Err c = omega (arith, rw c.in-Err.is at c.requires)
 
-pub returns-in-Accepted : goal.returns-in-Accepted
-returns-in-Accepted c = rw c.in-Accepted.is c.pack.ensures
+pub returns-in-Ok : goal.returns-in-Ok
+returns-in-Ok c = rw c.in-Ok.is c.pack.ensures
 
-pub returns-in-Refused : goal.returns-in-Refused
-returns-in-Refused c = rw c.in-Refused.is c.pack-in-Refused.ensures
+pub returns-in-Err : goal.returns-in-Err
+returns-in-Err c = rw c.in-Err.is c.pack-in-Err.ensures

@@ -3,4 +3,4 @@
 use Rattle.reports.proofs.piece.Goals as goal
 
 pub returns : goal.returns
-returns c = rw c.long.ensures c.piece.ensures
+returns c = rw c.after_piece.ensures c.piece.ensures

@@ -3,5 +3,5 @@
 use mathlib.Core.Path.{refl}
 use Rattle.rules.proofs.rises.Goals as goal
 
-pub returns-in-Used : goal.returns-in-Used
-returns-in-Used c = rw c.in-Used.is refl
+pub returns-in-Some : goal.returns-in-Some
+returns-in-Some c = rw c.in-Some.is refl

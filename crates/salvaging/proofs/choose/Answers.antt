@@ -1,14 +1,13 @@
 -- `choose` meets its contract: what each pass leaves is what the next starts from.
 -- Assumes nothing.
-use Prim.Native.Nat.{ℕ}
 use native.Mathlib.Omega.{arith}
-use lib.ListN.{length-replicate}
 use Rattle.saving.proofs.Theorems.{salvageable_says}
+use Rattle.salvaging.proofs.Lonely.{kept_long}
 use Rattle.salvaging.proofs.Deciding.{zones_ready, strings_ready, pins_ready, all_listed, all_decided}
 use Rattle.salvaging.proofs.choose.Goals as goal
 
 pub sift-a-requires : goal.sift-a-requires
-sift-a-requires c = (search zones_ready, length-replicate {A = ℕ} 96 0)
+sift-a-requires c = (search zones_ready, kept_long)
 
 pub bounds-t-4 : goal.bounds-t-4
 bounds-t-4 c =
@@ -18,7 +17,7 @@ pub sift-b-requires : goal.sift-b-requires
 sift-b-requires c =
     let ready = strings_ready _ _ c.requires.0 c.requires.1 c.requires.2 c.requires.3 c.sift-a.ensures
     c.wide-index.ensures.0 c.wide-index.ensures.1 c.note_first-lines.ensures in
-    (ready, length-replicate {A = ℕ} 96 0)
+    (ready, kept_long)
 
 pub sift-c-requires : goal.sift-c-requires
 sift-c-requires c =

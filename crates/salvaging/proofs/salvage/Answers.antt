@@ -5,12 +5,11 @@ use native.Mathlib.Omega.{arith}
 use mathlib.Core.Path.{◌≡◌, sym, ◌∙◌}
 use mathlib.Core.Bool.{Bool, true}
 use mathlib.Core.List.{List}
-use lib.ListN.{length-replicate}
 use Rattle.format.specs.declared.pins.Chip.{Chip}
 use Rattle.saving.specs.Saving.{salvageable}
 use Rattle.saving.proofs.Theorems.{Salvageable, salvageable_says}
 use Rattle.salvaging.proofs.Salvaging.{sound_there, taken_there, refused_24, no_room, room_there, lines_there, salvaged_there}
-use Rattle.salvaging.proofs.Lonely.{nothing, no_kept, no_log, alone_decided, alone_put, no_lines}
+use Rattle.salvaging.proofs.Lonely.{kept_long, log_long, nothing, no_kept, no_log, alone_decided, alone_put, no_lines}
 use Rattle.salvaging.proofs.salvage.Goals as goal
 
 -- the description is sound
@@ -23,17 +22,19 @@ sound_is chip t e h = (salvageable_says chip t).0 (good e h)
 
 pub returns-then-not-sound : goal.returns-then-not-sound
 returns-then-not-sound c =
-    refused_24 _ _ _ _
-    (sound_there _ c.args.file.now _ c.taken-t.ensures _ c.sound.ensures ∙ c.if-not-sound.true)
+    rw c.at.ensures
+    (refused_24 _ _ _ _
+    (sound_there _ c.args.file.now _ c.taken-t.ensures _ c.sound.ensures ∙ c.if-not-sound.true))
 
 pub alone-requires : goal.alone-requires
 alone-requires c = (sound_is c.args.chip c.taken-t.result.now c.sound.ensures c.if-not-sound.false).long
 
 pub returns-then-out-lt16 : goal.returns-then-out-lt16
 returns-then-out-lt16 c =
-    no_room _ c.args.file.now _ _ c.args.lines.now c.taken-t.ensures (λ i. omega (arith, c.type_inv.file i))
+    rw c.at-then-out-lt16.ensures
+    (no_room _ c.args.file.now _ _ c.args.lines.now c.taken-t.ensures (λ i. omega (arith, c.type_inv.file i))
     (good c.sound.ensures c.if-not-sound.false) nothing no_kept no_log
-    (alone_decided _ _ (c.alone.ensures c.if-alone.true)) c.if-out-lt16.true
+    (alone_decided _ _ (c.alone.ensures c.if-alone.true)) c.if-out-lt16.true)
 
 pub put_opening-requires : goal.put_opening-requires
 put_opening-requires c =
@@ -56,13 +57,14 @@ returns-then-alone c =
 pub decide-plan-requires : goal.decide-plan-requires
 decide-plan-requires c =
     let t = taken_there c.args.chip c.args.file.now _ c.taken-t.ensures (λ i. omega (arith, c.type_inv.file i)) in
-    (t.0, t.1, (good c.sound.ensures c.if-not-sound.false), length-replicate {A = ℕ} 96 0, length-replicate {A = ℕ} 1649 0)
+    (t.0, t.1, (good c.sound.ensures c.if-not-sound.false), kept_long, log_long)
 
 pub returns-then-out-plan : goal.returns-then-out-plan
 returns-then-out-plan c =
-    no_room _ c.args.file.now _ _ c.args.lines.now c.taken-t.ensures (λ i. omega (arith, c.type_inv.file i))
+    rw c.at-then-out-plan.ensures
+    (no_room _ c.args.file.now _ _ c.args.lines.now c.taken-t.ensures (λ i. omega (arith, c.type_inv.file i))
     (good c.sound.ensures c.if-not-sound.false) _ _ _
-    c.decide-plan.ensures c.if-out-plan.true
+    c.decide-plan.ensures c.if-out-plan.true)
 
 pub put_table-requires : goal.put_table-requires
 put_table-requires c =

@@ -1,10 +1,14 @@
--- `fate_of` meets its contract.
+-- `fate_of` meets its contract: a rule has no number 0.
 -- Assumes nothing.
+use native.Mathlib.Omega.{arith}
 use mathlib.Core.Path.{refl}
+use Rattle.format.proofs.Refusals.{rule_above}
 use Rattle.scanning.proofs.fate_of.Goals as goal
 
-pub returns-then-stop-eq0 : goal.returns-then-stop-eq0
-returns-then-stop-eq0 c = record { good = λ e. refl; bad = λ e. absurd (e c.if-stop-eq0.true) }
+pub returns-in-None : goal.returns-in-None
+returns-in-None c = rw c.in-None.is (record { good = λ _. refl; bad = λ n. absurd (n refl) })
 
-pub returns-else-stop-eq0 : goal.returns-else-stop-eq0
-returns-else-stop-eq0 c = record { good = λ e. absurd (c.if-stop-eq0.false e); bad = λ e. refl }
+pub returns-in-Some : goal.returns-in-Some
+returns-in-Some c =
+    let above = rule_above c.in-Some.rule in
+    rw (c.in-Some.is, c.number.ensures) (record { good = λ n. absurd (omega (arith, above, n)); bad = λ _. refl })

@@ -1,5 +1,6 @@
 -- `scan` meets its contract: what is left to do ends where the whole ends.
 -- Assumes nothing.
+use Rattle.pass.specs.Steps.{over}
 use Prim.Native.Nat.{◌+◌}
 use native.Mathlib.Omega.{arith}
 use lib.Seq.{length-slice}
@@ -69,7 +70,7 @@ loop-at-preserved c =
     let i = c.loop-at.invariant in (
       omega (arith, c.loop-at.invariant.1.behind, c.loop-at.invariant.1.few_lines, c.if-left-len.false, c.if-len-lt3.false),
       turned _ _ _ _ _ _ _ _ _ i.1 c.requires.2 _ c.length_at-len.ensures c.if-len-lt3.false
-          (omega (arith, c.loop-at.invariant.1.behind, c.loop-at.invariant.1.few_lines, c.if-left-len.false, c.if-len-lt3.false)) i.0 (omega (arith, c.if-n-ge96.false)) c.walk-r.result _ c.walk-r.ensures _
+          (omega (arith, c.loop-at.invariant.1.behind, c.loop-at.invariant.1.few_lines, c.if-left-len.false, c.if-len-lt3.false)) i.0 (omega (arith, c.if-n-ge96.false)) (over c.walk-r.result) _ c.walk-r.ensures _
           c.fate_of.ensures
           _ _ _ c.settle-n.ensures _ c.grown-end.ensures,
     )

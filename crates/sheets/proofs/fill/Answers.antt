@@ -2,38 +2,42 @@
 -- Assumes nothing.
 use native.Mathlib.Omega.{arith}
 use Rattle.reader.proofs.Asking.{long}
-use Rattle.walking.proofs.Left.{here, top}
+use mathlib.Core.Path.{refl}
+use Rattle.walking.proofs.Left.{verdict_divided, here, top}
+use Rattle.walking.proofs.Stepping.{came, over}
 use Rattle.sheets.proofs.Filling.{begun, turned, whole}
 use Rattle.sheets.proofs.fill.Goals as goal
 
 pub first-requires : goal.first-requires
 first-requires c = omega (arith, long _ _ c.requires.1)
 
+pub of-at-items-requires : goal.of-at-items-requires
+of-at-items-requires c = verdict_divided _ _ c.requires.1
+
 pub loop-at-init : goal.loop-at-init
-loop-at-init c = begun _ _ _ c.requires.1 c.first.ensures
+loop-at-init c =
+    let o = c.of-at-items.ensures in
+    rw (c.into_iter-at-iterator.ensures.into_iter_gives, o.0, o.1)
+    (verdict_divided _ _ c.requires.1, tt, refl, begun _ _ _ c.requires.1 c.first.ensures)
 
 pub enter_element-requires : goal.enter_element-requires
 enter_element-requires c =
-    let w = c.loop-at.invariant in
-    (here _ _ _ _ w c.loop-at-test.true, omega (arith, c.loop-at-test.true, top _ _ _ _ w))
-
-pub length_at-at-requires : goal.length_at-at-requires
-length_at-at-requires c =
-    let h = (here _ _ _ _ c.loop-at.invariant c.loop-at-test.true).1 in
-    omega (arith, h.size, h.within)
-
-pub overflow_add-at : goal.overflow_add-at
-overflow_add-at c =
-    let w = c.loop-at.invariant in
-    omega (arith, c.length_at-at.ensures, (here _ _ _ _ w c.loop-at-test.true).1.within, top _ _ _ _ w)
-
-pub loop-at-smaller : goal.loop-at-smaller
-loop-at-smaller c =
-    omega (arith, c.length_at-at.ensures, (here _ _ _ _ c.loop-at.invariant c.loop-at-test.true).1.size, c.loop-at-test.true)
+    let v = c.loop-at.invariant in
+    let s = came c.loop-at.at-iterator c.next.new.self v.2 c.in-Some.ensures.steps in
+    let w = rw s.here at v.3 in
+    (here _ _ _ _ w s.before_end, omega (arith, s.before_end, top _ _ _ _ w))
 
 pub loop-at-preserved : goal.loop-at-preserved
 loop-at-preserved c =
-    turned _ _ _ _ c.loop-at.invariant _ c.loop-at-test.true c.length_at-at.ensures c.enter_element.ensures
+    let v = c.loop-at.invariant in
+    let s = came c.loop-at.at-iterator c.next.new.self v.2 c.in-Some.ensures.steps in (
+      c.in-Some.ensures.goes.keeps,
+      tt,
+      s.table,
+      rw s.next (turned _ _ _ _ (rw s.here at v.3) _ s.before_end refl c.enter_element.ensures),
+    )
 
 pub returns : goal.returns
-returns c = whole _ _ _ _ c.loop-at.invariant c.loop-at-test.false
+returns c =
+    let v = c.loop-at.invariant in
+    whole _ _ _ _ v.3 (over c.loop-at.at-iterator c.next.new.self v.2 c.in-None.ensures.steps)

@@ -1,12 +1,12 @@
 -- `fill` meets its contract: at each place the numbers are the sheet of the elements behind it.
 -- Assumes nothing.
-use Prim.Native.Nat.{◌-◌}
-use lib.ListN.{length}
+use mathlib.Core.Path.{◌≡◌}
 use Rattle.sheets.proofs.Filling.{Filling}
 use Rattle.sheets.proofs.fill.Given as goal
 
 abbrev pub invariant-loop-at : goal.invariant-loop-at
-invariant-loop-at l = Filling l.settings l.t l.at l.s
-
-abbrev pub decreases-loop-at : goal.decreases-loop-at
-decreases-loop-at l = length l.t - l.at
+invariant-loop-at l =
+    (goal.iterator-loop-at).can_next l.at-iterator
+    × (goal.iterator-loop-at).is_finite l.at-iterator
+    × (l.at-iterator.table.now ≡ l.t)
+    × Filling l.fn.settings l.t l.at-iterator.at l.s

@@ -7,12 +7,12 @@ use Rattle.sifting.proofs.Claiming.{claims_there, claim_stays, claim_leaves}
 use Rattle.sifting.proofs.by_claim.Goals as goal
 
 pub element_at-e-requires : goal.element_at-e-requires
-element_at-e-requires c = (c.requires.0.1.r, here_there _ _ _ _ c.requires.0.1)
+element_at-e-requires c = (c.requires.0.1.r, rw c.from-at.ensures (here_there _ _ _ _ c.requires.0.1))
 
 pub returns-then-next-eq65536 : goal.returns-then-next-eq65536
 returns-then-next-eq65536 c =
     λ d kept k keeps w.
-    let cs = claims_there _ _ _ _ keeps d kept _ w _ _ (c.element_at-e.ensures keeps.r (here_there _ _ _ _ keeps))
+    let cs = claims_there _ _ _ _ keeps d kept _ w _ _ (c.element_at-e.ensures keeps.r (rw c.from-at.ensures (here_there _ _ _ _ keeps)))
     c.claims_of.ensures in
     let is = c.claim-next.ensures w.made (claims_of k.what) (omega (arith, c.requires.1)) w.held cs in
     rw (c.fated.ensures.0, c.fated.ensures.1) (claim_stays _ _ _ _ keeps d kept _ w _ _ is c.if-next-eq65536.true)
@@ -20,7 +20,7 @@ returns-then-next-eq65536 c =
 pub returns-else-next-eq65536 : goal.returns-else-next-eq65536
 returns-else-next-eq65536 c =
     λ d kept k keeps w.
-    let cs = claims_there _ _ _ _ keeps d kept _ w _ _ (c.element_at-e.ensures keeps.r (here_there _ _ _ _ keeps))
+    let cs = claims_there _ _ _ _ keeps d kept _ w _ _ (c.element_at-e.ensures keeps.r (rw c.from-at.ensures (here_there _ _ _ _ keeps)))
     c.claims_of.ensures in
     let is = c.claim-next.ensures w.made (claims_of k.what) (omega (arith, c.requires.1)) w.held cs in
     rw (c.fated-else-next-eq65536.ensures.0, c.fated-else-next-eq65536.ensures.1) (claim_leaves _ _ _ _ keeps d kept _ w _ _ is c.if-next-eq65536.false)

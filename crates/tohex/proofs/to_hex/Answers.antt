@@ -7,25 +7,26 @@ use Rattle.hextext.specs.Moved.{no_room, refused}
 use Rattle.hextext.specs.Text.{line_count, hex_of}
 use Rattle.hextext.proofs.Moving.{accepted_short, put_done}
 use Rattle.tohex.proofs.Lines.{lines_length, hex_length}
+use Rattle.format.proofs.Refusals.{handed}
 use Rattle.tohex.proofs.to_hex.Goals as goal
 
-pub returns-in-Refused : goal.returns-in-Refused
-returns-in-Refused c = refused (rw c.in-Refused.is at c.check-answer.ensures)
+pub returns-in_err-check : goal.returns-in_err-check
+returns-in_err-check c = rw (handed _ _ c.from_residual.ensures.1) (refused c.in_err-check.ensures)
 
 pub overflow_add-n-2 : goal.overflow_add-n-2
-overflow_add-n-2 c = omega (arith, accepted_short (rw c.in_default.is at c.check-answer.ensures))
+overflow_add-n-2 c = omega (arith, accepted_short c.in_ok-check.ensures)
 
 pub overflow_add-n-3 : goal.overflow_add-n-3
-overflow_add-n-3 c = omega (arith, accepted_short (rw c.in_default.is at c.check-answer.ensures))
+overflow_add-n-3 c = omega (arith, accepted_short c.in_ok-check.ensures)
 
 pub returns-then-out-n : goal.returns-then-out-n
 returns-then-out-n c =
     let t = c.args.table.now in
-    no_room (rw c.in_default.is at c.check-answer.ensures) (omega (arith, c.if-out-n.true, hex_length t))
+    rw c.at.ensures (no_room c.in_ok-check.ensures (omega (arith, c.if-out-n.true, hex_length t)))
 
 pub put_lines-end-requires : goal.put_lines-end-requires
 put_lines-end-requires c =
-    (accepted_short (rw c.in_default.is at c.check-answer.ensures), omega (arith, c.if-out-n.false))
+    (accepted_short c.in_ok-check.ensures, omega (arith, c.if-out-n.false))
 
 pub put-requires : goal.put-requires
 put-requires c =
@@ -42,6 +43,6 @@ pub returns : goal.returns
 unfolding hex_of
 returns c =
     let t = c.args.table.now in
-    put_done _ (rw c.in_default.is at c.check-answer.ensures)
+    put_done _ c.in_ok-check.ensures
     (omega (arith, hex_length t, c.if-out-n.false))
     (then c.put_lines-end.ensures c.put.ensures)

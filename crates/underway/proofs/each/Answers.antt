@@ -6,10 +6,7 @@ use Rattle.underway.proofs.Eights.{copied_none, copied_next}
 use Rattle.underway.proofs.each.Goals as goal
 
 pub loop-j-init : goal.loop-j-init
-loop-j-init c = (omega arith, copied_none _ _ _ _)
-
-pub bounds-p-j : goal.bounds-p-j
-bounds-p-j c = omega (arith, c.loop-j-test.true, c.requires.0)
+loop-j-init c = copied_none _ _ _ _
 
 pub overflow_add-head : goal.overflow_add-head
 overflow_add-head c =
@@ -23,23 +20,13 @@ bounds-head-from c =
     let l = c.requires.1 (omega arith) in
     omega arith
 
-pub overflow_add-j : goal.overflow_add-j
-overflow_add-j c =
-    let t = c.loop-j-test.true in
-    let l = c.requires.1 (omega arith) in
-    omega arith
-
-pub loop-j-smaller : goal.loop-j-smaller
-loop-j-smaller c = let t = c.loop-j-test.true in omega arith
-
 pub loop-j-preserved : goal.loop-j-preserved
 loop-j-preserved c =
     let t = c.loop-j-test.true in
     let l = c.requires.1 (omega arith) in
-    (omega arith, copied_next _ _ _ _ _ _ c.loop-j.invariant.1 refl (omega arith) (omega arith))
+    copied_next _ _ _ _ _ _ c.loop-j.invariant refl (omega arith) (omega arith)
 
 pub returns : goal.returns
 returns c =
-    let i = c.loop-j.invariant in
-    let e : c.loop-j.j ≡ c.args.end = omega (arith, i.0, c.loop-j-test.false) in
-    rw (← e) i.1
+    let e : c.loop-j.j ≡ c.args.end = omega (arith, c.loop-j-test.false) in
+    rw (← e) c.loop-j.invariant

@@ -8,39 +8,27 @@ use Rattle.underway.proofs.Unit.{good_mark, high_mark, unit_next}
 use Rattle.underway.proofs.units_on.Goals as goal
 
 pub loop-k-init : goal.loop-k-init
-loop-k-init c = (omega arith, λ h. h, λ v q e small. refl)
-
-pub overflow_sub-top : goal.overflow_sub-top
-overflow_sub-top c = omega (arith, c.loop-k.invariant.0, c.requires.0)
-
-pub bounds-p-k : goal.bounds-p-k
-bounds-p-k c =
-    omega (arith, c.loop-k.invariant.0, c.loop-k-test.true, c.requires.0, c.requires.1)
+loop-k-init c = λ v q e small. refl
 
 pub loop-k-preserved : goal.loop-k-preserved
 loop-k-preserved c =
-    let i = c.loop-k.invariant in
     let a = c.args in
     let p = c.requires in
     let k = c.loop-k.k in
-    let t = c.loop-k-test.true in (
-      omega (arith, i.0),
-      λ h. omega (arith, t),
-      λ v q e small.
-          rw c.agrees-good.ensures
-          (unit_next v a.p.now q k c.loop-k.good (eqb c.loop-k.last 54) small (ap (λ (n : ℕ). 7 + 2 * k - n) e)
-          (omega (arith, i.0, p.0, e)) (omega (arith, i.0, t, p.0, p.1)) refl
-          ∙ i.2 v q e small),
-    )
+    let t = c.loop-k-test.true in
+    λ v q e small.
+    rw c.agrees-good.ensures
+    (unit_next v a.p.now q k c.loop-k.good (eqb c.loop-k.last 54) small (ap (λ (n : ℕ). 7 + 2 * k - n) e)
+    (omega (arith, c.loop-k.auto.k, p.0, e)) (omega (arith, c.loop-k.auto.k, t, p.0, p.1)) refl
+    ∙ c.loop-k.invariant v q e small)
 
 pub returns : goal.returns
 returns c =
-    let i = c.loop-k.invariant in
     let g = c.loop-k.good in
     let h = eqb c.loop-k.last 54 in
     record {
       on =
           λ v q e f small.
-          let z : c.loop-k.k ≡ c.args.end = omega (arith, i.1 f, c.loop-k-test.false) in
-          rw (c.mark_of.ensures, good_mark g h, high_mark g h, ← z, ← c.top_of-last.ensures) (i.2 v q e small);
+          let z : c.loop-k.k ≡ c.args.end = omega (arith, c.loop-k.auto.k-end f, c.loop-k-test.false) in
+          rw (c.mark_of.ensures, good_mark g h, high_mark g h, ← z, ← c.top_of-last.ensures) (c.loop-k.invariant v q e small);
     }

@@ -1,6 +1,6 @@
 -- `units_on` meets its contract: what is left of the units ends where it ended.
 -- Assumes nothing.
-use Prim.Native.Nat.{ℕ, ◌-◌, ◌≤◌}
+use Prim.Native.Nat.{ℕ}
 use mathlib.Core.Path.{◌≡◌}
 use mathlib.Core.List.{List, ◌++◌}
 use lib.ListN.{length, drop}
@@ -11,10 +11,5 @@ use Rattle.underway.proofs.units_on.Given as goal
 
 abbrev pub invariant-loop-k : goal.invariant-loop-k
 invariant-loop-k l =
-    (l.initial.k ≤ l.k)
-    × (l.initial.k ≤ l.end → l.k ≤ l.end)
-    × ((v q : List ℕ) → l.had ≡ length v → Bytes (v ++ (l.p ++ q)) → left_from l.k l.good (eqb l.last 54) (drop 6 (v ++ (l.p ++ q)))
-    ≡ left_from l.initial.k l.initial.good (eqb l.initial.last 54) (drop 6 (v ++ (l.p ++ q))))
-
-abbrev pub decreases-loop-k : goal.decreases-loop-k
-decreases-loop-k l = l.end - l.k
+    (v q : List ℕ) → l.had ≡ length v → Bytes (v ++ (l.p ++ q)) → left_from l.k l.good (eqb l.last 54) (drop 6 (v ++ (l.p ++ q)))
+    ≡ left_from l.initial.k l.initial.good (eqb l.initial.last 54) (drop 6 (v ++ (l.p ++ q)))

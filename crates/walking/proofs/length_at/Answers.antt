@@ -6,4 +6,4 @@ use Rattle.walking.proofs.length_at.Goals as goal
 pub returns : goal.returns
 returns c =
     let a = c.args in
-    rw (get_or-drop a.at a.t.now 1 0, get_or-drop a.at a.t.now 2 0, c.wide.ensures.0, c.wide-2.ensures.0)
+    rw (get_or-drop a.at a.t.now 1 0, get_or-drop a.at a.t.now 2 0, c.from.ensures, c.from-2.ensures)

@@ -8,7 +8,8 @@ use Rattle.writer.proofs.room.Goals as goal
 pub returns-then-part-gt4096 : goal.returns-then-part-gt4096
 returns-then-part-gt4096 c =
     let a = c.args in
-    too_long a.buffer.now a.n a.e a.part.now (omega (arith, element_length a.e a.part.now, c.if-part-gt4096.true))
+    rw c.at.ensures
+    (too_long a.buffer.now a.n a.e a.part.now (omega (arith, element_length a.e a.part.now, c.if-part-gt4096.true)))
 
 pub overflow_add-m-2 : goal.overflow_add-m-2
 overflow_add-m-2 c =
@@ -21,14 +22,16 @@ overflow_add-m-3 c =
 pub returns-then-buffer-m : goal.returns-then-buffer-m
 returns-then-buffer-m c =
     let a = c.args in
-    past_buffer a.buffer.now a.n a.e a.part.now
-    (omega (arith, element_length a.e a.part.now, c.fixed_length.ensures, c.if-buffer-m.true))
+    rw c.at-then-buffer-m.ensures
+    (past_buffer a.buffer.now a.n a.e a.part.now
+    (omega (arith, element_length a.e a.part.now, c.fixed_length.ensures, c.if-buffer-m.true)))
 
 pub returns-then-m-gt4096 : goal.returns-then-m-gt4096
 returns-then-m-gt4096 c =
     let a = c.args in
-    too_long a.buffer.now a.n a.e a.part.now
-    (omega (arith, element_length a.e a.part.now, c.fixed_length.ensures, c.if-m-gt4096.true))
+    rw c.at-then-m-gt4096.ensures
+    (too_long a.buffer.now a.n a.e a.part.now
+    (omega (arith, element_length a.e a.part.now, c.fixed_length.ensures, c.if-m-gt4096.true)))
 
 pub returns : goal.returns
 returns c =

@@ -2,11 +2,8 @@
 -- Assumes nothing.
 use native.Mathlib.Omega.{arith}
 use mathlib.Core.Path.{refl}
-use Rattle.comparing.proofs.Lined.{rows_begun, rows_room, row_below, row_turned, rows_ended}
+use Rattle.comparing.proofs.Lined.{rows_begun, rows_room, row_turned, rows_ended}
 use Rattle.comparing.proofs.lines.put_rows.Goals as goal
-
-pub overflow_add-to : goal.overflow_add-to
-overflow_add-to c = omega (arith, c.requires)
 
 pub loop-i-init : goal.loop-i-init
 loop-i-init c = rows_begun _ _ _ _ _ _ _ _ c.requires.3 refl
@@ -14,23 +11,12 @@ loop-i-init c = rows_begun _ _ _ _ _ _ _ _ c.requires.3 refl
 pub put_row-end-requires : goal.put_row-end-requires
 put_row-end-requires c =
     let a = c.args in
-    let w = c.loop-i.invariant in
-    let r = rows_room a.one.now a.two.now a.a a.b w in
-    let k = row_below a.one.now a.two.now a.a a.b w c.loop-i-test.true in
-    (omega (arith, r, c.requires), c.requires.1, c.requires.2, k)
-
-pub loop-i-smaller : goal.loop-i-smaller
-loop-i-smaller c = omega (arith, c.loop-i-test.true)
-
-pub overflow_add-i : goal.overflow_add-i
-overflow_add-i c = omega (arith, c.loop-i-test.true, c.loop-i.invariant.top)
+    let r = rows_room a.one.now a.two.now a.a a.b c.loop-i.invariant in
+    (omega (arith, r, c.requires), c.requires.1, c.requires.2, omega (arith, c.loop-i-test.true, c.requires))
 
 pub loop-i-preserved : goal.loop-i-preserved
 loop-i-preserved c =
     row_turned _ _ _ _ c.loop-i.invariant c.loop-i-test.true c.put_row-end.ensures
-
-pub shape_of-out : goal.shape_of-out
-shape_of-out c = c.loop-i.invariant.midst.put.long
 
 pub returns : goal.returns
 returns c = rows_ended _ _ _ _ c.loop-i.invariant c.loop-i-test.false

@@ -4,16 +4,16 @@ use native.Mathlib.Omega.{arith}
 use mathlib.Core.Path.{refl}
 use Rattle.esa.proofs.packing.asked.Goals as goal
 
-pub pack-requires-in-Refused : goal.pack-requires-in-Refused
-pack-requires-in-Refused c = omega (arith, rw c.in-Refused.is at c.requires)
+pub refused-requires : goal.refused-requires
+refused-requires c = omega (arith, rw c.in-Err.is at c.requires)
 
-pub returns-in-Element : goal.returns-in-Element
-returns-in-Element c = rw (
-  c.in-Element.is,
+pub returns-in-Ok : goal.returns-in-Ok
+returns-in-Ok c = rw (
+  c.in-Ok.is,
   c.pack.ensures,
   c.wide.ensures.0,
   c.id_of.ensures,
 ) refl
 
-pub returns-in-Refused : goal.returns-in-Refused
-returns-in-Refused c = rw c.in-Refused.is c.pack-in-Refused.ensures
+pub returns-in-Err : goal.returns-in-Err
+returns-in-Err c = rw c.in-Err.is c.refused.ensures

@@ -1,23 +1,16 @@
--- `packing::label` meets its contract: each case has its slice, place and length, or its number and place.
+-- `packing::label` meets its contract, by whether there is a label.
 -- Assumes nothing.
 use native.Mathlib.Omega.{arith}
-use mathlib.Core.Path.{refl}
 use Rattle.esa.proofs.packing.label.Goals as goal
 
-pub within-requires : goal.within-requires
-within-requires c = omega (arith, rw c.in-Text.is at c.requires)
+pub called-requires : goal.called-requires
+called-requires c = rw c.in-Ok.is at c.requires
 
-pub within-requires-in-Lent : goal.within-requires-in-Lent
-within-requires-in-Lent c = (omega arith, omega arith, c.shown.ensures.1)
+pub refused-requires : goal.refused-requires
+refused-requires c = omega (arith, rw c.in-Err.is at c.requires)
 
-pub pack-requires : goal.pack-requires
-pack-requires c = omega (arith, rw c.in-Refused.is at c.requires)
+pub returns-in-Ok : goal.returns-in-Ok
+returns-in-Ok c = rw c.in-Ok.is c.called.ensures
 
-pub returns-in-Text : goal.returns-in-Text
-returns-in-Text c = rw c.in-Text.is c.within.ensures
-
-pub returns-in-Lent : goal.returns-in-Lent
-returns-in-Lent c = rw (c.in-Lent.is, c.within-in-Lent.ensures, c.shown.ensures.0) refl
-
-pub returns-in-Refused : goal.returns-in-Refused
-returns-in-Refused c = rw c.in-Refused.is c.pack.ensures
+pub returns-in-Err : goal.returns-in-Err
+returns-in-Err c = rw c.in-Err.is c.refused.ensures

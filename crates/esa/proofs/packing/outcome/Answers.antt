@@ -5,19 +5,20 @@ use mathlib.Core.Path.{refl}
 use Rattle.esa.proofs.packing.outcome.Goals as goal
 
 pub pack-requires : goal.pack-requires
-pack-requires c = omega (arith, rw c.in-Text.is at c.requires)
+pack-requires c = omega (arith, rw c.in-Ok.is at c.requires)
 
-pub overflow_mul-wide : goal.overflow_mul-wide
-overflow_mul-wide c = omega (arith, c.wide.ensures, rw c.in-Refused.is at c.requires)
+pub overflow_mul-place : goal.overflow_mul-place
+overflow_mul-place c = omega (arith, c.wide.ensures, c.number.ensures, rw c.in-Err.is at c.requires)
 
-pub overflow_add-p : goal.overflow_add-p
-overflow_add-p c = omega (arith, c.wide.ensures, rw c.in-Refused.is at c.requires)
+pub overflow_add-place : goal.overflow_add-place
+overflow_add-place c = omega (arith, c.wide.ensures, c.number.ensures, rw c.in-Err.is at c.requires)
 
-pub pack-requires-in-Refused : goal.pack-requires-in-Refused
-pack-requires-in-Refused c = omega (arith, c.wide.ensures, rw c.in-Refused.is at c.requires)
+pub pack-requires-in-Err : goal.pack-requires-in-Err
+pack-requires-in-Err c = omega (arith, c.wide.ensures, c.number.ensures, rw c.in-Err.is at c.requires)
 
-pub returns-in-Text : goal.returns-in-Text
-returns-in-Text c = rw c.in-Text.is c.pack.ensures
+pub returns-in-Ok : goal.returns-in-Ok
+returns-in-Ok c = rw c.in-Ok.is c.pack.ensures
 
-pub returns-in-Refused : goal.returns-in-Refused
-returns-in-Refused c = rw (c.in-Refused.is, c.pack-in-Refused.ensures, c.wide.ensures.0) refl
+pub returns-in-Err : goal.returns-in-Err
+returns-in-Err c =
+    rw (c.in-Err.is, c.pack-in-Err.ensures, c.wide.ensures.0, c.number.ensures, c.number-in-Err.ensures) refl

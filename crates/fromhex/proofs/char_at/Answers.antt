@@ -1,8 +1,0 @@
--- `char_at` meets its contract: past the end there is nothing.
--- Assumes nothing.
-use mathlib.Core.Path.{sym}
-use lib.ListN.{get_or-eq_default}
-use Rattle.fromhex.proofs.char_at.Goals as goal
-
-pub returns-else-i-text : goal.returns-else-i-text
-returns-else-i-text c = sym (get_or-eq_default c.args.text.now 0 c.if-i-text.false)

@@ -1,6 +1,0 @@
--- `into::voltage` meets its contract, by what each call ensures of its result.
--- Assumes nothing.
-use Rattle.numbered.proofs.voltage.Goals as goal
-
-pub returns : goal.returns
-returns c = rw (c.three_at.ensures, c.placement.ensures)
