@@ -5,13 +5,14 @@
 ghost use Rattle.std.specs.Prelude.{true, false};
 ghost use Rattle.format.specs.Slots.{byte};
 ghost use Rattle.format.specs.Decode.{read_description};
-ghost use Rattle.pass.specs.Tracks.{flags};
+ghost use Rattle.pass.specs.Tracks.{flags_of, Same};
+ghost use Rattle.naming.specs.Naming.{SamePlaces};
 ghost use Rattle.advancing.specs.Advancing.{Fresh, SoundIs, ClearIs, GoIs, AdvanceIs};
 
 use closing::Way;
 use format::settings::Settings;
-use pass::State;
-use words::wide;
+use naming::Places;
+use pass::{Marks, State};
 
 // The description is whole: it breaks a rule, or the pass begins at 16.
 pub fn open(first: &[u8; 30], settings: Settings) -> Way
@@ -49,31 +50,23 @@ fn sound(w: Way, more: usize) -> bool
 }
 
 // Before the first element all flags and places are cleared, but for the description's string index.
-fn clear(
-    fresh: bool,
-    string: u8,
-    zs: &mut [bool; 256],
-    ss: &mut [bool; 256],
-    zu: &mut [bool; 256],
-    su: &mut [bool; 256],
-    zp: &mut [u16; 256],
-    sp: &mut [u16; 256],
-)
-    ensures { ClearIs fresh string (flags zs.old ss.old zu.old su.old)
-        zp.old sp.old (flags zs.new ss.new zu.new su.new) zp.new
-        sp.new }
+fn clear(fresh: bool, string: u8, marks: &mut Marks, places: &mut Places)
+    ensures clears { ClearIs fresh string (flags_of marks.old)
+        places.old.zones.now places.old.strings.now (flags_of marks.new) places.new.zones.now places.new.strings.now }
+    ensures same_places { SamePlaces places.old places.new }
+    ensures same_arrays { Same marks.old marks.new }
 {
     if !fresh {
         return;
     }
-    *zs = [false; 256];
-    *ss = [false; 256];
-    *zu = [false; 256];
-    *su = [false; 256];
-    *zp = [0; 256];
-    *sp = [0; 256];
-    let n = wide(string);
-    su[n] = true;
+    *marks.zones = [false; 256];
+    *marks.strings = [false; 256];
+    *marks.zone_uses = [false; 256];
+    *marks.string_uses = [false; 256];
+    *places.zones = [0; 256];
+    *places.strings = [0; 256];
+    let n = usize::from(string);
+    marks.string_uses[n] = true;
 }
 
 // At least one byte more of the elements.
@@ -81,23 +74,21 @@ fn go_on(
     w: Way,
     q: &[u8],
     head: &mut [u8; 30],
-    zs: &mut [bool; 256],
-    ss: &mut [bool; 256],
-    zu: &mut [bool; 256],
-    su: &mut [bool; 256],
-    zp: &mut [u16; 256],
-    sp: &mut [u16; 256],
+    marks: &mut Marks,
+    places: &mut Places,
     settings: Settings,
 ) -> Way
-    ensures { GoIs settings w q.now head.old
-        (flags zs.old ss.old zu.old su.old) zp.old sp.old result
-        head.new (flags zs.new ss.new zu.new su.new) zp.new sp.new }
+    ensures goes { GoIs settings w q.now head.old
+        (flags_of marks.old) places.old.zones.now places.old.strings.now result
+        head.new (flags_of marks.new) places.new.zones.now places.new.strings.now }
+    ensures same_places { SamePlaces places.old places.new }
+    ensures same_arrays { Same marks.old marks.new }
 {
     let m = q.len();
     if !sound(w, m) {
         return w;
     }
-    passing::pass_on(w, q, head, zs, ss, zu, su, zp, sp, settings)
+    passing::pass_on(w, q, head, marks, places, settings)
 }
 
 // Bytes of elements, the first of all or more of them.
@@ -107,17 +98,15 @@ pub fn advance(
     q: &[u8],
     string: u8,
     head: &mut [u8; 30],
-    zs: &mut [bool; 256],
-    ss: &mut [bool; 256],
-    zu: &mut [bool; 256],
-    su: &mut [bool; 256],
-    zp: &mut [u16; 256],
-    sp: &mut [u16; 256],
+    marks: &mut Marks,
+    places: &mut Places,
     settings: Settings,
 ) -> Way
-    ensures { AdvanceIs settings w fresh q.now string head.old
-        (flags zs.old ss.old zu.old su.old) zp.old sp.old result
-        head.new (flags zs.new ss.new zu.new su.new) zp.new sp.new }
+    ensures advances { AdvanceIs settings w fresh q.now string head.old
+        (flags_of marks.old) places.old.zones.now places.old.strings.now result
+        head.new (flags_of marks.new) places.new.zones.now places.new.strings.now }
+    ensures same_places { SamePlaces places.old places.new }
+    ensures same_arrays { Same marks.old marks.new }
 {
     if q.len() == 0 {
         return w;
@@ -125,6 +114,6 @@ pub fn advance(
     if w.stop != 0 {
         return w;
     }
-    clear(fresh, string, zs, ss, zu, su, zp, sp);
-    go_on(w, q, head, zs, ss, zu, su, zp, sp, settings)
+    clear(fresh, string, marks, places);
+    go_on(w, q, head, marks, places, settings)
 }

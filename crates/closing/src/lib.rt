@@ -5,16 +5,17 @@ ghost use Rattle.std.specs.Prelude.{◌≡◌, true, false, ◌+◌, ◌≤◌, 
 ghost use Rattle.found.specs.Judged.{finding};
 ghost use Rattle.pass.specs.Steps.{stop_number};
 ghost use Rattle.format.specs.Verdict.{known};
-ghost use Rattle.pass.specs.Tracks.{flags, Low};
+ghost use Rattle.pass.specs.Tracks.{flags_of, Same, Low, Room};
 ghost use Rattle.stream.specs.Running.{unready};
+ghost use Rattle.naming.specs.Naming.{SamePlaces};
 ghost use Rattle.closing.specs.Ways.{WholeIs, FixedIs, TextClosed, DeviceClosed, CloseIs};
 
 use format::answers::Rule;
 use format::settings::Settings;
 use found::Found;
-use pass::State;
+use naming::Places;
+use pass::{Marks, State};
 use underway::Under;
-use words::wide;
 
 // Where the pass is: the rule that stopped it, or 0, and its place; or the place of the element under way, what is held of it, and
 // what the elements before have left.
@@ -49,7 +50,7 @@ pub fn broken(stop: u8, at: usize, state: State) -> Way
     ensures { (result.stop ≡ stop) × (result.at ≡ at) × (result.under.len ≡ 0) × (result.under.at ≡ 0) × (result.state ≡ state) }
 {
     Way {
-        stop: wide(stop),
+        stop: usize::from(stop),
         at,
         under: underway::so_many(0),
         state,
@@ -71,20 +72,18 @@ fn whole(
     p: &[u8],
     at: usize,
     s: State,
-    zs: &mut [bool; 256],
-    ss: &mut [bool; 256],
-    zu: &mut [bool; 256],
-    su: &mut [bool; 256],
-    zp: &mut [u16; 256],
-    sp: &mut [u16; 256],
+    marks: &mut Marks,
+    places: &mut Places,
     settings: Settings,
 ) -> Ran
     requires { (at + length p.now ≤ 4097) × Low s }
-    ensures { WholeIs settings p.now at s
-        (flags zs.old ss.old zu.old su.old) zp.old sp.old result
-        (flags zs.new ss.new zu.new su.new) zp.new sp.new }
+    ensures elements { WholeIs settings p.now at s
+        (flags_of marks.old) places.old.zones.now places.old.strings.now result
+        (flags_of marks.new) places.new.zones.now places.new.strings.now }
+    ensures same_places { SamePlaces places.old places.new }
+    ensures same_arrays { Same marks.old marks.new }
 {
-    let r = pass::walk(p, at, s, zs, ss, zu, su, settings);
+    let r = pass::walk(p, at, s, marks, settings);
     let state = r.state;
     let stop = stop_of(r.stop);
     if (stop != 0) & (stop != 6) {
@@ -94,7 +93,7 @@ fn whole(
         };
     }
     let taken = r.place - at;
-    naming::name_all(p, taken, at, zp, sp);
+    naming::name_all(p, taken, at, places);
     Ran {
         taken,
         way: broken(0, r.place, state),
@@ -108,7 +107,7 @@ fn waits(p: &[u8]) -> bool
     if p.len() < 3 {
         return true;
     }
-    p.len() < wide(p[1]) + 256 * wide(p[2])
+    p.len() < usize::from(p[1]) + 256 * usize::from(p[2])
 }
 
 // The whole elements at the start of a piece. Often there is none, which is seen before the walk.
@@ -116,18 +115,16 @@ pub fn front(
     p: &[u8],
     at: usize,
     s: State,
-    zs: &mut [bool; 256],
-    ss: &mut [bool; 256],
-    zu: &mut [bool; 256],
-    su: &mut [bool; 256],
-    zp: &mut [u16; 256],
-    sp: &mut [u16; 256],
+    marks: &mut Marks,
+    places: &mut Places,
     settings: Settings,
 ) -> Ran
     requires { (at + length p.now ≤ 4097) × Low s }
-    ensures { WholeIs settings p.now at s
-        (flags zs.old ss.old zu.old su.old) zp.old sp.old result
-        (flags zs.new ss.new zu.new su.new) zp.new sp.new }
+    ensures elements { WholeIs settings p.now at s
+        (flags_of marks.old) places.old.zones.now places.old.strings.now result
+        (flags_of marks.new) places.new.zones.now places.new.strings.now }
+    ensures same_places { SamePlaces places.old places.new }
+    ensures same_arrays { Same marks.old marks.new }
 {
     if waits(p) {
         return Ran {
@@ -135,7 +132,7 @@ pub fn front(
             way: broken(0, at, s),
         };
     }
-    whole(p, at, s, zs, ss, zu, su, zp, sp, settings)
+    whole(p, at, s, marks, places, settings)
 }
 
 // One whole element of a kind without a part, from the bytes that are kept.
@@ -143,31 +140,29 @@ fn fixed(
     p: &[u8],
     at: usize,
     s: State,
-    zs: &mut [bool; 256],
-    ss: &mut [bool; 256],
-    zu: &mut [bool; 256],
-    su: &mut [bool; 256],
-    zp: &mut [u16; 256],
-    sp: &mut [u16; 256],
+    marks: &mut Marks,
+    places: &mut Places,
     settings: Settings,
 ) -> Way
     requires { (at + length p.now ≤ 4097) × Low s }
-    ensures { FixedIs settings p.now at s
-        (flags zs.old ss.old zu.old su.old) zp.old sp.old result
-        (flags zs.new ss.new zu.new su.new) zp.new sp.new }
+    ensures closes { FixedIs settings p.now at s
+        (flags_of marks.old) places.old.zones.now places.old.strings.now result
+        (flags_of marks.new) places.new.zones.now places.new.strings.now }
+    ensures same_places { SamePlaces places.old places.new }
+    ensures same_arrays { Same marks.old marks.new }
 {
-    let r = pass::walk(p, at, s, zs, ss, zu, su, settings);
+    let r = pass::walk(p, at, s, marks, settings);
     let state = r.state;
     if let Some(rule) = r.stop {
         return broken(rule.number(), at, state);
     }
-    naming::name_all(p, r.place - at, at, zp, sp);
+    naming::name_all(p, r.place - at, at, places);
     broken(0, r.place, state)
 }
 
 // 0Ch
 fn text(u: Under, head: &[u8; 30], at: usize, s: State, ss: &mut [bool; 256]) -> Way
-    requires { (at + u.len ≤ 4097) × (s.count < 96) × (s.zones ≤ 12) }
+    requires { (at + u.len ≤ 4097) × Room s }
     ensures { TextClosed u head.now at s ss.old result ss.new }
 {
     match pass::text_judged(judging::text(u, head), judging::number(u, head), s, ss) {
@@ -186,18 +181,19 @@ fn device(
     s: State,
     zu: &mut [bool; 256],
     su: &mut [bool; 256],
-    zp: &mut [u16; 256],
-    sp: &mut [u16; 256],
+    places: &mut Places,
 ) -> Way
-    requires { (at + u.len ≤ 4097) × (s.count < 96) × (s.zones ≤ 12) }
-    ensures { DeviceClosed id (finding found) u head.now at s zu.old su.old zp.old
-        sp.old result zu.new su.new zp.new sp.new }
+    requires { (at + u.len ≤ 4097) × Room s }
+    ensures closes { DeviceClosed id (finding found) u head.now at s
+        zu.old su.old places.old.zones.now places.old.strings.now result
+        zu.new su.new places.new.zones.now places.new.strings.now }
+    ensures same_places { SamePlaces places.old places.new }
 {
     let h = &head[..];
     match pass::placed_step(found, &h[3..30], at, s, zu, su) {
         Err(rule) => broken(rule.number(), at, s),
         Ok(state) => {
-            naming::name(id, &h[3..30], at, zp, sp);
+            naming::name(id, &h[3..30], at, places);
             broken(0, at + u.len, state)
         }
     }
@@ -232,25 +228,23 @@ pub fn close(
     head: &[u8; 30],
     at: usize,
     s: State,
-    zs: &mut [bool; 256],
-    ss: &mut [bool; 256],
-    zu: &mut [bool; 256],
-    su: &mut [bool; 256],
-    zp: &mut [u16; 256],
-    sp: &mut [u16; 256],
+    marks: &mut Marks,
+    places: &mut Places,
     settings: Settings,
 ) -> Way
     requires { (at + u.len ≤ 4097) × (u.at ≤ 10000) × Low s }
-    ensures { CloseIs settings u head.now at s
-        (flags zs.old ss.old zu.old su.old) zp.old sp.old result
-        (flags zs.new ss.new zu.new su.new) zp.new sp.new }
+    ensures closes { CloseIs settings u head.now at s
+        (flags_of marks.old) places.old.zones.now places.old.strings.now result
+        (flags_of marks.new) places.new.zones.now places.new.strings.now }
+    ensures same_places { SamePlaces places.old places.new }
+    ensures same_arrays { Same marks.old marks.new }
 {
     if 96 <= s.count {
         return broken(11, at, s);
     }
     let id = head[0];
     if id == 12 {
-        return text(u, head, at, s, ss);
+        return text(u, head, at, s, marks.strings);
     }
     if id == 9 {
         return device(
@@ -260,10 +254,9 @@ pub fn close(
             head,
             at,
             s,
-            zu,
-            su,
-            zp,
-            sp,
+            marks.zone_uses,
+            marks.string_uses,
+            places,
         );
     }
     if id == 10 {
@@ -274,10 +267,9 @@ pub fn close(
             head,
             at,
             s,
-            zu,
-            su,
-            zp,
-            sp,
+            marks.zone_uses,
+            marks.string_uses,
+            places,
         );
     }
     if id == 13 {
@@ -288,10 +280,9 @@ pub fn close(
             head,
             at,
             s,
-            zu,
-            su,
-            zp,
-            sp,
+            marks.zone_uses,
+            marks.string_uses,
+            places,
         );
     }
     let len = u.len;
@@ -299,5 +290,5 @@ pub fn close(
         return broken(too_long(id), at, s);
     }
     let h = &head[..];
-    fixed(&h[0..len], at, s, zs, ss, zu, su, zp, sp, settings)
+    fixed(&h[0..len], at, s, marks, places, settings)
 }

@@ -21,7 +21,6 @@ use format::pins::Chip;
 use format::settings::{Rules, Settings};
 use lines::{put_fields, put_kind, put_part, put_rows};
 use walking::{length_at, part_at};
-use words::wide;
 
 // Which of the two tables.
 #[derive(Clone, Copy)]
@@ -127,7 +126,7 @@ fn put_pair(out: &mut [u8], at: usize, one: &[u8], two: &[u8], a: usize, b: usiz
     let k = one[a];
     let l = two[b];
     if k == l {
-        let e = put_fields(out, at, one, two, a, b, wide(k));
+        let e = put_fields(out, at, one, two, a, b, usize::from(k));
         return put_part(out, e, a, b, part_at(one, a), part_at(two, b));
     }
     put_kind(out, at, Some(a), Some(b), Some(k), Some(l))

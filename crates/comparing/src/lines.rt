@@ -7,7 +7,6 @@ ghost use Rattle.comparing.specs.Lines.{place_text, id_text, kind_line};
 
 use crate::rows::{COUNTS, FIRSTS, PLACEDS, content, name};
 use spelling::{put, put_decimal, put_hex, put_pin_or_dash};
-use words::wide;
 
 // One byte.
 fn put_byte(out: &mut [u8], at: usize, b: u8) -> usize
@@ -151,9 +150,9 @@ pub fn put_fields(
     requires { (at + length (fields_text one.now two.now a b id) + 68 ≤ length out.old) × (a ≤ 4096) × (b ≤ 4096) × (id < 15) }
     ensures { Put out.old at (fields_text one.now two.now a b id) result out.new }
 {
-    let placed = wide(PLACEDS[id]);
-    let first = wide(FIRSTS[id]);
-    let count = wide(COUNTS[id]);
+    let placed = usize::from(PLACEDS[id]);
+    let first = usize::from(FIRSTS[id]);
+    let count = usize::from(COUNTS[id]);
     let e = put_rows(out, at, one, two, a, b, 0, placed);
     put_rows(out, e, one, two, a, b, first, count)
 }

@@ -3,8 +3,6 @@ ghost use Rattle.std.specs.Prelude.{◌≡◌, ◌+◌, ◌<◌, ◌≤◌, leng
 ghost use Rattle.format.specs.Slots.{byte};
 ghost use Rattle.comparing.specs.Rows.{ways, offsets, way_number, reading, code_at, name_text};
 
-use words::wide;
-
 // How a field stands in the bytes at its offset.
 #[derive(Clone, Copy)]
 pub enum Way {
@@ -114,14 +112,14 @@ fn offset(i: usize) -> usize
     requires { i < 59 }
     ensures { (result ≡ get_or offsets i 0) × (result < 256) }
 {
-    wide(ROWS[i].2)
+    usize::from(ROWS[i].2)
 }
 
 // The byte at a place, 0 past the end.
 fn at_or_zero(t: &[u8], k: usize) -> usize
     ensures { (result ≡ byte t.now k) × (result < 256) }
 {
-    wide(t.get(k).copied().unwrap_or(0))
+    usize::from(t.get(k).copied().unwrap_or(0))
 }
 
 // The content of three bytes.

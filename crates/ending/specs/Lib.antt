@@ -1,3 +1,4 @@
 pub mod Stands
 pub mod Ending
 pub mod Stopped
+pub mod Left

@@ -5,7 +5,7 @@
 ghost use Rattle.format.specs.Answers.{rule_number};
 ghost use Rattle.ending.specs.Stopped.{ended};
 ghost use Rattle.std.specs.Prelude.{◌≡◌, ◌%◌};
-ghost use Rattle.pass.specs.Tracks.{flags};
+ghost use Rattle.ending.specs.Left.{flags_in};
 ghost use Rattle.ending.specs.Ending.{LackingIs, AloneIs, OverIs, PassedIs, VerdictIs};
 
 use claims::Held;
@@ -13,7 +13,17 @@ use closing::Way;
 use flags::lacks;
 use format::answers::Rule;
 use pass::State;
-use words::wide;
+
+// What the pass has left by number, as it is lent: which zone and string numbers are declared, which are named, and where first.
+#[derive(Clone, Copy)]
+pub struct Numbers<'a> {
+    pub zones: &'a [bool; 256],
+    pub strings: &'a [bool; 256],
+    pub zone_uses: &'a [bool; 256],
+    pub string_uses: &'a [bool; 256],
+    pub zone_places: &'a [u16; 256],
+    pub string_places: &'a [u16; 256],
+}
 
 // Where a rule stopped the pass. Its number comes from the lent state, which holds any number.
 #[derive(Clone, Copy)]
@@ -54,30 +64,21 @@ fn alone(string: u8, held: Held) -> Result<usize, Stop>
 }
 
 // The rules over the whole table: 13, 14, 15.
-fn concluded(
-    string: u8,
-    s: State,
-    zs: &[bool; 256],
-    ss: &[bool; 256],
-    zu: &[bool; 256],
-    su: &[bool; 256],
-    zp: &[u16; 256],
-    sp: &[u16; 256],
-) -> Result<usize, Stop>
-    ensures { OverIs string s (flags zs.now ss.now zu.now su.now) zp.now
-        sp.now (ended result) }
+fn concluded(string: u8, s: State, numbers: &Numbers) -> Result<usize, Stop>
+    ensures { OverIs string s
+        (flags_in numbers.now) numbers.now.zone_places.now numbers.now.string_places.now (ended result) }
 {
-    let z = lacking(zu, zs, zp);
+    let z = lacking(numbers.zone_uses, numbers.zones, numbers.zone_places);
     if z != 0 {
         return by(Rule::NoZone, z);
     }
-    let mut seen = *ss;
+    let mut seen = *numbers.strings;
     seen[0] = true;
-    let i = wide(string);
+    let i = usize::from(string);
     if !seen[i] {
         return by(Rule::NoString, 0);
     }
-    let t = lacking(su, &seen, sp);
+    let t = lacking(numbers.string_uses, &seen, numbers.string_places);
     if t != 0 {
         return by(Rule::NoString, t);
     }
@@ -96,19 +97,9 @@ fn byte_of(stop: usize) -> u8
 }
 
 // Where the pass stopped, 6 where an element is cut short, or the rules over the whole table; `bare` where there was no element.
-fn passed(
-    w: Way,
-    bare: bool,
-    string: u8,
-    zs: &[bool; 256],
-    ss: &[bool; 256],
-    zu: &[bool; 256],
-    su: &[bool; 256],
-    zp: &[u16; 256],
-    sp: &[u16; 256],
-) -> Result<usize, Stop>
-    ensures { PassedIs w bare string (flags zs.now ss.now zu.now su.now)
-        zp.now sp.now (ended result) }
+fn passed(w: Way, bare: bool, string: u8, numbers: &Numbers) -> Result<usize, Stop>
+    ensures { PassedIs w bare string
+        (flags_in numbers.now) numbers.now.zone_places.now numbers.now.string_places.now (ended result) }
 {
     if w.stop != 0 {
         return Err(Stop {
@@ -125,22 +116,13 @@ fn passed(
     if u.len != 0 {
         return by(Rule::ElementLength, w.at);
     }
-    concluded(string, s, zs, ss, zu, su, zp, sp)
+    concluded(string, s, numbers)
 }
 
 // All rules in their order.
-pub fn verdict(
-    n: &[usize; 16],
-    first: &[u8; 30],
-    zs: &[bool; 256],
-    ss: &[bool; 256],
-    zu: &[bool; 256],
-    su: &[bool; 256],
-    zp: &[u16; 256],
-    sp: &[u16; 256],
-) -> Result<usize, Stop>
+pub fn verdict(n: &[usize; 16], first: &[u8; 30], numbers: &Numbers) -> Result<usize, Stop>
     ensures { VerdictIs n.now first.now
-        (flags zs.now ss.now zu.now su.now) zp.now sp.now (ended result) }
+        (flags_in numbers.now) numbers.now.zone_places.now numbers.now.string_places.now (ended result) }
 {
     let count = n[2];
     if count < 16 {
@@ -149,22 +131,12 @@ pub fn verdict(
     if first[0] != 1 {
         return by(Rule::Revision, 0);
     }
-    let told = wide(first[1]) + 256 * wide(first[2]);
+    let told = usize::from(first[1]) + 256 * usize::from(first[2]);
     if told != count {
         return by(Rule::TableLength, 0);
     }
     if 4096 < told {
         return by(Rule::TableLength, 0);
     }
-    passed(
-        states::way_of(n),
-        count == 16,
-        first[4],
-        zs,
-        ss,
-        zu,
-        su,
-        zp,
-        sp,
-    )
+    passed(states::way_of(n), count == 16, first[4], numbers)
 }

@@ -76,7 +76,7 @@ pub fn esa_fields(table: &[u8], k: usize, settings: u64, numbers: &mut [u8; 32])
         Ok(e) => {
             let chip = s.chip;
             *numbers = numbered::element(e, reader::part(table, k, s), chip);
-            packing::pack(0, words::wide(elements::id_of(e)))
+            packing::pack(0, usize::from(elements::id_of(e)))
         }
         Err(refusal) => packing::refused(refusal),
     }

@@ -46,7 +46,7 @@ pub fn asked(a: Result<Element, Refusal>) -> u64
     ensures { result ≡ packed_asked (told a) }
 {
     match a {
-        Ok(e) => pack(0, words::wide(elements::id_of(e))),
+        Ok(e) => pack(0, usize::from(elements::id_of(e))),
         Err(refusal) => refused(refusal),
     }
 }
@@ -121,7 +121,7 @@ pub fn outcome(o: Result<usize, RefusedTable>) -> u64
         Ok(n) => pack(0, n),
         Err(r) => {
             let refusal = r.refusal;
-            let place = refusal.place + 65536 * words::wide(r.which.number());
+            let place = refusal.place + 65536 * usize::from(r.which.number());
             pack(refusal.rule.number(), place)
         }
     }
@@ -143,7 +143,7 @@ pub fn block(b: Option<SpeedBlock>) -> u64
     ensures { result ≡ packed_block b }
 {
     match b {
-        Some(s) => pack(0, words::wide(s.speed.0) + 256 * words::wide(s.entries)),
+        Some(s) => pack(0, usize::from(s.speed.0) + 256 * usize::from(s.entries)),
         None => 17,
     }
 }
@@ -163,7 +163,7 @@ pub fn entries(e: Option<u8>) -> u64
     ensures { result ≡ packed_entries e }
 {
     match e {
-        Some(n) => pack(0, words::wide(n)),
+        Some(n) => pack(0, usize::from(n)),
         None => 17,
     }
 }

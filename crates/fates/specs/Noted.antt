@@ -1,5 +1,6 @@
 -- What the entries of the two arrays stand for.
 -- Assumes nothing.
+use Rattle.format.specs.Answers.{rule_number}
 use Rattle.std.specs.Prelude.{ℕ, ◌+◌, ◌<◌, ◌≤◌, ◌≡◌, Bool, true, cond, List, [], ◌∷◌, length, take}
 use Rattle.std.proofs.Math.Option.{none}
 use Rattle.format.specs.Records.{Record}
@@ -61,7 +62,7 @@ Tells c t held p Stays (saving.leaves k) = ⊥
 Tells c t held p Stays (saving.mends r) = ⊥
 Tells c t held p Stays saving.unseen = ⊥
 Tells c t held p (Leaves j) (saving.stays r) = ⊥
-Tells c t held p (Leaves j) (saving.leaves k) = (j ≡ k) × (held.place ≡ p)
+Tells c t held p (Leaves j) (saving.leaves k) = (rule_number j ≡ k) × (held.place ≡ p)
 Tells c t held p (Leaves j) (saving.mends r) = ⊥
 Tells c t held p (Leaves j) saving.unseen = ⊥
 Tells c t held p Mends (saving.stays r) = ⊥

@@ -4,11 +4,13 @@
 ghost use Rattle.std.specs.Prelude.{◌≡◌, ◌<◌};
 ghost use Rattle.fates.specs.Noted.{Settles};
 
+use format::answers::Rule;
+
 // It stays; it is left out by a rule; its string index is cleared.
 #[derive(Clone, Copy)]
 pub enum Fate {
     Stays,
-    Leaves(u8),
+    Leaves(Rule),
     Mends,
 }
 
@@ -53,10 +55,11 @@ pub fn settle(
             kept[i] = held;
             counted(i + 1, j)
         }
-        Fate::Leaves(k) => {
+        Fate::Leaves(rule) => {
+            let number = rule.number();
             log[j] = Note {
                 place,
-                number: k,
+                number,
                 cleared: false,
             };
             counted(i, j + 1)

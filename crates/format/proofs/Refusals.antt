@@ -2,9 +2,9 @@
 -- Assumes nothing.
 use Rattle.std.specs.Prelude.{◌≡◌, ℕ, ◌<◌, Bool, true, false, Result, Ok, Err, List, [], ◌∷◌, get_or}
 use Rattle.std.specs.Result.{IsErr, IsErrAnd}
-use Rattle.std.proofs.Common.{refl, sym, ◌∙◌, ap, lit<}
+use Rattle.std.proofs.Common.{refl, sym, ◌∙◌, ap, lit<, arith}
 use Rattle.std.proofs.lemmas.Result.{err_from_is_err_and}
-use Rattle.format.specs.Answers.{Answered, Gives, Refused, rule_number, told, fault_of}
+use Rattle.format.specs.Answers.{Answered, Gives, Refused, rule_number, told, number_of, place_of}
 use Rattle.format.specs.declared.answers.Rule.{Rule}
 use Rattle.format.specs.declared.answers.Rule.TheVariants.{Under16Bytes, Revision, TableLength, DeviceType, Power, ElementLength, Identifier, Layout, Code}
 use Rattle.format.specs.declared.answers.Rule.TheVariants.{Pin, TooMany, Twice, NoZone, NoString, Clash, NoRoom, PastTheLast, NoReading}
@@ -82,3 +82,18 @@ rule_once r q h = sym (rule_back r) ∙ ap rule_of h ∙ rule_back q
 -- what a `?` hands on is the error that it was given
 pub handed : {A E : Type 0} (r : Result A E) (e : E) → IsErrAnd r (λ x. x ≡ e) → r ≡ Err e
 handed r e h = let y = err_from_is_err_and r h in y.1 ∙ ap Err y.2
+
+-- the value that is given, or another one
+abbrev given_or : {A : Type 0} → A → Answered A → A
+given_or d (Gives a) = a
+given_or d (Refused k p) = d
+
+-- what a result says is said by no other result
+pub told_once : {A : Type 0} (r q : Result A Refusal) → told r ≡ told q → r ≡ q
+told_once (Ok a) (Ok b) e = ap Ok (ap (given_or a) e)
+told_once (Ok a) (Err q) e = let n = ap number_of e in let above = rule_above q.rule in absurd (omega (arith, n, above))
+told_once (Err r) (Ok b) e = let n = ap number_of e in let above = rule_above r.rule in absurd (omega (arith, n, above))
+told_once (Err r) (Err q) e =
+    let a = rule_once r.rule q.rule (ap number_of e) in
+    let b = ap place_of e in
+    λ i. Err (record { rule = a i; place = b i })

@@ -1,5 +1,5 @@
 // What an ESA configuration table is: its units, pins, records and answers. The layout, the rules and the
-// verdict are definitions in specs/, the theorems about them stand in proofs/. No running code.
+// verdict are definitions in specs/, the theorems about them stand in proofs/. What runs is the number of a rule.
 #![tactic(auto)]
 
 pub mod answers;

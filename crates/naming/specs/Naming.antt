@@ -10,6 +10,12 @@ use Rattle.format.specs.Decode.{content}
 use Rattle.format.specs.declared.settings.Settings.{Settings}
 use Rattle.pass.specs.Tracks.{Took}
 use Rattle.firsts.specs.Firsts.{noted, Firsts}
+use Rattle.naming.specs.declared.Places.{Places}
+
+-- the same arrays are lent
+pub record SamePlaces (p l : Places) : Type 0 where
+  pub zones : l.zones.ghost_name ≡ p.zones.ghost_name
+  pub strings : l.strings.ghost_name ≡ p.strings.ghost_name
 
 pub record Names (id : ℕ) (c : List ℕ) (at : ℕ) (zp sp zp' sp' : List ℕ) : Type 0 where
   pub text : id ≡ 12 → (zp' ≡ zp) × (sp' ≡ sp)

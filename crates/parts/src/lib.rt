@@ -11,7 +11,7 @@ ghost use Rattle.parts.specs.Inside.{list_pair_in, colour_in, colour_pair_in};
 
 use format::records::RegisterPair;
 use format::units::HundredRpm;
-use words::{wide, word};
+use words::word;
 
 // The head of a speed block (000, Table 22): so many register pairs follow it.
 #[derive(Clone, Copy)]
@@ -108,7 +108,7 @@ fn past(b: &[u8], n: usize) -> &[u8]
 fn size(q: &[u8]) -> usize
     ensures { result ≡ 1 + 4 * byte q.now 0 }
 {
-    1 + 4 * wide(byte_at(q, 0))
+    1 + 4 * usize::from(byte_at(q, 0))
 }
 
 // Whether they stand whole at the head of the bytes.
@@ -129,7 +129,7 @@ fn list_at(q: &[u8]) -> Option<u8>
 fn pair_at(q: &[u8], i: usize) -> Option<RegisterPair>
     ensures { result ≡ pair_at q.now i }
 {
-    if !whole(q) || wide(byte_at(q, 0)) <= i {
+    if !whole(q) || usize::from(byte_at(q, 0)) <= i {
         return None;
     }
     let at = 1 + 4 * i;

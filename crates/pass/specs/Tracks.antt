@@ -20,6 +20,7 @@ use Rattle.claims.specs.Taken.{ClaimsAre, HeldIs}
 use Rattle.found.specs.Judged.{FansAre}
 use Rattle.found.specs.Judged.{Finding}
 use Rattle.pass.specs.declared.State.{State}
+use Rattle.pass.specs.declared.Marks.{Marks as Lent}
 use Rattle.pass.specs.Steps.{Step}
 use Rattle.pass.specs.Steps.{Moved}
 use Rattle.pass.specs.Steps.{Over}
@@ -34,10 +35,25 @@ pub record Flags : Type 0 where
 abbrev pub flags : List Bool → List Bool → List Bool → List Bool → Flags
 flags zs ss zu su = record { zones_declared = zs; strings_declared = ss; zone_uses = zu; string_uses = su }
 
+-- what stands behind the four that are lent
+abbrev pub flags_of : Lent → Flags
+flags_of m = flags m.zones.now m.strings.now m.zone_uses.now m.string_uses.now
+
+-- the same arrays are lent
+pub record Same (m l : Lent) : Type 0 where
+  pub zones : l.zones.ghost_name ≡ m.zones.ghost_name
+  pub strings : l.strings.ghost_name ≡ m.strings.ghost_name
+  pub zone_uses : l.zone_uses.ghost_name ≡ m.zone_uses.ghost_name
+  pub string_uses : l.string_uses.ghost_name ≡ m.string_uses.ghost_name
+
 -- numbers that a step can go on from, whatever they stand for
 pub record Low (s : State) : Type 0 where
   pub most : s.count ≤ 96
   pub few : s.zones ≤ 12
+
+-- numbers that leave room for one element more; a thirteenth zone is refused by its own rule
+abbrev pub Room : State → Type 0
+Room s = (s.count < 96) × (s.zones ≤ 12)
 
 -- the state and the flags say what the elements before declare, name, claim and use of the fan list, after a description
 pub record Tracks (d : Description) (s : State) (f : Flags) (before : List Record) : Type 0 where

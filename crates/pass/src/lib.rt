@@ -12,13 +12,21 @@ ghost use Rattle.found.specs.Judged.{FansAre};
 ghost use Rattle.format.specs.Answers.{fault_of};
 ghost use Rattle.found.specs.Judged.{finding};
 ghost use Rattle.pass.specs.Steps.{stepped, moved, over};
-ghost use Rattle.pass.specs.Tracks.{flags, Low, StepIs, TextJudged, PlacedStep, TakeIs, MoveIs, WalkIs};
+ghost use Rattle.pass.specs.Tracks.{flags, flags_of, Same, Low, Room, StepIs, TextJudged, PlacedStep, TakeIs, MoveIs, WalkIs};
 
 use claims::Held;
 use format::answers::Rule;
 use format::settings::Settings;
 use found::{Fans, Found};
-use words::wide;
+
+// The flags of all 256 numbers, as they are lent: the zone and string numbers that are declared, and those that are named.
+#[derive(Drop)]
+pub struct Marks<'a> {
+    pub zones: &'a mut [bool; 256],
+    pub strings: &'a mut [bool; 256],
+    pub zone_uses: &'a mut [bool; 256],
+    pub string_uses: &'a mut [bool; 256],
+}
 
 // How many elements and zones there are so far, who claims which pins, and the last fan-list pin used; 0 where none is. (It is as
 // wide as the counts: a state with unused bytes would go through memory in every step, docs/BENCH.md.)
@@ -57,16 +65,16 @@ fn zone_against(zones: usize, seen: bool) -> Result<(), Rule>
 
 // 0Bh
 fn zone_step(b: &[u8], s: State, zs: &mut [bool; 256], su: &mut [bool; 256]) -> Result<State, Rule>
-    requires { (s.count < 96) × (s.zones ≤ 12) }
+    requires { Room s }
     ensures { ((σ : Settings) (at : ℕ) (ss zu : List Bool)
         → StepIs σ (zone b.now) at s (flags zs.old ss zu su.old) (stepped s result)
         (flags zs.new ss zu su.new)) × Low (stepped s result).state }
 {
     rules::zone_breaks(b)?;
-    let z = wide(b[0]);
+    let z = usize::from(b[0]);
     zone_against(s.zones, zs[z])?;
     zs[z] = true;
-    let t = wide(b[1]);
+    let t = usize::from(b[1]);
     su[t] = true;
     let held = s.held;
     Ok(State {
@@ -84,11 +92,11 @@ pub fn text_judged(
     s: State,
     ss: &mut [bool; 256],
 ) -> Result<State, Rule>
-    requires { (s.count < 96) × (s.zones ≤ 12) }
+    requires { Room s }
     ensures { TextJudged (fault_of own) number s ss.old (stepped s result) ss.new }
 {
     own?;
-    let t = wide(number);
+    let t = usize::from(number);
     if ss[t] {
         return Err(Rule::Twice);
     }
@@ -114,7 +122,7 @@ fn first(b: &[u8]) -> u8
 
 // 0Ch
 fn text_step(b: &[u8], s: State, ss: &mut [bool; 256]) -> Result<State, Rule>
-    requires { (s.count < 96) × (s.zones ≤ 12) }
+    requires { Room s }
     ensures { ((σ : Settings) (at : ℕ) (zs zu su : List Bool)
         → StepIs σ (string b.now) at s (flags zs ss.old zu su) (stepped s result) (flags zs ss.new zu su))
         × Low (stepped s result).state }
@@ -128,7 +136,7 @@ fn follows(fans: Option<Fans>, last: usize) -> bool
 {
     match fans {
         None => true,
-        Some(f) => last < wide(f.first),
+        Some(f) => last < usize::from(f.first),
     }
 }
 
@@ -138,7 +146,7 @@ fn last_of(fans: Option<Fans>, last: usize) -> usize
 {
     match fans {
         None => last,
-        Some(f) => wide(f.last),
+        Some(f) => usize::from(f.last),
     }
 }
 
@@ -151,7 +159,7 @@ pub fn placed_step(
     zu: &mut [bool; 256],
     su: &mut [bool; 256],
 ) -> Result<State, Rule>
-    requires { (s.count < 96) × (s.zones ≤ 12) × (at < 65536) × ((finding found).fault ≡ 0 → 5 ≤ length b.now) }
+    requires { Room s × (at < 65536) × ((finding found).fault ≡ 0 → 5 ≤ length b.now) }
     ensures { PlacedStep (finding found) b.now at s zu.old su.old (stepped s result) zu.new su.new }
 {
     let f = found?;
@@ -159,9 +167,9 @@ pub fn placed_step(
     if !follows(fans, s.last) {
         return Err(Rule::Pin);
     }
-    let z = wide(b[4]);
+    let z = usize::from(b[4]);
     zu[z] = true;
-    let t = wide(b[0]);
+    let t = usize::from(b[0]);
     su[t] = true;
     let held = s.held;
     let claims = f.claims;
@@ -180,17 +188,17 @@ fn take(
     b: &[u8],
     at: usize,
     s: State,
-    zs: &mut [bool; 256],
-    ss: &mut [bool; 256],
-    zu: &mut [bool; 256],
-    su: &mut [bool; 256],
+    marks: &mut Marks,
     settings: Settings,
 ) -> Result<State, Rule>
-    requires { (s.count < 96) × (s.zones ≤ 12) × (at < 65536) }
-    ensures { TakeIs settings id b.now at s
-        (flags zs.old ss.old zu.old su.old) (stepped s result)
-        (flags zs.new ss.new zu.new su.new) }
+    requires { Room s × (at < 65536) }
+    ensures takes { TakeIs settings id b.now at s
+        (flags_of marks.old) (stepped s result)
+        (flags_of marks.new) }
+    ensures same_arrays { Same marks.old marks.new }
 {
+    let zu = &mut *marks.zone_uses;
+    let su = &mut *marks.string_uses;
     match id {
         1 => placed_step(found::digital_found(b, settings), b, at, s, zu, su),
         2 => placed_step(found::analogue_found(b, settings), b, at, s, zu, su),
@@ -202,8 +210,8 @@ fn take(
         8 => placed_step(found::current_found(b, settings), b, at, s, zu, su),
         9 => placed_step(found::controller_found(b, settings), b, at, s, zu, su),
         10 => placed_step(found::tachometer_found(b, settings), b, at, s, zu, su),
-        11 => zone_step(b, s, zs, su),
-        12 => text_step(b, s, ss),
+        11 => zone_step(b, s, marks.zones, su),
+        12 => text_step(b, s, marks.strings),
         13 => placed_step(found::external_found(b, settings), b, at, s, zu, su),
         14 => placed_step(found::rgb_found(b, settings), b, at, s, zu, su),
         _ => Err(Rule::Identifier),
@@ -216,19 +224,17 @@ fn one_step(
     at: usize,
     base: usize,
     s: State,
-    zs: &mut [bool; 256],
-    ss: &mut [bool; 256],
-    zu: &mut [bool; 256],
-    su: &mut [bool; 256],
+    marks: &mut Marks,
     settings: Settings,
 ) -> Result<Moved, Rule>
     requires { (at + 2 < length t.now) × (base + length t.now ≤ 4097) × Low s }
-    ensures { MoveIs settings t.now at base s
-        (flags zs.old ss.old zu.old su.old) (moved s result)
-        (flags zs.new ss.new zu.new su.new) }
+    ensures moves { MoveIs settings t.now at base s
+        (flags_of marks.old) (moved s result)
+        (flags_of marks.new) }
+    ensures same_arrays { Same marks.old marks.new }
 {
     let left = t.len() - at;
-    let len = wide(t[at + 1]) + 256 * wide(t[at + 2]);
+    let len = usize::from(t[at + 1]) + 256 * usize::from(t[at + 2]);
     if len < 3 {
         return Err(Rule::ElementLength);
     }
@@ -240,41 +246,23 @@ fn one_step(
     }
     let from = at + 3;
     let next = at + len;
-    let state = take(
-        t[at],
-        &t[from..next],
-        base + at,
-        s,
-        zs,
-        ss,
-        zu,
-        su,
-        settings,
-    )?;
+    let state = take(t[at], &t[from..next], base + at, s, marks, settings)?;
     Ok(Moved { len, state })
 }
 
 // All elements of some bytes, the first of which stands at the place `base` of the table. The loop ends where no header can stand: at
 // the end, or 6.
-pub fn walk(
-    t: &[u8],
-    base: usize,
-    start: State,
-    zs: &mut [bool; 256],
-    ss: &mut [bool; 256],
-    zu: &mut [bool; 256],
-    su: &mut [bool; 256],
-    settings: Settings,
-) -> Passed
+pub fn walk(t: &[u8], base: usize, start: State, marks: &mut Marks, settings: Settings) -> Passed
     requires { (base + length t.now ≤ 4097) × Low start }
-    ensures { WalkIs settings t.now base start
-        (flags zs.old ss.old zu.old su.old) (over result)
-        (flags zs.new ss.new zu.new su.new) }
+    ensures walks { WalkIs settings t.now base start
+        (flags_of marks.old) (over result)
+        (flags_of marks.new) }
+    ensures same_arrays { Same marks.old marks.new }
 {
     let mut s = start;
     let mut at: usize = 0;
     while at + 2 < t.len() {
-        match one_step(t, at, base, s, zs, ss, zu, su, settings) {
+        match one_step(t, at, base, s, marks, settings) {
             Err(rule) => {
                 return Passed {
                     stop: Some(rule),

@@ -3,14 +3,15 @@
 #![tactic(auto)]
 
 ghost use Rattle.std.specs.Prelude.{◌≡◌, ◌+◌, ◌-◌, ◌*◌, ◌<◌, ◌≤◌, length};
-ghost use Rattle.pass.specs.Tracks.{flags, Low};
+ghost use Rattle.pass.specs.Tracks.{flags_of, Same, Low};
+ghost use Rattle.naming.specs.Naming.{SamePlaces};
 ghost use Rattle.passing.specs.Going.{ByteOf, ToldOf, DueIs, ResumeIs, AheadIs, TurnIs, PassIs};
 
 use closing::{Ran, Way};
 use format::settings::Settings;
-use pass::State;
+use naming::Places;
+use pass::{Marks, State};
 use underway::Under;
-use words::wide;
 
 // Byte k of the element under way, of which so many bytes are kept: it is one of those, or it stands in the piece.
 fn byte_of(head: &[u8; 30], had: usize, p: &[u8], k: usize) -> u8
@@ -27,7 +28,7 @@ fn byte_of(head: &[u8; 30], had: usize, p: &[u8], k: usize) -> u8
 fn pair(low: u8, high: u8) -> usize
     ensures { result ≡ low + 256 * high }
 {
-    wide(low) + 256 * wide(high)
+    usize::from(low) + 256 * usize::from(high)
 }
 
 // The length that the element's header gives: the header stands in the piece, is kept, or a cut goes through it. (The first two are by
@@ -89,18 +90,16 @@ fn resume(
     s: State,
     p: &[u8],
     head: &mut [u8; 30],
-    zs: &mut [bool; 256],
-    ss: &mut [bool; 256],
-    zu: &mut [bool; 256],
-    su: &mut [bool; 256],
-    zp: &mut [u16; 256],
-    sp: &mut [u16; 256],
+    marks: &mut Marks,
+    places: &mut Places,
     settings: Settings,
 ) -> Ran
     requires { (at + under.len + length p.now ≤ 4097) × (under.at ≤ 10000) × Low s }
-    ensures { ResumeIs settings under at s p.now head.old
-        (flags zs.old ss.old zu.old su.old) zp.old sp.old result
-        head.new (flags zs.new ss.new zu.new su.new) zp.new sp.new }
+    ensures turns { ResumeIs settings under at s p.now head.old
+        (flags_of marks.old) places.old.zones.now places.old.strings.now result
+        head.new (flags_of marks.new) places.new.zones.now places.new.strings.now }
+    ensures same_places { SamePlaces places.old places.new }
+    ensures same_arrays { Same marks.old marks.new }
 {
     let had = under.len;
     let mine = due(head, had, p);
@@ -120,33 +119,24 @@ fn resume(
     }
     Ran {
         taken,
-        way: closing::close(u, head, at, s, zs, ss, zu, su, zp, sp, settings),
+        way: closing::close(u, head, at, s, marks, places, settings),
     }
 }
 
 // The whole elements at the start of a piece, where none is under way.
-fn ahead(
-    w: Way,
-    p: &[u8],
-    zs: &mut [bool; 256],
-    ss: &mut [bool; 256],
-    zu: &mut [bool; 256],
-    su: &mut [bool; 256],
-    zp: &mut [u16; 256],
-    sp: &mut [u16; 256],
-    settings: Settings,
-) -> Ran
+fn ahead(w: Way, p: &[u8], marks: &mut Marks, places: &mut Places, settings: Settings) -> Ran
     requires { (w.at + w.under.len + length p.now ≤ 4097) × (w.under.at ≤ 10000) × Low w.state }
-    ensures { AheadIs settings w p.now (flags zs.old ss.old zu.old su.old)
-        zp.old sp.old result (flags zs.new ss.new zu.new su.new) zp.new
-        sp.new }
+    ensures turns { AheadIs settings w p.now (flags_of marks.old)
+        places.old.zones.now places.old.strings.now result (flags_of marks.new) places.new.zones.now places.new.strings.now }
+    ensures same_places { SamePlaces places.old places.new }
+    ensures same_arrays { Same marks.old marks.new }
 {
     let under = w.under;
     if under.len != 0 {
         return Ran { taken: 0, way: w };
     }
     let s = w.state;
-    closing::front(p, w.at, s, zs, ss, zu, su, zp, sp, settings)
+    closing::front(p, w.at, s, marks, places, settings)
 }
 
 // Whole elements, and then the one under way, or that the rest begins.
@@ -154,20 +144,18 @@ fn turn(
     w: Way,
     p: &[u8],
     head: &mut [u8; 30],
-    zs: &mut [bool; 256],
-    ss: &mut [bool; 256],
-    zu: &mut [bool; 256],
-    su: &mut [bool; 256],
-    zp: &mut [u16; 256],
-    sp: &mut [u16; 256],
+    marks: &mut Marks,
+    places: &mut Places,
     settings: Settings,
 ) -> Ran
     requires { (w.at + w.under.len + length p.now ≤ 4097) × (w.under.at ≤ 10000) × Low w.state }
-    ensures { TurnIs settings w p.now head.old
-        (flags zs.old ss.old zu.old su.old) zp.old sp.old result
-        head.new (flags zs.new ss.new zu.new su.new) zp.new sp.new }
+    ensures turns { TurnIs settings w p.now head.old
+        (flags_of marks.old) places.old.zones.now places.old.strings.now result
+        head.new (flags_of marks.new) places.new.zones.now places.new.strings.now }
+    ensures same_places { SamePlaces places.old places.new }
+    ensures same_arrays { Same marks.old marks.new }
 {
-    let r = ahead(w, p, zs, ss, zu, su, zp, sp, settings);
+    let r = ahead(w, p, marks, places, settings);
     let way = r.way;
     let from = r.taken;
     if way.stop != 0 {
@@ -181,20 +169,7 @@ fn turn(
     }
     let under = way.under;
     let s = way.state;
-    let q = resume(
-        under,
-        way.at,
-        s,
-        &p[from..],
-        head,
-        zs,
-        ss,
-        zu,
-        su,
-        zp,
-        sp,
-        settings,
-    );
+    let q = resume(under, way.at, s, &p[from..], head, marks, places, settings);
     let then = q.way;
     Ran {
         taken: from + q.taken,
@@ -207,23 +182,21 @@ pub fn pass_on(
     w: Way,
     p: &[u8],
     head: &mut [u8; 30],
-    zs: &mut [bool; 256],
-    ss: &mut [bool; 256],
-    zu: &mut [bool; 256],
-    su: &mut [bool; 256],
-    zp: &mut [u16; 256],
-    sp: &mut [u16; 256],
+    marks: &mut Marks,
+    places: &mut Places,
     settings: Settings,
 ) -> Way
     requires { (w.at + w.under.len + length p.now ≤ 4097) × (w.under.at ≤ 10000) × Low w.state }
-    ensures { PassIs settings w p.now head.old
-        (flags zs.old ss.old zu.old su.old) zp.old sp.old result
-        head.new (flags zs.new ss.new zu.new su.new) zp.new sp.new }
+    ensures passes { PassIs settings w p.now head.old
+        (flags_of marks.old) places.old.zones.now places.old.strings.now result
+        head.new (flags_of marks.new) places.new.zones.now places.new.strings.now }
+    ensures same_places { SamePlaces places.old places.new }
+    ensures same_arrays { Same marks.old marks.new }
 {
     let mut way = w;
     let mut from: usize = 0;
     while (way.stop == 0) & (from < p.len()) {
-        let r = turn(way, &p[from..], head, zs, ss, zu, su, zp, sp, settings);
+        let r = turn(way, &p[from..], head, marks, places, settings);
         way = r.way;
         from += r.taken;
     }

@@ -22,9 +22,8 @@ use format::answers::{Refusal, Rule};
 use format::pins::Chip;
 use format::records::{Description, Element};
 use format::settings::Settings;
-use pass::{State, walk};
+use pass::{Marks, State, walk};
 use walking::{element_at, length_at, part_at, place_of};
-use words::wide;
 
 // The number of elements, or the first rule that is broken, with its place.
 // A bare table is answered before the flags are laid out, which takes longer than all its tests (docs/BENCH.md). The other
@@ -120,7 +119,7 @@ fn stated(t: &[u8]) -> usize
     requires { 3 ≤ length t.now }
     ensures { result ≡ stated t.now }
 {
-    wide(t[1]) + 256 * wide(t[2])
+    usize::from(t[1]) + 256 * usize::from(t[2])
 }
 
 // What follows the first three rules.
@@ -146,54 +145,46 @@ fn elements(t: &[u8], held: Held, settings: Settings) -> Result<usize, Refusal>
     let mut ss = [false; 256];
     let mut zu = [false; 256];
     let mut su = [false; 256];
-    let n = wide(t[4]);
-    su[n] = true;
+    let mut marks = Marks {
+        zones: &mut zs,
+        strings: &mut ss,
+        zone_uses: &mut zu,
+        string_uses: &mut su,
+    };
+    let n = usize::from(t[4]);
+    marks.string_uses[n] = true;
     let start = State {
         count: 0,
         zones: 0,
         held,
         last: 0,
     };
-    let passed = walk(
-        &t[16..],
-        16,
-        start,
-        &mut zs,
-        &mut ss,
-        &mut zu,
-        &mut su,
-        settings,
-    );
-    if let Some(rule) = passed.stop {
+    let passed = walk(&t[16..], 16, start, &mut marks, settings);
+    let stop = passed.stop;
+    if let Some(rule) = stop {
         return Err(rule.at(passed.place));
     }
-    ss[0] = true;
+    marks.strings[0] = true;
     let s = passed.state;
-    concluded(t, s, &zs, &ss, &zu, &su, settings)
+    concluded(t, s, &marks, settings)
 }
 
 // The rules over the whole table: 13, 14, 15.
-fn concluded(
-    t: &[u8],
-    s: State,
-    zs: &[bool; 256],
-    ss: &[bool; 256],
-    zu: &[bool; 256],
-    su: &[bool; 256],
-    settings: Settings,
-) -> Result<usize, Refusal>
-    requires { Gathered settings t.now s zs.now ss.now zu.now su.now }
+fn concluded(t: &[u8], s: State, marks: &Marks, settings: Settings) -> Result<usize, Refusal>
+    requires { Gathered settings t.now s marks.now.zones.now marks.now.strings.now marks.now.zone_uses.now
+        marks.now.string_uses.now }
     ensures { told result ≡ conclude (read_description settings.chip (byte t.now)) (elements_of settings t.now) }
 {
-    if lacks(zu, zs) {
-        return Err(Rule::NoZone.at(places::zoneless(t, zs)));
+    if lacks(marks.zone_uses, marks.zones) {
+        return Err(Rule::NoZone.at(places::zoneless(t, marks.zones)));
     }
-    if lacks(su, ss) {
-        let n = wide(t[4]);
-        if !ss[n] {
+    let strings = &*marks.strings;
+    if lacks(marks.string_uses, strings) {
+        let n = usize::from(t[4]);
+        if !strings[n] {
             return Err(Rule::NoString.at(0));
         }
-        return Err(Rule::NoString.at(places::nameless(t, ss)));
+        return Err(Rule::NoString.at(places::nameless(t, strings)));
     }
     let held = s.held;
     if held.clash != 65536 {

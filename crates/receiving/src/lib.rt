@@ -13,9 +13,11 @@ ghost use Rattle.ending.specs.Stands.{lent};
 ghost use Rattle.receiving.specs.Receiving.{LeadIs, ReadyIs, ReceiveIs, StartIs, PieceIs, EndIs};
 
 use closing::Way;
-use ending::Stop;
+use ending::{Numbers, Stop};
 use format::answers::Rule;
 use format::settings::Settings;
+use naming::Places;
+use pass::Marks;
 
 // Begins with no byte. Flags and places are cleared when the first element begins.
 pub fn start(n: &mut [usize; 16], first: &mut [u8; 30], head: &mut [u8; 30], settings: Settings)
@@ -81,18 +83,24 @@ fn receive(
     let settings = states::settings_of(code);
     let from = lead(first, count, q);
     let before = ready(n, first, count, settings);
+    let mut marks = Marks {
+        zones: zs,
+        strings: ss,
+        zone_uses: zu,
+        string_uses: su,
+    };
+    let mut places = Places {
+        zones: zp,
+        strings: sp,
+    };
     let way = advancing::advance(
         before,
         count <= 16,
         &q[from..],
         first[4],
         head,
-        zs,
-        ss,
-        zu,
-        su,
-        zp,
-        sp,
+        &mut marks,
+        &mut places,
         settings,
     );
     states::put(n, 0, code, total, way);
@@ -190,7 +198,15 @@ pub fn end(
             place: 0,
         });
     }
-    let answer = ending::verdict(n, first, zs, ss, zu, su, zp, sp);
+    let numbers = Numbers {
+        zones: zs,
+        strings: ss,
+        zone_uses: zu,
+        string_uses: su,
+        zone_places: zp,
+        string_places: sp,
+    };
+    let answer = ending::verdict(n, first, &numbers);
     n[0] = 1;
     bounded(answer)
 }

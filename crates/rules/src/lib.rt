@@ -286,12 +286,10 @@ pub fn well_formed(text: &[u8]) -> bool
     let count = text.len() / 2;
     let mut good = text.len() % 2 == 0;
     let mut high = false;
-    let mut i: usize = 0;
-    while i < count {
+    for i in 0..count {
         let top = text[2 * i + 1] / 4;
         good = good & agrees(high, top == 55);
         high = top == 54;
-        i += 1;
     }
     good & !high
 }

@@ -8,7 +8,7 @@ ghost use Rattle.format.specs.Slots.{Bytes};
 ghost use Rattle.format.specs.Claims.{made_at, first_claims};
 ghost use Rattle.claims.specs.Taken.{HeldIs};
 ghost use Rattle.saving.specs.Saving.{taken as taken_of, salvageable};
-ghost use Rattle.pass.specs.Tracks.{flags};
+ghost use Rattle.pass.specs.Tracks.{flags_of};
 ghost use Rattle.scanning.specs.Scanned.{Scanned};
 ghost use Rattle.mending.specs.Laid.{Listed};
 ghost use Rattle.salvaging.specs.Decided.{described, Decided, NotesFirst, Alone, Complete, Passed, PlanIs};
@@ -21,11 +21,10 @@ use flags::lacks;
 use format::answers::{Refusal, Rule};
 use format::pins::Chip;
 use mending::{new_length, put_opening, put_table};
-use pass::State;
+use pass::{Marks, State};
 use saving::Lengths;
 use scanning::{Passage, scan};
 use sifting::{Stage, sift};
-use words::wide;
 
 // How many are kept and how many lines there are, whether the description's string index is cleared, and the length of the new table.
 #[derive(Clone, Copy)]
@@ -137,29 +136,30 @@ fn decide(t: &[u8], kept: &mut [Kept; 96], log: &mut [Note; 1649], chip: Chip) -
     let mut ss = [false; 256];
     let mut zu = [false; 256];
     let mut su = [false; 256];
-    let a = pass(t, held, kept, log, &mut zs, &mut ss, &mut zu, &mut su, chip);
-    ss[0] = true;
+    let mut marks = Marks {
+        zones: &mut zs,
+        strings: &mut ss,
+        zone_uses: &mut zu,
+        string_uses: &mut su,
+    };
+    let a = pass(t, held, kept, log, &mut marks, chip);
+    marks.strings[0] = true;
     let n = a.n;
-    if complete(&zs, &ss, &zu, &su, a.clash) {
+    if complete(&marks, a.clash) {
         return planned(t, &kept[..n.kept], n, false);
     }
-    choose(t, held, kept, log, &zs, &ss, n, chip)
+    choose(t, held, kept, log, &marks, n, chip)
 }
 
 // Whether every number that is named is declared, and no claim clashes.
-fn complete(
-    zs: &[bool; 256],
-    ss: &[bool; 256],
-    zu: &[bool; 256],
-    su: &[bool; 256],
-    clash: usize,
-) -> bool
-    ensures { result ≡ true → Complete zs.now ss.now zu.now su.now clash }
+fn complete(marks: &Marks, clash: usize) -> bool
+    ensures { result ≡ true → Complete marks.now.zones.now marks.now.strings.now marks.now.zone_uses.now
+        marks.now.string_uses.now clash }
 {
-    if lacks(zu, zs) {
+    if lacks(marks.zone_uses, marks.zones) {
         return false;
     }
-    if lacks(su, ss) {
+    if lacks(marks.string_uses, marks.strings) {
         return false;
     }
     clash == 65536
@@ -171,13 +171,13 @@ fn choose(
     held: Held,
     kept: &mut [Kept; 96],
     log: &mut [Note; 1649],
-    zs: &[bool; 256],
-    ss: &[bool; 256],
+    marks: &Marks,
     n: Counts,
     chip: Chip,
 ) -> Plan
     requires { (length t.now ≤ 4096) × (salvageable chip t.now ≡ true)
-        × HeldIs held (made_at 0 (first_claims (described chip t.now))) × Passed chip t.now kept.old log.old zs.now ss.now n }
+        × HeldIs held (made_at 0 (first_claims (described chip t.now)))
+        × Passed chip t.now kept.old log.old marks.now.zones.now marks.now.strings.now n }
     ensures { Decided chip t.now result kept.new log.new }
 {
     let mut one = [NOBODY; 96];
@@ -186,21 +186,22 @@ fn choose(
         t,
         Stage::Zones,
         &kept[..n.kept],
-        zs,
+        marks.zones,
         held,
         &mut one,
         log,
         n.lines,
         chip,
     );
-    let index = wide(t[4]);
-    let cleared = !ss[index];
+    let index = usize::from(t[4]);
+    let strings = &*marks.strings;
+    let cleared = !strings[index];
     let lines = note_first(log, a.lines, cleared);
     let b = sift(
         t,
         Stage::Strings,
         &one[..a.kept],
-        ss,
+        marks.strings,
         held,
         &mut two,
         log,
@@ -211,7 +212,7 @@ fn choose(
         t,
         Stage::Pins,
         &two[..b.kept],
-        ss,
+        marks.strings,
         held,
         kept,
         log,
@@ -240,30 +241,26 @@ fn pass(
     held: Held,
     kept: &mut [Kept; 96],
     log: &mut [Note; 1649],
-    zs: &mut [bool; 256],
-    ss: &mut [bool; 256],
-    zu: &mut [bool; 256],
-    su: &mut [bool; 256],
+    marks: &mut Marks,
     chip: Chip,
 ) -> Passage
     requires { (16 ≤ length t.now) × (length t.now ≤ 4096) × Bytes t.now
         × HeldIs held (made_at 0 (first_claims (described chip t.now))) × (length kept.old ≡ 96) × (length log.old ≡ 1649) }
-    ensures { Scanned chip t.now kept.new log.new
-        (flags zs.new ss.new zu.new su.new) result }
+    ensures { Scanned chip t.now kept.new log.new (flags_of marks.new) result }
 {
-    *zs = [false; 256];
-    *ss = [false; 256];
-    *zu = [false; 256];
-    *su = [false; 256];
-    let index = wide(t[4]);
-    su[index] = true;
+    *marks.zones = [false; 256];
+    *marks.strings = [false; 256];
+    *marks.zone_uses = [false; 256];
+    *marks.string_uses = [false; 256];
+    let index = usize::from(t[4]);
+    marks.string_uses[index] = true;
     let start = State {
         count: 0,
         zones: 0,
         held,
         last: 0,
     };
-    scan(t, start, kept, log, zs, ss, zu, su, chip)
+    scan(t, start, kept, log, marks, chip)
 }
 
 // The line of the description, whose place is 0.

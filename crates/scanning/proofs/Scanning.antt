@@ -261,8 +261,9 @@ module _
         → Tracks (read_description c (byte t)) r.state g so
         → Scanning c t kept' log' g m r.state (end + grow) (at + len)
     left_out k e j z q =
+        let out = fated.bad z in
         again (stop k) e
-        (rw (fated.bad z) (sym j, refl))
+        (rw out.1 (out.2 ∙ sym j, refl))
         q
         (omega (arith, w.place, grows.1 z))
 

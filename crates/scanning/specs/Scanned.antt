@@ -1,6 +1,8 @@
 -- What the pass of salvage leaves: the arrays hold what is kept and changed, the flags say which numbers the kept ones declare and name,
 -- and the clash is the first of theirs.
 -- Assumes nothing.
+use Rattle.format.specs.Answers.{rule_number}
+use Rattle.format.specs.declared.answers.Rule.{Rule}
 use Rattle.std.specs.Prelude.{ℕ, ◌≤◌, ◌≡◌, List}
 use Rattle.format.specs.Slots.{byte}
 use Rattle.format.specs.Decode.{read_description}
@@ -31,4 +33,4 @@ pub record Scanned (c : Chip) (t : List ℕ) (kept : List Kept) (log : List Note
 -- 0 keeps, any other number leaves out
 pub record FateOf (stop : ℕ) (f : Fate) : Type 0 where
   pub good : stop ≡ 0 → f ≡ Stays
-  pub bad : (stop ≡ 0 → ⊥) → f ≡ Leaves stop
+  pub bad : (stop ≡ 0 → ⊥) → (r : Rule) × (f ≡ Leaves r) × (rule_number r ≡ stop)

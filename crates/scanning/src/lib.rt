@@ -6,14 +6,14 @@ ghost use Rattle.pass.specs.Steps.{stop_number};
 ghost use Rattle.std.specs.Prelude.{◌≡◌, [], ◌≤◌, length};
 ghost use Rattle.format.specs.Slots.{byte, Bytes};
 ghost use Rattle.format.specs.Decode.{read_description};
-ghost use Rattle.pass.specs.Tracks.{flags, Tracks};
+ghost use Rattle.pass.specs.Tracks.{flags_of, Same, Tracks};
 ghost use Rattle.scanning.specs.Scanned.{Scanned, FateOf};
 
 use fates::{Counts, Fate, Kept, Note, counted, settle};
 use format::answers::Rule;
 use format::pins::Chip;
 use format::settings::{Rules, Settings};
-use pass::{State, walk};
+use pass::{Marks, State, walk};
 use walking::length_at;
 
 // How many are kept and how many changes there are; and the place of the first clash among the kept ones, 65,536 where there is none.
@@ -29,17 +29,14 @@ pub fn scan(
     start: State,
     kept: &mut [Kept; 96],
     log: &mut [Note; 1649],
-    zs: &mut [bool; 256],
-    ss: &mut [bool; 256],
-    zu: &mut [bool; 256],
-    su: &mut [bool; 256],
+    marks: &mut Marks,
     chip: Chip,
 ) -> Passage
     requires { (16 ≤ length t.now) × (length t.now ≤ 4096) × Bytes t.now
-        × Tracks (read_description chip (byte t.now)) start (flags zs.old ss.old zu.old su.old) [] × (length kept.old ≡ 96)
+        × Tracks (read_description chip (byte t.now)) start (flags_of marks.old) [] × (length kept.old ≡ 96)
         × (length log.old ≡ 1649) }
-    ensures { Scanned chip t.now kept.new log.new
-        (flags zs.new ss.new zu.new su.new) result }
+    ensures scanned { Scanned chip t.now kept.new log.new (flags_of marks.new) result }
+    ensures same_arrays { Same marks.old marks.new }
 {
     let settings = Settings {
         chip,
@@ -62,7 +59,7 @@ pub fn scan(
             return summed(n, s);
         }
         let next = at + len;
-        let r = walk(&t[at..next], end, s, zs, ss, zu, su, settings);
+        let r = walk(&t[at..next], end, s, marks, settings);
         let held = Kept {
             place: at as u16,
             cleared: false,
@@ -91,7 +88,7 @@ fn fate_of(stop: Option<Rule>) -> Fate
 {
     match stop {
         None => Fate::Stays,
-        Some(rule) => Fate::Leaves(rule.number()),
+        Some(rule) => Fate::Leaves(rule),
     }
 }
 

@@ -11,6 +11,7 @@ ghost use Rattle.sifting.specs.Stages.{JudgeIs, JudgeZone, JudgeString, JudgeCla
 use claiming::claims_of;
 use claims::{Held, claim};
 use fates::{Counts, Fate, Kept, Note, counted, settle};
+use format::answers::Rule;
 use format::pins::Chip;
 use places::marked;
 use walking::element_at;
@@ -89,7 +90,7 @@ fn by_zone(t: &[u8], kept: Kept, declared: &[bool; 256], chip: Chip) -> Fate
     if marked(t, usize::from(kept.place), declared, true) {
         Fate::Stays
     } else {
-        Fate::Leaves(13)
+        Fate::Leaves(Rule::NoZone)
     }
 }
 
@@ -119,6 +120,6 @@ fn by_claim(t: &[u8], kept: Kept, held: Held, chip: Chip) -> Judged
     if next.clash == 65536 {
         fated(Fate::Stays, next)
     } else {
-        fated(Fate::Leaves(15), held)
+        fated(Fate::Leaves(Rule::Clash), held)
     }
 }

@@ -11,7 +11,6 @@ ghost use Rattle.single.specs.Single.{NextIs, QuietTo, LengthenIs};
 
 use blocks::Cut;
 use underway::Under;
-use words::wide;
 
 // With this byte the element under way is not whole yet: its header is not there, or gives a greater length.
 fn stays(head: &[u8; 30], had: usize, x: u8) -> bool
@@ -21,9 +20,9 @@ fn stays(head: &[u8; 30], had: usize, x: u8) -> bool
         return true;
     }
     if had == 2 {
-        return 3 < wide(head[1]) + 256 * wide(x);
+        return 3 < usize::from(head[1]) + 256 * usize::from(x);
     }
-    let told = wide(head[1]) + 256 * wide(head[2]);
+    let told = usize::from(head[1]) + 256 * usize::from(head[2]);
     if told <= had {
         return false;
     }
@@ -205,7 +204,7 @@ fn quiet_to(head: &[u8; 30], u: Under, count: usize) -> usize
     if u.len < 3 {
         return 0;
     }
-    let told = wide(head[1]) + 256 * wide(head[2]);
+    let told = usize::from(head[1]) + 256 * usize::from(head[2]);
     if told <= u.len {
         return 0;
     }

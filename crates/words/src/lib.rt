@@ -1,4 +1,4 @@
-// Numbers of two and four bytes, lowest byte first, and a byte as a wider number.
+// Numbers of two and four bytes, lowest byte first.
 #![tactic(auto)]
 
 ghost use Rattle.std.specs.Prelude.{◌≡◌, ◌+◌, ◌<◌, length};
@@ -23,11 +23,4 @@ pub fn long(b: &[u8], i: usize) -> u32
         + 256 * u32::from(b[i + 1])
         + 65536 * u32::from(b[i + 2])
         + 16777216 * u32::from(b[i + 3])
-}
-
-// A byte, as wide as the code counts. The bound goes with it, as sums are to fit.
-pub fn wide(x: u8) -> usize
-    ensures { (result ≡ x) × (result < 256) }
-{
-    x as usize
 }

@@ -13,7 +13,6 @@ use format::answers::{Refusal, Rule};
 use format::pins::Chip;
 use format::records::{Description, Element};
 use format::settings::{Rules, Settings};
-use words::wide;
 
 // What starting a table answers.
 fn start_verdict(buffer: &[u8], d: Description, chip: Chip) -> Result<usize, Refusal>
@@ -45,7 +44,7 @@ fn length_so_far(buffer: &[u8]) -> usize
     requires { 3 ≤ length buffer.now }
     ensures { (result ≡ stated buffer.now) × (result < 65536) }
 {
-    wide(buffer[1]) + 256 * wide(buffer[2])
+    usize::from(buffer[1]) + 256 * usize::from(buffer[2])
 }
 
 // 16, or the new length.

@@ -7,8 +7,8 @@ use mathlib.Core.Logic.{inl, inr}
 use Rattle.closing.proofs.Closed.{first_kept, judged_as, plain_fixed, closed_11, closed_long, closed_fixed}
 use Rattle.closing.proofs.close.Goals as goal
 
-pub returns-then-s-ge96 : goal.returns-then-s-ge96
-returns-then-s-ge96 c =
+pub returns-then-s-ge96-clause-closes : goal.returns-then-s-ge96-clause-closes
+returns-then-s-ge96-clause-closes c =
     let b = c.broken.ensures in
     let p = c.requires in
     record {
@@ -16,8 +16,8 @@ returns-then-s-ge96 c =
       then = closed_11 _ _ _ _ _ _ _ _ _ c.if-s-ge96.true b.0 b.1;
     }
 
-pub returns-then-id-eq12 : goal.returns-then-id-eq12
-returns-then-id-eq12 c =
+pub returns-then-id-eq12-clause-closes : goal.returns-then-id-eq12-clause-closes
+returns-then-id-eq12-clause-closes c =
     record {
       plain = c.text.ensures.plain;
       then =
@@ -25,44 +25,44 @@ returns-then-id-eq12 c =
           c.text.ensures.then _ d before v _ _ _ _ _ u whole (first_kept _ _ v u whole ∙ c.if-id-eq12.true) p g;
     }
 
-pub returns-then-id-eq9 : goal.returns-then-id-eq9
-returns-then-id-eq9 c =
+pub returns-then-id-eq9-clause-closes : goal.returns-then-id-eq9-clause-closes
+returns-then-id-eq9-clause-closes c =
     let t = c.if-id-eq9.true in
     record {
-      plain = c.device.ensures.plain;
+      plain = c.device.ensures.closes.plain;
       then =
           λ d before v u whole p g.
           let first = first_kept _ _ v u whole in
-          c.device.ensures.then _ d before v _ _ u whole first (inl t)
+          c.device.ensures.closes.then _ d before v _ _ u whole first (inl t)
           (judged_as _ 9 _ _ _ t (c.controller.ensures.judged v u (first ∙ t))) p g;
     }
 
-pub returns-then-id-eq10 : goal.returns-then-id-eq10
-returns-then-id-eq10 c =
+pub returns-then-id-eq10-clause-closes : goal.returns-then-id-eq10-clause-closes
+returns-then-id-eq10-clause-closes c =
     let t = c.if-id-eq10.true in
     record {
-      plain = c.device-then-id-eq10.ensures.plain;
+      plain = c.device-then-id-eq10.ensures.closes.plain;
       then =
           λ d before v u whole p g.
           let first = first_kept _ _ v u whole in
-          c.device-then-id-eq10.ensures.then _ d before v _ _ u whole first (inr (inl t))
+          c.device-then-id-eq10.ensures.closes.then _ d before v _ _ u whole first (inr (inl t))
           (judged_as _ 10 _ _ _ t (c.tachometer.ensures.judged v u (first ∙ t))) p g;
     }
 
-pub returns-then-id-eq13 : goal.returns-then-id-eq13
-returns-then-id-eq13 c =
+pub returns-then-id-eq13-clause-closes : goal.returns-then-id-eq13-clause-closes
+returns-then-id-eq13-clause-closes c =
     let t = c.if-id-eq13.true in
     record {
-      plain = c.device-then-id-eq13.ensures.plain;
+      plain = c.device-then-id-eq13.ensures.closes.plain;
       then =
           λ d before v u whole p g.
           let first = first_kept _ _ v u whole in
-          c.device-then-id-eq13.ensures.then _ d before v _ _ u whole first (inr (inr t))
+          c.device-then-id-eq13.ensures.closes.then _ d before v _ _ u whole first (inr (inr t))
           (judged_as _ 13 _ _ _ t (c.external.ensures.judged v u (first ∙ t))) p g;
     }
 
-pub returns-then-len-gt30 : goal.returns-then-len-gt30
-returns-then-len-gt30 c =
+pub returns-then-len-gt30-clause-closes : goal.returns-then-len-gt30-clause-closes
+returns-then-len-gt30-clause-closes c =
     let b = c.broken-then-len-gt30.ensures in
     let p = c.requires in
     record {
@@ -73,11 +73,11 @@ returns-then-len-gt30 c =
           c.too_long.ensures b.0 b.1;
     }
 
-pub returns : goal.returns
-returns c =
+pub returns-clause-closes : goal.returns-clause-closes
+returns-clause-closes c =
     let n = c.args.u.len in
     let z : n - 0 ≡ n = omega arith in
     record {
-      plain = plain_fixed _ _ (n - 0) n _ z c.fixed.ensures.plain;
-      then = closed_fixed _ _ _ _ _ _ _ _ _ _ _ _ (n - 0) z c.if-len-gt30.false c.fixed.ensures;
+      plain = plain_fixed _ _ (n - 0) n _ z c.fixed.ensures.closes.plain;
+      then = closed_fixed _ _ _ _ _ _ _ _ _ _ _ _ (n - 0) z c.if-len-gt30.false c.fixed.ensures.closes;
     }

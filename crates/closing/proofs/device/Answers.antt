@@ -8,8 +8,8 @@ use Rattle.pass.specs.Steps.{stepped}
 use Rattle.closing.proofs.Parts.{device_closes}
 use Rattle.closing.proofs.device.Goals as goal
 
-pub returns-in-Err : goal.returns-in-Err
-returns-in-Err c =
+pub returns-in-Err-clause-closes : goal.returns-in-Err-clause-closes
+returns-in-Err-clause-closes c =
     let b = c.broken.ensures in
     let r = c.in-Err.rule in
     let above = rule_above r in
@@ -23,18 +23,18 @@ returns-in-Err c =
             same = b.0 ∙ c.number.ensures;
             good = λ z. absurd (omega (arith, above, z));
             bad = λ _. b.1;
-          }) c.requires.1 _ _ _ _ _ _ _ _ _ _
+          }) c.requires.1.0 _ _ _ _ _ _ _ _ _ _
           c.in-Err.ensures (λ z. absurd (omega (arith, above, z)));
     }
 
-pub returns-in-Ok : goal.returns-in-Ok
-returns-in-Ok c =
+pub returns-in-Ok-clause-closes : goal.returns-in-Ok-clause-closes
+returns-in-Ok-clause-closes c =
     let b = c.broken-in-Ok.ensures in
     record {
       plain = record { low = rw b.4 c.in-Ok.ensures.low; none_held = b.2; none_cut = b.3; within = omega (arith, b.1) };
       then =
           device_closes _ _ _ _ (stepped c.args.s (Ok c.in-Ok.state)) _
           (record { none_held = b.2; none_cut = b.3; same = b.0; good = λ _. (b.1, b.4); bad = λ z. absurd (z refl) })
-          c.requires.1 _ _ _ _ _ _ _ _ _ _
-          c.in-Ok.ensures (λ _. c.name.ensures);
+          c.requires.1.0 _ _ _ _ _ _ _ _ _ _
+          c.in-Ok.ensures (λ _. c.name.ensures.names);
     }

@@ -5,8 +5,8 @@ use mathlib.Core.Path.{refl, sym, ◌∙◌}
 use Rattle.closing.proofs.Pieces.{front_none}
 use Rattle.closing.proofs.front.Goals as goal
 
-pub returns-then-waits : goal.returns-then-waits
-returns-then-waits c =
+pub returns-then-waits-clause-elements : goal.returns-then-waits-clause-elements
+returns-then-waits-clause-elements c =
     let b = c.broken.ensures in
     record {
       plain = record {
@@ -23,5 +23,5 @@ returns-then-waits c =
       breaks = λ z. absurd (z b.0);
     }
 
-pub returns : goal.returns
-returns c = c.whole.ensures
+pub returns-clause-elements : goal.returns-clause-elements
+returns-clause-elements c = c.whole.ensures.elements

@@ -23,7 +23,7 @@ returns-in-Err c =
             same = b.0 ∙ c.number-in-Err.ensures;
             good = λ z. absurd (omega (arith, above, z));
             bad = λ _. b.1;
-          }) c.requires.1 _ _ _ _
+          }) c.requires.1.0 _ _ _ _
           c.text.ensures c.number.ensures c.in-Err.ensures;
     }
 
@@ -35,6 +35,6 @@ returns-in-Ok c =
       then =
           text_closes _ _ _ _ (stepped c.args.s (Ok c.in-Ok.state)) _
           (record { none_held = b.2; none_cut = b.3; same = b.0; good = λ _. (b.1, b.4); bad = λ z. absurd (z refl) })
-          c.requires.1 _ _ _ _
+          c.requires.1.0 _ _ _ _
           c.text.ensures c.number.ensures c.in-Ok.ensures;
     }

@@ -10,4 +10,4 @@ returns-then-p-lt3 c = sym (waits_header c.args.p.now c.if-p-lt3.true)
 
 pub returns : goal.returns
 returns c = waits_is c.args.p.now
-    (rw (c.wide.ensures.0, c.wide-2.ensures.0) refl) c.if-p-lt3.false
+    (rw (c.from.ensures, c.from-2.ensures) refl) c.if-p-lt3.false

@@ -18,8 +18,8 @@ put_fields-e-requires c =
     let a = c.args in
     let p = c.requires in
     let r = fields_room a.one.now a.two.now a.a a.b (written (part p.1)) (written (part p.2)) c.if-k-l.true
-    c.wide.ensures.0 a.at (length a.out.now) p.7 in
-    (r, p.5, p.6, omega (arith, c.wide.ensures.0, kind_here p.0 a.one.now a.a p.1 p.3, kind_small p.1))
+    c.from.ensures a.at (length a.out.now) p.7 in
+    (r, p.5, p.6, omega (arith, c.from.ensures, kind_here p.0 a.one.now a.a p.1 p.3, kind_small p.1))
 
 pub part_at-requires : goal.part_at-requires
 part_at-requires c =
@@ -37,7 +37,7 @@ put_part-requires c =
     let p = c.requires in
     let r =
     part_room a.one.now a.two.now a.a a.b (written (part p.1)) (written (part p.2)) c.if-k-l.true
-    c.wide.ensures.0 c.put_fields-e.ensures
+    c.from.ensures c.put_fields-e.ensures
     (c.part_at.ensures p.0 p.1 p.3) (c.part_at-then-k-l.ensures p.0 p.2 p.4) p.7 in
     (r, p.5, p.6)
 
@@ -46,7 +46,7 @@ returns-then-k-l c =
     let a = c.args in
     λ k u v h i.
     pair_put a.one.now a.two.now a.a a.b (written (part u)) (written (part v)) c.if-k-l.true
-    c.wide.ensures.0 c.put_fields-e.ensures
+    c.from.ensures c.put_fields-e.ensures
     (c.part_at.ensures k u h) (c.part_at-then-k-l.ensures k v i) c.put_part.ensures
 
 pub put_kind-requires : goal.put_kind-requires

@@ -17,16 +17,16 @@ returns-then-first-ne1 c =
 pub returns-then-told-count : goal.returns-then-told-count
 returns-then-told-count c =
     rw c.by-then-told-count.ensures
-    (verdict_3 _ _ _ _ _ _ c.if-count-lt16.false c.if-first-ne1.false _ _ c.wide.ensures.0 c.wide-2.ensures.0
+    (verdict_3 _ _ _ _ _ _ c.if-count-lt16.false c.if-first-ne1.false _ _ c.from.ensures c.from-2.ensures
     c.if-told-count.true refl)
 
 pub returns-then-told-gt4096 : goal.returns-then-told-gt4096
 returns-then-told-gt4096 c =
     rw c.by-then-told-gt4096.ensures
-    (verdict_3_over _ _ _ _ _ _ c.if-count-lt16.false c.if-first-ne1.false _ _ c.wide.ensures.0 c.wide-2.ensures.0
+    (verdict_3_over _ _ _ _ _ _ c.if-count-lt16.false c.if-first-ne1.false _ _ c.from.ensures c.from-2.ensures
     c.if-told-count.false c.if-told-gt4096.true refl)
 
 pub returns : goal.returns
 returns c =
-    verdict_on _ _ _ _ _ _ c.if-count-lt16.false c.if-first-ne1.false _ _ c.wide.ensures.0 c.wide-2.ensures.0
+    verdict_on _ _ _ _ _ _ c.if-count-lt16.false c.if-first-ne1.false _ _ c.from.ensures c.from-2.ensures
     c.if-told-count.false c.if-told-gt4096.false refl refl (rw (← c.way_of.ensures) c.passed.ensures)

@@ -14,7 +14,7 @@ returns-in-Ok c =
     rw (← c.settings_of-s.ensures)
     (fields_for _ _ _ _ _ g refl _ _ _ _ (gives_beside _ _ _ _ _ g refl _
     (λ i. omega (arith, c.type_inv.table i)) c.part.ensures)
-    (rw (c.pack.ensures, c.wide.ensures.0, c.id_of.ensures) refl)
+    (rw (c.pack.ensures, c.from.ensures, c.id_of.ensures) refl)
     c.element-in-Ok.ensures)
 
 pub returns-in-Err : goal.returns-in-Err

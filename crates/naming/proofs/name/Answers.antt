@@ -4,16 +4,16 @@ use native.Mathlib.Omega.{arith}
 use mathlib.Core.Path.{refl}
 use Rattle.naming.proofs.name.Goals as goal
 
-pub returns-then-id-eq12 : goal.returns-then-id-eq12
-returns-then-id-eq12 c =
+pub returns-then-id-eq12-clause-names : goal.returns-then-id-eq12-clause-names
+returns-then-id-eq12-clause-names c =
     record {
       text = λ _. (refl, refl);
       zoning = λ e. absurd (omega (arith, e, c.if-id-eq12.true));
       placed = λ _ n. absurd (n c.if-id-eq12.true);
     }
 
-pub returns-then-id-eq11 : goal.returns-then-id-eq11
-returns-then-id-eq11 c =
+pub returns-then-id-eq11-clause-names : goal.returns-then-id-eq11-clause-names
+returns-then-id-eq11-clause-names c =
     let i = c.if-id-eq11.true in
     record {
       text = λ e. absurd (omega (arith, e, i));
@@ -21,8 +21,8 @@ returns-then-id-eq11 c =
       placed = λ n _. absurd (n i);
     }
 
-pub returns : goal.returns
-returns c =
+pub returns-clause-names : goal.returns-clause-names
+returns-clause-names c =
     record {
       text = λ e. absurd (c.if-id-eq12.false e);
       zoning = λ e. absurd (c.if-id-eq11.false e);

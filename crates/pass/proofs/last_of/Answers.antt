@@ -7,4 +7,4 @@ pub returns-in-None : goal.returns-in-None
 returns-in-None c = λ ps h. let a = c.args in rw c.in-None.is at (last_of_lem a.fans a.last ps h)
 
 pub returns-in-Some : goal.returns-in-Some
-returns-in-Some c = λ ps h. let a = c.args in rw c.wide.ensures.0 (rw c.in-Some.is at (last_of_lem a.fans a.last ps h))
+returns-in-Some c = λ ps h. let a = c.args in rw c.from.ensures (rw c.in-Some.is at (last_of_lem a.fans a.last ps h))

@@ -20,19 +20,19 @@ pub returns-then-not-follows : goal.returns-then-not-follows
 returns-then-not-follows c =
     rw c.in_ok-f.was
     (placed_late _ _ (λ i. omega (arith, c.type_inv.b i)) _ _ _ _ _
-    (low_kept _ _ (omega (arith, c.requires.0)) c.requires.1 refl)
+    (low_kept _ _ (omega (arith, c.requires.0.0)) c.requires.0.1 refl)
     refl c.follows.ensures (not-true _ c.if-not-follows.true-raw) refl refl)
 
 pub bounds-b-4 : goal.bounds-b-4
-bounds-b-4 c = let l = rw c.in_ok-f.was at c.requires.3 in omega (arith, l refl)
+bounds-b-4 c = let l = rw c.in_ok-f.was at c.requires.2 in omega (arith, l refl)
 
 pub bounds-b-0 : goal.bounds-b-0
-bounds-b-0 c = let l = rw c.in_ok-f.was at c.requires.3 in omega (arith, l refl)
+bounds-b-0 c = let l = rw c.in_ok-f.was at c.requires.2 in omega (arith, l refl)
 
 pub returns : goal.returns
 returns c =
     rw c.in_ok-f.was
     (placed_good _ _ (λ i. omega (arith, c.type_inv.b i)) _ _ _ _ _
-    (record { most = omega (arith, c.requires.0); few = c.requires.1 }) refl
-    c.follows.ensures (not-false _ c.if-not-follows.false-raw) c.requires.2
-    c.wide-z.ensures.0 c.wide-t.ensures.0 refl refl refl refl c.claim.ensures c.last_of.ensures refl refl)
+    (record { most = omega (arith, c.requires.0.0); few = c.requires.0.1 }) refl
+    c.follows.ensures (not-false _ c.if-not-follows.false-raw) c.requires.1
+    c.from-z.ensures c.from-t.ensures refl refl refl refl c.claim.ensures c.last_of.ensures refl refl)

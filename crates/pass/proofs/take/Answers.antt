@@ -6,16 +6,16 @@ use Rattle.pass.proofs.Stepped.{low_kept}
 use Rattle.pass.proofs.Taking.{take_zone, take_text, take_placed, not_known, take_unknown}
 use Rattle.pass.proofs.take.Goals as goal
 
-pub returns-in-11 : goal.returns-in-11
-returns-in-11 c =
+pub returns-in-11-clause-takes : goal.returns-in-11-clause-takes
+returns-in-11-clause-takes c =
     take_zone _ _ _ _ _ _ _ _ c.zone_step.ensures.1 c.in-11.is (c.zone_step.ensures.0 _ _ _ _)
 
-pub returns-in-12 : goal.returns-in-12
-returns-in-12 c =
+pub returns-in-12-clause-takes : goal.returns-in-12-clause-takes
+returns-in-12-clause-takes c =
     take_text _ _ _ _ _ _ _ _ c.text_step.ensures.1 c.in-12.is (c.text_step.ensures.0 _ _ _ _ _)
 
-pub returns-in_default : goal.returns-in_default
-returns-in_default c =
+pub returns-in_default-clause-takes : goal.returns-in_default-clause-takes
+returns-in_default-clause-takes c =
     take_unknown _ _ _ _ _ _ _ _ (low_kept _ _ (omega arith) (omega arith) refl) (search not_known)
     refl refl refl
 

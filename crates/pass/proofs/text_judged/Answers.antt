@@ -24,7 +24,7 @@ returns-then-ss-t c =
       low = low_kept _ _ (omega arith) (omega arith) refl;
       steps =
           λ σ p small e n at zs zu su.
-          text_fault σ p small at _ zs _ zu su _ e refl (c.wide-t.ensures.0 ∙ n) c.if-ss-t.true refl refl;
+          text_fault σ p small at _ zs _ zu su _ e refl (c.from-t.ensures ∙ n) c.if-ss-t.true refl refl;
     })
 
 pub returns : goal.returns
@@ -34,6 +34,6 @@ returns c =
       low = record { most = omega arith; few = omega arith };
       steps =
           λ σ p small e n at zs zu su.
-          text_good σ p small at _ zs _ zu su _ e refl (c.wide-t.ensures.0 ∙ n)
+          text_good σ p small at _ zs _ zu su _ e refl (c.from-t.ensures ∙ n)
           c.if-ss-t.false refl refl refl refl refl refl;
     })

@@ -26,7 +26,7 @@ returns-in_err-zone_against c =
     rw (handed _ e c.from_residual-in_err-zone_against.ensures.1) (
       λ σ at ss zu.
           zone_fault σ _ (λ i. omega (arith, c.type_inv.b i)) at _ _ ss zu _ _
-          (c.in_ok-zone_breaks.ensures σ) refl c.wide-z.ensures.0
+          (c.in_ok-zone_breaks.ensures σ) refl c.from-z.ensures
           c.in_err-zone_against.ensures (λ n. omega (arith, p, n)) refl refl,
       low_kept _ _ (omega arith) (omega arith) refl,
     )
@@ -40,8 +40,8 @@ returns c =
     let room = zone_room a.s.zones _ c.in_ok-zone_against.ensures refl in (
       λ σ at ss zu.
           zone_good σ _ (λ i. omega (arith, c.type_inv.b i)) at _ _ ss zu _ _
-          (c.in_ok-zone_breaks.ensures σ) refl c.wide-z.ensures.0
+          (c.in_ok-zone_breaks.ensures σ) refl c.from-z.ensures
           c.in_ok-zone_against.ensures
-          refl c.wide-t.ensures.0 refl refl refl refl refl refl refl,
+          refl c.from-t.ensures refl refl refl refl refl refl refl,
       record { most = omega arith; few = omega arith },
     )

@@ -6,8 +6,8 @@ use Rattle.stream.specs.Running.{going}
 use Rattle.passing.proofs.Resuming.{whole_turn}
 use Rattle.passing.proofs.ahead.Goals as goal
 
-pub returns-then-under-ne0 : goal.returns-then-under-ne0
-returns-then-under-ne0 c =
+pub returns-then-under-ne0-clause-turns : goal.returns-then-under-ne0-clause-turns
+returns-then-under-ne0-clause-turns c =
     let q = c.requires in
     record {
       onto = record { low = q.2; cut = q.1; within = omega arith; ends = λ _. omega (arith, q.0) };
@@ -21,9 +21,9 @@ front-requires c = let q = c.requires in (
   q.2,
 )
 
-pub returns : goal.returns
-returns c =
-    let x = c.front.ensures in
+pub returns-clause-turns : goal.returns-clause-turns
+returns-clause-turns c =
+    let x = c.front.ensures.elements in
     let q = c.requires in
     record {
       onto =

@@ -16,6 +16,8 @@ loop-way-init c =
     let q = c.requires in (
       record { low = q.2; cut = q.1; within = omega arith; ends = λ _. omega (arith, q.0) },
       λ d before at u small o. record { run = going before at u; now = o; same = refl },
+      record { zones = refl; strings = refl; zone_uses = refl; string_uses = refl },
+      record { zones = refl; strings = refl },
     )
 
 pub slice_bounds-turn-count : goal.slice_bounds-turn-count
@@ -35,14 +37,14 @@ overflow_add-from c =
     let p = c.args.p.now in
     let n = c.loop-way.from in
     let l = length-take-le (length p - n) (drop n p) (omega (arith, length-drop n p)) in
-    omega (arith, c.turn-r.ensures.onto.within, l, length-drop n p, c.loop-way.invariant.0.within, c.requires.0)
+    omega (arith, c.turn-r.ensures.turns.onto.within, l, length-drop n p, c.loop-way.invariant.0.within, c.requires.0)
 
 pub loop-way-smaller : goal.loop-way-smaller
 loop-way-smaller c =
     let p = c.args.p.now in
     let n = c.loop-way.from in
     let t = turn_both c.loop-way.way.stop n (length p) c.loop-way-test.true in
-    let q = c.turn-r.ensures in
+    let q = c.turn-r.ensures.turns in
     let l = length-take-le (length p - n) (drop n p) (omega (arith, length-drop n p)) in
     omega (arith, q.some (omega (arith, l, length-drop n p, t.1)), t.1)
 
@@ -52,7 +54,7 @@ loop-way-preserved c =
     let p = c.args.p.now in
     let n = c.loop-way.from in
     let t = turn_both c.loop-way.way.stop n (length p) c.loop-way-test.true in
-    let q = c.turn-r.ensures in
+    let q = c.turn-r.ensures.turns in
     let m = length-drop n p in
     let l = length-take-le (length p - n) (drop n p) (omega (arith, m)) in (
       record {
@@ -64,10 +66,12 @@ loop-way-preserved c =
       λ d before at u small o.
           then_on _ _ _ _ _ _ _ _ _ (i.1 d before at u small o) t.0 _ (rest n p) _ _ _ _ _ _ refl refl
           (λ b a v y. q.goes d b a v (bytes_take (length p - n) (drop n p) (bytes_drop n p small)) y),
+      search (i.2, c.turn-r.ensures.same_arrays),
+      search (i.3, c.turn-r.ensures.same_places),
     )
 
-pub returns : goal.returns
-returns c =
+pub returns-clause-passes : goal.returns-clause-passes
+returns-clause-passes c =
     record {
       goes = λ d before at u m small o. ended _ _ _ _ _ _ _ _ _ (c.loop-way.invariant.1 d before at u small o)
           (turn_test _ _ _ c.loop-way-test.false);

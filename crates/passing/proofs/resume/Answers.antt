@@ -8,8 +8,8 @@ use Rattle.underway.specs.declared.Under.{Under}
 use Rattle.passing.proofs.Resuming.{resume_low, resume_waits, resume_whole}
 use Rattle.passing.proofs.resume.Goals as goal
 
-pub returns-then-mine-lt3 : goal.returns-then-mine-lt3
-returns-then-mine-lt3 c =
+pub returns-then-mine-lt3-clause-turns : goal.returns-then-mine-lt3-clause-turns
+returns-then-mine-lt3-clause-turns c =
     let y = c.due-mine.ensures in
     let p = c.requires in
     let b = c.broken.ensures in
@@ -28,8 +28,8 @@ returns-then-mine-lt3 c =
           b.0 b.1;
     }
 
-pub returns-then-u-mine : goal.returns-then-u-mine
-returns-then-u-mine c =
+pub returns-then-u-mine-clause-turns : goal.returns-then-u-mine-clause-turns
+returns-then-u-mine-clause-turns c =
     let y = c.due-mine in
     let b = c.going.ensures in
     let n = y.result.take in
@@ -50,13 +50,13 @@ returns-then-u-mine c =
           c.more-u.ensures z c.if-mine-lt3.false c.if-u-mine.true refl b.0 b.1 b.2 b.3;
     }
 
-pub returns : goal.returns
-returns c =
+pub returns-clause-turns : goal.returns-clause-turns
+returns-clause-turns c =
     let y = c.due-mine in
     let n = y.result.take in
     let z : n - 0 ≡ n = omega arith in
     let l = length-take-le (n - 0) c.args.p.now (omega (arith, y.ensures.within)) in
-    let a = c.close.ensures.plain in
+    let a = c.close.ensures.closes.plain in
     record {
       onto =
           record {
@@ -70,5 +70,5 @@ returns c =
           λ d before v m small k w e g.
           resume_whole _ d before _ v _ _ _ _ _ _ _ m small k w e g _ _ _ _ _ _ _ _ (n - 0) (y.ensures.shares v k.held k.long w m)
           c.more-u.ensures z c.if-u-mine.false
-          c.if-mine-lt3.false c.close.ensures refl;
+          c.if-mine-lt3.false c.close.ensures.closes refl;
     }

@@ -10,18 +10,18 @@ use Rattle.found.proofs.Judging.{rest}
 use Rattle.passing.proofs.Resuming.{stopped_turn, then_on, resumed_on}
 use Rattle.passing.proofs.turn.Goals as goal
 
-pub returns-then-way-ne0 : goal.returns-then-way-ne0
-returns-then-way-ne0 c =
-    let a = c.ahead-r.ensures in
+pub returns-then-way-ne0-clause-turns : goal.returns-then-way-ne0-clause-turns
+returns-then-way-ne0-clause-turns c =
+    let a = c.ahead-r.ensures.turns in
     record {
       onto = record { low = a.onto.low; cut = a.onto.cut; within = omega arith; ends = λ z. absurd (c.if-way-ne0.true z) };
       some = λ m. m;
       goes = λ d before at u small o. stopped_turn _ _ _ _ _ _ _ _ _ (a.goes d before at u _ small o) c.if-way-ne0.true _ refl;
     }
 
-pub returns-then-p-from : goal.returns-then-p-from
-returns-then-p-from c =
-    let a = c.ahead-r.ensures in
+pub returns-then-p-from-clause-turns : goal.returns-then-p-from-clause-turns
+returns-then-p-from-clause-turns c =
+    let a = c.ahead-r.ensures.turns in
     let t = c.if-p-from.true in
     record { onto = a.onto; some = λ m. omega (arith, m, t); goes = λ d before at u small o. a.goes d before at u _ small o }
 
@@ -29,7 +29,7 @@ pub resume-q-requires : goal.resume-q-requires
 resume-q-requires c =
     let p = c.args.p.now in
     let n = c.ahead-r.result.taken in
-    let a = c.ahead-r.ensures.onto in
+    let a = c.ahead-r.ensures.turns.onto in
     let l = length-take-le (length p - n) (drop n p) (omega (arith, length-drop n p)) in
     (omega (arith, a.ends c.if-way-ne0.false, l, length-drop n p), a.cut, a.low)
 
@@ -38,14 +38,14 @@ overflow_add-result c =
     let p = c.args.p.now in
     let n = c.ahead-r.result.taken in
     let l = length-take-le (length p - n) (drop n p) (omega (arith, length-drop n p)) in
-    omega (arith, c.resume-q.ensures.onto.within, l, length-drop n p, c.ahead-r.ensures.onto.within, c.requires.0)
+    omega (arith, c.resume-q.ensures.turns.onto.within, l, length-drop n p, c.ahead-r.ensures.turns.onto.within, c.requires.0)
 
-pub returns : goal.returns
-returns c =
-    let q = c.resume-q.ensures in
+pub returns-clause-turns : goal.returns-clause-turns
+returns-clause-turns c =
+    let q = c.resume-q.ensures.turns in
     let p = c.args.p.now in
     let n = c.ahead-r.result.taken in
-    let a = c.ahead-r.ensures in
+    let a = c.ahead-r.ensures.turns in
     let m = length-drop n p in
     let l = length-take-le (length p - n) (drop n p) (omega (arith, m)) in
     let t = c.if-p-from.false in

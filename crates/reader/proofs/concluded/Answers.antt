@@ -1,5 +1,6 @@
 -- `concluded` meets its contract: 13, 14, 15 or accepted, by what was gathered.
 -- Assumes nothing.
+use native.Mathlib.Omega.{arith}
 use borrow.Author.Tests.{not-true, not-false}
 use Rattle.reader.proofs.Concluding.{refused_13, refused_14_description, refused_14, refused_15, accepted_0}
 use Rattle.reader.proofs.concluded.Goals as goal
@@ -13,14 +14,14 @@ returns-then-lacks c =
     (refused_13 _ _ _ _ _ _ _ c.requires _ c.lacks.ensures
     c.if-lacks.true _ c.zoneless.ensures)
 
-pub returns-then-not-ss-n : goal.returns-then-not-ss-n
-returns-then-not-ss-n c =
-    rw c.at-then-not-ss-n.ensures
+pub returns-then-not-strings-n : goal.returns-then-not-strings-n
+returns-then-not-strings-n c =
+    rw c.at-then-not-strings-n.ensures
     (refused_14_description _ _ _ _ _ _ _ c.requires _
     c.lacks.ensures _
     c.lacks-2.ensures c.if-lacks.false
-    c.if-lacks-2.true c.wide-n.result c.wide-n.ensures.0
-    c.wide-n.ensures.1 (not-true _ c.if-not-ss-n.true-raw))
+    c.if-lacks-2.true c.from-n.result c.from-n.ensures
+    (omega arith) (not-true _ c.if-not-strings-n.true-raw))
 
 pub nameless-requires : goal.nameless-requires
 nameless-requires c =
@@ -34,8 +35,8 @@ returns-then-lacks-2 c =
     c.lacks.ensures _
     c.lacks-2.ensures
     c.if-lacks.false c.if-lacks-2.true
-    c.wide-n.result c.wide-n.ensures.0 c.wide-n.ensures.1
-    (not-false _ c.if-not-ss-n.false-raw) _ c.nameless.ensures)
+    c.from-n.result c.from-n.ensures (omega arith)
+    (not-false _ c.if-not-strings-n.false-raw) _ c.nameless.ensures)
 
 pub returns-then-held-ne65536 : goal.returns-then-held-ne65536
 returns-then-held-ne65536 c =

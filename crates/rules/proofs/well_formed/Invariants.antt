@@ -10,6 +10,3 @@ use Rattle.rules.proofs.well_formed.Given as goal
 abbrev pub invariant-loop-i : goal.invariant-loop-i
 invariant-loop-i l =
     (l.count ≡ length l.text / 2) × (l.i ≤ l.count) × (l.good && paired_after l.high (units (drop (2 * l.i) l.text)) ≡ well_formed l.text)
-
-abbrev pub decreases-loop-i : goal.decreases-loop-i
-decreases-loop-i l = l.count - l.i

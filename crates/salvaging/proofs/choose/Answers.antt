@@ -16,21 +16,21 @@ bounds-t-4 c =
 pub sift-b-requires : goal.sift-b-requires
 sift-b-requires c =
     let ready = strings_ready _ _ c.requires.0 c.requires.1 c.requires.2 c.requires.3 c.sift-a.ensures
-    c.wide-index.ensures.0 c.wide-index.ensures.1 c.note_first-lines.ensures in
+    c.from-index.ensures (omega arith) c.note_first-lines.ensures in
     (ready, kept_long)
 
 pub sift-c-requires : goal.sift-c-requires
 sift-c-requires c =
     let ready = pins_ready _ _ c.requires.0 c.requires.1 c.requires.2 c.requires.3 c.sift-a.ensures
-    c.wide-index.ensures.0 c.wide-index.ensures.1 c.note_first-lines.ensures c.sift-b.ensures in
+    c.from-index.ensures (omega arith) c.note_first-lines.ensures c.sift-b.ensures in
     (ready, c.requires.3.notes.kept_long)
 
 pub planned-requires : goal.planned-requires
 planned-requires c =
     all_listed _ _ c.requires.0 c.requires.1 c.requires.2 c.requires.3 c.sift-a.ensures
-    c.wide-index.ensures.0 c.wide-index.ensures.1 c.note_first-lines.ensures c.sift-b.ensures c.sift-c.ensures
+    c.from-index.ensures (omega arith) c.note_first-lines.ensures c.sift-b.ensures c.sift-c.ensures
 
 pub returns : goal.returns
 returns c =
     all_decided _ _ c.requires.0 c.requires.1 c.requires.2 c.requires.3 c.sift-a.ensures
-    c.wide-index.ensures.0 c.wide-index.ensures.1 c.note_first-lines.ensures c.sift-b.ensures c.sift-c.ensures c.planned.ensures
+    c.from-index.ensures (omega arith) c.note_first-lines.ensures c.sift-b.ensures c.sift-c.ensures c.planned.ensures

@@ -1,7 +1,7 @@
 -- `scan` meets its contract: what is left to do ends where the whole ends.
 -- Assumes nothing.
-use Rattle.pass.specs.Steps.{over}
 use Prim.Native.Nat.{◌+◌}
+use mathlib.Core.Path.{refl}
 use native.Mathlib.Omega.{arith}
 use lib.Seq.{length-slice}
 use Rattle.pass.proofs.Moving.{unframed_short, unframed_small, unframed_long}
@@ -11,8 +11,11 @@ use Rattle.scanning.proofs.scan.Goals as goal
 -- pub record Known (e : tie.Else3 invariant-loop decreases-loop) : Type 0 where
 
 pub loop-at-init : goal.loop-at-init
-loop-at-init c =
-    (c.requires.0, begun _ _ _ _ _ _ _ c.requires.4 c.requires.5 c.counted-n.ensures.0 c.counted-n.ensures.1 c.requires.3)
+loop-at-init c = (
+  c.requires.0,
+  begun _ _ _ _ _ _ _ c.requires.4 c.requires.5 c.counted-n.ensures.0 c.counted-n.ensures.1 c.requires.3,
+  record { zones = refl; strings = refl; zone_uses = refl; string_uses = refl },
+)
 
 pub overflow_add-at : goal.overflow_add-at
 overflow_add-at c = omega (arith, c.loop-at.invariant.0, c.requires.1)
@@ -20,24 +23,24 @@ overflow_add-at c = omega (arith, c.loop-at.invariant.0, c.requires.1)
 pub overflow_sub-left : goal.overflow_sub-left
 overflow_sub-left c = omega (arith, c.loop-at.invariant.0)
 
-pub returns-then-len-lt3 : goal.returns-then-len-lt3
-returns-then-len-lt3 c =
+pub returns-then-len-lt3-clause-scanned : goal.returns-then-len-lt3-clause-scanned
+returns-then-len-lt3-clause-scanned c =
     let i = c.loop-at.invariant in
     let q = c.summed.ensures in
     ended _ _ _ _ _ _ _ _ _ i.1 _ q.0 q.1 i.0 c.requires.1
     (unframed_small c.args.t.now c.loop-at.at c.length_at-len.ensures
     c.if-len-lt3.true)
 
-pub returns-then-left-len : goal.returns-then-left-len
-returns-then-left-len c =
+pub returns-then-left-len-clause-scanned : goal.returns-then-left-len-clause-scanned
+returns-then-left-len-clause-scanned c =
     let i = c.loop-at.invariant in
     let q = c.summed-then-left-len.ensures in
     ended _ _ _ _ _ _ _ _ _ i.1 _ q.0 q.1 i.0 c.requires.1
     (unframed_long c.args.t.now c.loop-at.at c.length_at-len.ensures
     c.if-left-len.true)
 
-pub returns-then-n-ge96 : goal.returns-then-n-ge96
-returns-then-n-ge96 c =
+pub returns-then-n-ge96-clause-scanned : goal.returns-then-n-ge96-clause-scanned
+returns-then-n-ge96-clause-scanned c =
     let i = c.loop-at.invariant in
     let q = c.summed-then-n-ge96.ensures in
     filled _ _ _ _ _ _ _ _ _ i.1 _ q.0 q.1 i.0 c.requires.1 c.if-n-ge96.true
@@ -70,13 +73,14 @@ loop-at-preserved c =
     let i = c.loop-at.invariant in (
       omega (arith, c.loop-at.invariant.1.behind, c.loop-at.invariant.1.few_lines, c.if-left-len.false, c.if-len-lt3.false),
       turned _ _ _ _ _ _ _ _ _ i.1 c.requires.2 _ c.length_at-len.ensures c.if-len-lt3.false
-          (omega (arith, c.loop-at.invariant.1.behind, c.loop-at.invariant.1.few_lines, c.if-left-len.false, c.if-len-lt3.false)) i.0 (omega (arith, c.if-n-ge96.false)) (over c.walk-r.result) _ c.walk-r.ensures _
+          (omega (arith, c.loop-at.invariant.1.behind, c.loop-at.invariant.1.few_lines, c.if-left-len.false, c.if-len-lt3.false)) i.0 (omega (arith, c.if-n-ge96.false)) _ _ c.walk-r.ensures.walks _
           c.fate_of.ensures
           _ _ _ c.settle-n.ensures _ c.grown-end.ensures,
+      search (i.2, c.walk-r.ensures.same_arrays),
     )
 
-pub returns : goal.returns
-returns c =
+pub returns-clause-scanned : goal.returns-clause-scanned
+returns-clause-scanned c =
     let i = c.loop-at.invariant in
     let q = c.summed-2.ensures in
     ended _ _ _ _ _ _ _ _ _ i.1 _ q.0 q.1 i.0 c.requires.1

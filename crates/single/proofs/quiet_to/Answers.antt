@@ -18,5 +18,5 @@ pub returns : goal.returns
 returns c =
     let told = c.if-told-u.false in
     let end = c.lesser-end.ensures in
-    quiet_some _ _ _ c.if-u-lt3.false c.wide.ensures.0 c.wide-2.ensures.0 refl c.next_of.ensures
+    quiet_some _ _ _ c.if-u-lt3.false c.from.ensures c.from-2.ensures refl c.next_of.ensures
     (omega (arith, told, end.0)) end.1 c.if-end-u.false c.lesser.ensures.0 c.lesser.ensures.1

@@ -9,7 +9,7 @@ pub put_rows-e-requires : goal.put_rows-e-requires
 unfolding placeds firsts counts
 put_rows-e-requires c =
     let a = c.args in
-    let r = first_room a.one.now a.two.now a.a a.b a.id c.wide-placed.ensures.0 a.at (length a.out.now)
+    let r = first_room a.one.now a.two.now a.a a.b a.id c.from-placed.ensures a.at (length a.out.now)
     c.requires.0 c.requires.3 in
     (r.0, c.requires.1, c.requires.2, r.1)
 
@@ -17,13 +17,13 @@ pub put_rows-requires : goal.put_rows-requires
 unfolding placeds firsts counts
 put_rows-requires c =
     let a = c.args in
-    let r = second_room a.one.now a.two.now a.a a.b a.id c.wide-placed.ensures.0 c.wide-first.ensures.0
-    c.wide-count.ensures.0 c.requires.0 c.requires.3 c.put_rows-e.ensures in
+    let r = second_room a.one.now a.two.now a.a a.b a.id c.from-placed.ensures c.from-first.ensures
+    c.from-count.ensures c.requires.0 c.requires.3 c.put_rows-e.ensures in
     (r.0, c.requires.1, c.requires.2, r.1)
 
 pub returns : goal.returns
 unfolding placeds firsts counts
 returns c =
     let a = c.args in
-    fields_put a.one.now a.two.now a.a a.b a.id c.wide-placed.ensures.0 c.wide-first.ensures.0
-    c.wide-count.ensures.0 c.put_rows-e.ensures c.put_rows.ensures
+    fields_put a.one.now a.two.now a.a a.b a.id c.from-placed.ensures c.from-first.ensures
+    c.from-count.ensures c.put_rows-e.ensures c.put_rows.ensures

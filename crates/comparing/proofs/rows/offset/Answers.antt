@@ -1,5 +1,6 @@
 -- `offset` meets its contract: the constant is the list of the definition.
 -- Assumes nothing.
+use native.Mathlib.Omega.{arith}
 use mathlib.Core.Path.{refl}
 use Rattle.comparing.specs.Rows.{offsets}
 use Rattle.comparing.proofs.Naming.{offset_here}
@@ -7,4 +8,4 @@ use Rattle.comparing.proofs.rows.offset.Goals as goal
 
 pub returns : goal.returns
 unfolding offsets
-returns c = (rw (offset_here _ _ c.requires refl _) at c.wide.ensures.0, c.wide.ensures.1)
+returns c = (rw (offset_here _ _ c.requires refl _) at c.from.ensures, (omega arith))

@@ -11,7 +11,7 @@ pub returns-in-Ok : goal.returns-in-Ok
 returns-in-Ok c = rw (
   c.in-Ok.is,
   c.pack.ensures,
-  c.wide.ensures.0,
+  c.from.ensures,
   c.id_of.ensures,
 ) refl
 
