@@ -22,6 +22,13 @@ all_short : all_to 59 short ≡ true
 unfolding short names
 all_short = refl
 
+-- one column of a constant, read by a number
+pub column : {A : Type 0} (f : A → ℕ) (table : List A) {l : List ℕ} → map f table ≡ l → (i : ℕ) → i < length l → (d : A)
+    → f (get_or table i d) ≡ get_or l i 0
+column f table {l} is i h d =
+    let many : length table ≡ length l = simp length-map at (ap length is) in
+    sym (get_or-map f table i d 0 (omega (arith, many, h))) ∙ ap (λ (m : List ℕ). get_or m i 0) is
+
 -- what the constant holds
 module _ (table : List Row) (i : ℕ) (h : i < 59) where
   module _ (is : map (λ (r : Row). r.0.now) table ≡ map ascii names) where
@@ -39,15 +46,11 @@ module _ (table : List Row) (i : ℕ) (h : i < 59) where
 
   pub way_here : map (λ (r : Row). way_number r.1) table ≡ ways → (d : Row) → way_number (get_or table i d).1 ≡ get_or ways i 0
   unfolding ways
-  way_here is d =
-      let many : length table ≡ 59 = omega (arith, simp length-map at (ap length is)) in
-      sym (get_or-map (λ (r : Row). way_number r.1) table i d 0 (omega (arith, many))) ∙ ap (λ (l : List ℕ). get_or l i 0) is
+  way_here is d = column (λ (r : Row). way_number r.1) table is i h d
 
   pub offset_here : map (λ (r : Row). r.2) table ≡ offsets → (d : Row) → (get_or table i d).2 ≡ get_or offsets i 0
   unfolding offsets
-  offset_here is d =
-      let many : length table ≡ 59 = omega (arith, simp length-map at (ap length is)) in
-      sym (get_or-map (λ (r : Row). r.2) table i d 0 (omega (arith, many))) ∙ ap (λ (l : List ℕ). get_or l i 0) is
+  offset_here is d = column (λ (r : Row). r.2) table is i h d
 
 -- the rows of an identifier are rows
 bounds : ℕ → Bool

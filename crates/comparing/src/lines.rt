@@ -5,7 +5,7 @@ ghost use Rattle.differing.specs.Fields.{hex};
 ghost use Rattle.comparing.specs.Rows.{code_text, field_line, row_text, rows_text, fields_text, part_text};
 ghost use Rattle.comparing.specs.Lines.{place_text, id_text, kind_line};
 
-use crate::rows::{COUNTS, FIRSTS, PLACEDS, content, name};
+use crate::rows::{content, name, of_kind};
 use spelling::{put, put_decimal, put_hex, put_pin_or_dash};
 
 // One byte.
@@ -150,9 +150,10 @@ pub fn put_fields(
     requires { (at + length (fields_text one.now two.now a b id) + 68 ≤ length out.old) × (a ≤ 4096) × (b ≤ 4096) × (id < 15) }
     ensures { Put out.old at (fields_text one.now two.now a b id) result out.new }
 {
-    let placed = usize::from(PLACEDS[id]);
-    let first = usize::from(FIRSTS[id]);
-    let count = usize::from(COUNTS[id]);
+    let kind = of_kind(id);
+    let first = usize::from(kind.0);
+    let count = usize::from(kind.1);
+    let placed = usize::from(kind.2);
     let e = put_rows(out, at, one, two, a, b, 0, placed);
     put_rows(out, e, one, two, a, b, first, count)
 }

@@ -1,7 +1,7 @@
 // The fields of each kind as rows of a constant table: how a field stands in the bytes, its offset, its name.
 ghost use Rattle.std.specs.Prelude.{◌≡◌, ◌+◌, ◌<◌, ◌≤◌, length, get_or};
 ghost use Rattle.format.specs.Slots.{byte};
-ghost use Rattle.comparing.specs.Rows.{ways, offsets, way_number, reading, code_at, name_text};
+ghost use Rattle.comparing.specs.Rows.{ways, offsets, firsts, counts, placeds, way_number, reading, code_at, name_text};
 
 // How a field stands in the bytes at its offset.
 #[derive(Clone, Copy)]
@@ -21,6 +21,10 @@ pub enum Way {
 // A field: its name, how it stands in the bytes, and at which offset.
 #[derive(Clone, Copy)]
 struct Row(&'static str, Way, u8);
+
+// A kind's rows: the first of its own, how many they are, and how many it has before them.
+#[derive(Clone, Copy)]
+pub struct OfKind(pub u8, pub u8, pub u8);
 
 const ROWS: [Row; 59] = [
     Row("string index", Way::Byte, 3),
@@ -84,12 +88,31 @@ const ROWS: [Row; 59] = [
     Row("blue", Way::Pin, 10),
 ];
 
-// The first of a kind's own rows, how many they are, and how many rows it has before them.
-pub const FIRSTS: [u8; 15] = [0, 13, 21, 28, 34, 43, 28, 47, 50, 13, 13, 0, 0, 53, 56];
+const KINDS: [OfKind; 15] = [
+    OfKind(0, 0, 0),
+    OfKind(13, 8, 5),
+    OfKind(21, 7, 5),
+    OfKind(28, 6, 5),
+    OfKind(34, 9, 5),
+    OfKind(43, 4, 5),
+    OfKind(28, 6, 5),
+    OfKind(47, 3, 5),
+    OfKind(50, 3, 5),
+    OfKind(13, 2, 5),
+    OfKind(13, 2, 5),
+    OfKind(0, 0, 0),
+    OfKind(0, 0, 0),
+    OfKind(53, 3, 5),
+    OfKind(56, 3, 5),
+];
 
-pub const COUNTS: [u8; 15] = [0, 8, 7, 6, 9, 4, 6, 3, 3, 2, 2, 0, 0, 3, 3];
-
-pub const PLACEDS: [u8; 15] = [0, 5, 5, 5, 5, 5, 5, 5, 5, 5, 5, 0, 0, 5, 5];
+// The rows of a kind.
+pub fn of_kind(id: usize) -> OfKind
+    requires { id < 15 }
+    ensures { (result.0 ≡ get_or firsts id 0) × (result.1 ≡ get_or counts id 0) × (result.2 ≡ get_or placeds id 0) }
+{
+    KINDS[id]
+}
 
 // A row's name.
 pub fn name(i: usize) -> &'static str

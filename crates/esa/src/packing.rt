@@ -101,15 +101,9 @@ pub fn zoned(z: Result<Visit, Refusal>) -> u64
     ensures { result ≡ packed_zoned (told z) }
 {
     match z {
-        Ok(v) => pack(0, 2 * v.count + one_if(v.hit)),
+        Ok(v) => pack(0, 2 * v.count + usize::from(v.hit)),
         Err(refusal) => refused(refusal),
     }
-}
-
-fn one_if(found: bool) -> usize
-    ensures { (result ≡ one_if found) × (result ≤ 1) }
-{
-    if found { 1 } else { 0 }
 }
 
 // Of two tables: beside 0 the length of the text, beside a refusal its place and which table is refused.

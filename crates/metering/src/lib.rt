@@ -43,10 +43,7 @@ fn shortened(count: u64) -> u32
 fn at_zero(outcome: Result<Outcome, Rule>) -> Result<Outcome, Refusal>
     ensures { metered result ≡ metered_of outcome }
 {
-    match outcome {
-        Ok(read) => Ok(read),
-        Err(rule) => Err(rule.at(0)),
-    }
+    outcome.map_err(|rule| rule.at(0))
 }
 
 fn packed(read: Result<Outcome, Refusal>) -> u64

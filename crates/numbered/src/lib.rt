@@ -3,14 +3,14 @@
 
 ghost use Rattle.std.specs.Prelude.{◌≡◌, [], ◌∷◌, ◌++◌, ◌+◌, ◌<◌, ◌≤◌};
 ghost use Rattle.std.proofs.lemmas.List.Edits.{sets};
-ghost use Rattle.format.specs.Layout.{optional_byte};
 ghost use Rattle.format.specs.declared.records.Element.TheVariants.{Digital, Analogue, Fan, Led, Water, Voltage, Current, Controller};
 ghost use Rattle.format.specs.declared.records.Element.TheVariants.{External, Rgb};
 ghost use Rattle.words.specs.Widths.{two_bytes};
 ghost use Rattle.numbered.specs.Into.{padded, chip_number, placement_numbers, kind_of, address_of, lamp_numbers};
 ghost use Rattle.numbered.specs.Into.{element_into, description_into};
 
-use format::pins::{Chip, Pin};
+use elements::byte_of;
+use format::pins::Chip;
 use format::records::{
     Address, AnalogueSensor, BusDevice, CurrentSensor, Description, DigitalSensor, Element,
     ExternalRgb, Lamp, Placement, PwmFan, RgbLed, StatusLed, VoltageSensor, WaterLevel,
@@ -243,16 +243,6 @@ fn address(a: Address) -> u8
     match a {
         Address::Bus(n) => n,
         Address::Select(p) => p.0,
-    }
-}
-
-// FFh of an unused place.
-fn byte_of(p: Option<Pin>) -> u8
-    ensures { result ≡ optional_byte p }
-{
-    match p {
-        None => 255,
-        Some(q) => q.0,
     }
 }
 

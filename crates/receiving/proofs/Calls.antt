@@ -47,13 +47,7 @@ begun σ n first head s f zp sp =
       quiet = rw s.numbers (λ z. absurd (omega arith));
     }
 
--- the shorter of a piece and the room
-pub shorter_one : (a b : ℕ) → b < a → (b ≤ a) × (b ≤ b) × (b < b → b ≡ a)
-shorter_one a b h = (omega arith, omega arith, λ k. absurd (omega arith))
-
-pub shorter_other : (a b : ℕ) → a ≤ b → (a ≤ a) × (a ≤ b) × (a < b → a ≡ a)
-shorter_other a b h = (omega arith, h, λ _. refl)
-
+-- a piece cut to the room
 pub cut_to : (p : List ℕ) (room end : ℕ) → end ≤ room → (end < room → end ≡ length p) → take (end - 0) p ≡ take room p
 cut_to p room end h f = go (ltb end room) refl
   where

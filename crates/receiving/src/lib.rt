@@ -106,12 +106,6 @@ fn receive(
     states::put(n, 0, code, total, way);
 }
 
-fn shorter(a: usize, b: usize) -> usize
-    ensures { (result ≤ a) × (result ≤ b) × (result < b → result ≡ a) }
-{
-    if b < a { b } else { a }
-}
-
 // A piece of any number of bytes; 20 after the end. More than 4,096 bytes are no table, and those past the 4,097th are skipped.
 pub fn piece(
     n: &mut [usize; 16],
@@ -147,7 +141,7 @@ pub fn piece(
     if p.len() == 0 {
         return Ok(());
     }
-    let end = shorter(p.len(), 4097 - count);
+    let end = p.len().min(4097 - count);
     // A pass that is stopped stays so, and the bytes are only counted.
     if (16 < count) & (n[3] != 0) {
         n[2] = count + end;

@@ -12,7 +12,6 @@ ghost use Rattle.format.specs.Claims.{made_at, claims_of};
 ghost use Rattle.format.specs.Decode.{read_description};
 ghost use Rattle.format.specs.Verdict.{Verdict};
 ghost use Rattle.format.specs.Answers.{Gives as Accepted};
-ghost use Rattle.shown.specs.Own.{three as threeOf};
 ghost use Rattle.walking.specs.Walk.{Here};
 ghost use Rattle.pinsheet.specs.Sheet.{blank, entered, sheet as sheetOf, forward as forwardOf};
 ghost use Rattle.sheets.specs.Lines.{read, line_from, Lines, Filled, Leaves};
@@ -22,7 +21,7 @@ use elements::id_of;
 use format::answers::Refusal;
 use format::pins::Chip;
 use format::settings::Settings;
-use shown::{OwnPins, shown};
+use shown::{OwnPins, own, shown};
 use walking::{Places, element_at, part_at, place_of};
 
 // The sheet of a table, made afresh; with a refusal, the table's, the old one is kept.
@@ -63,7 +62,7 @@ fn bring(t: &[u8], n: usize, s: &mut [u16; 25], settings: Settings)
     ensures { Filled settings t.now (λ d rs. forwardOf rs (read s.old)) s.new }
 {
     if n == 0 {
-        enter(s, three(255, 255, 255), 0);
+        enter(s, own(255, 255, 255), 0);
         return;
     }
     let chip = settings.chip;
@@ -76,7 +75,7 @@ fn first(t: &[u8], s: &mut [u16; 25], chip: Chip)
     ensures { Lines (sheetOf (read_description chip (byte t.now)) []) s.new }
 {
     clear(s);
-    enter(s, three(t[9], t[10], t[11]), 0);
+    enter(s, own(t[9], t[10], t[11]), 0);
 }
 
 // All pins free but P1.0.
@@ -95,9 +94,9 @@ fn enter_element(t: &[u8], at: usize, s: &mut [u16; 25], chip: Chip)
 {
     let e = element_at(t, at, chip);
     let w = shown(e, part_at(t, at));
-    let own = w.pins;
-    enter(s, shared_pins(id_of(e), own.one), at as u16);
-    enter(s, own, at as u16);
+    let pins = w.pins;
+    enter(s, shared_pins(id_of(e), pins.one), at as u16);
+    enter(s, pins, at as u16);
 }
 
 // Its shared pins, by its identifier; those of a device on a bus by whether it has a chip select.
@@ -108,9 +107,9 @@ fn shared_pins(id: u8, select: u8) -> OwnPins
         return bus_pins(select);
     }
     if (id == 2) | (id == 5) | (id == 7) | (id == 8) {
-        return three(7, 255, 255);
+        return own(7, 255, 255);
     }
-    three(255, 255, 255)
+    own(255, 255, 255)
 }
 
 // SPI has P0.0 to P0.2, and any other bus P0.3 and P0.4.
@@ -118,16 +117,10 @@ fn bus_pins(select: u8) -> OwnPins
     ensures { result ≡ bus_pins select }
 {
     if select == 255 {
-        three(3, 4, 255)
+        own(3, 4, 255)
     } else {
-        three(0, 1, 2)
+        own(0, 1, 2)
     }
-}
-
-fn three(one: u8, two: u8, three: u8) -> OwnPins
-    ensures { result ≡ threeOf one two three }
-{
-    OwnPins { one, two, three }
 }
 
 // The free ones of three pins are this place's.

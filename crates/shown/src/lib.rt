@@ -127,7 +127,8 @@ fn select_of(a: Address) -> u8
     }
 }
 
-fn own(one: u8, two: u8, three: u8) -> OwnPins
+// Three pins in field order.
+pub fn own(one: u8, two: u8, three: u8) -> OwnPins
     ensures { result ≡ threeOf one two three }
 {
     OwnPins { one, two, three }

@@ -169,12 +169,6 @@ fn put(n: &mut [usize; 16], count: usize, u: Under, quiet: usize)
     n[15] = quiet;
 }
 
-fn lesser(a: usize, b: usize) -> usize
-    ensures { (result ≤ a) × (result ≤ b) }
-{
-    if b < a { b } else { a }
-}
-
 // The next byte of the element that may decide something, by its kind: in a text one after a unit that was bad or opened a pair, of
 // blocks the next ENTRIES byte.
 fn next_of(id: u8, u: Under) -> usize
@@ -208,11 +202,11 @@ fn quiet_to(head: &[u8; 30], u: Under, count: usize) -> usize
     if told <= u.len {
         return 0;
     }
-    let end = lesser(told - 1, next_of(head[0], u));
+    let end = (told - 1).min(next_of(head[0], u));
     if end <= u.len {
         return 0;
     }
-    lesser(count + (end - u.len), 4097)
+    (count + (end - u.len)).min(4097)
 }
 
 // No upper byte of a surrogate.

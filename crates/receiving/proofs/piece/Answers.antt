@@ -50,13 +50,13 @@ returns-then-p-eq0 c = piece_none _ _ c.if-n-ne0.false c.if-p-eq0.true
 pub returns-then-count-n : goal.returns-then-count-n
 returns-then-count-n c =
     let p = c.args.p.now in
-    let end = c.shorter-end.result in
-    let h = c.shorter-end.ensures in
+    let end = c.min-end.result in
+    let h = c.min-end.ensures in
     let t = stopped_test _ _ c.if-count-n.true in
-    piece_goes _ p c.if-n-ne0.false (take (end - 0) p) _ c.if-count-gt4096.false c.if-p-eq0.false (cut_to p _ end h.1 h.2)
+    piece_goes _ p c.if-n-ne0.false (take (end - 0) p) _ c.if-count-gt4096.false c.if-p-eq0.false (cut_to p (4097 - number c.args.n.now 2) end (omega (arith, h)) (λ k. omega (arith, h, k)))
     (λ i. omega (arith, c.type_inv.p i))
-    (grows_stopped _ _ _ _ _ _ (take (end - 0) p) t.1 (omega (arith, length-take-le (end - 0) p (omega (arith, h.0)))) c.if-n-ne0.false
-    t.0 (short_take end p _ h.1 c.if-count-gt4096.false))
+    (grows_stopped _ _ _ _ _ _ (take (end - 0) p) t.1 (omega (arith, length-take-le (end - 0) p (omega (arith, h)))) c.if-n-ne0.false
+    t.0 (short_take end p (number c.args.n.now 2) (omega (arith, h)) c.if-count-gt4096.false))
 
 pub byte-requires : goal.byte-requires
 byte-requires c =
@@ -91,5 +91,5 @@ returns-then-p-count-2 c =
 pub returns : goal.returns
 returns c =
     piece_goes _ c.args.p.now c.if-n-ne0.false _ _ c.if-count-gt4096.false c.if-p-eq0.false
-    (cut_to c.args.p.now _ _ c.shorter-end.ensures.1 c.shorter-end.ensures.2)
+    (cut_to c.args.p.now (4097 - number c.args.n.now 2) c.min-end.result (omega (arith, c.min-end.ensures)) (λ k. omega (arith, c.min-end.ensures, k)))
     (λ i. omega (arith, c.type_inv.p i)) c.receive-2.ensures

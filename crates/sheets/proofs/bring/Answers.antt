@@ -6,7 +6,7 @@ use Rattle.sheets.proofs.bring.Goals as goal
 
 pub returns-then-n-eq0 : goal.returns-then-n-eq0
 returns-then-n-eq0 c =
-    stays _ _ c.args.s.now _ c.requires.1 c.if-n-eq0.true c.three.ensures c.enter.ensures
+    stays _ _ c.args.s.now _ c.requires.1 c.if-n-eq0.true c.own.ensures c.enter.ensures
 
 pub place_of-requires : goal.place_of-requires
 place_of-requires c = (_, _, c.requires.1, omega (arith, c.if-n-eq0.false))

@@ -5,4 +5,4 @@ use Rattle.sheets.proofs.first.Goals as goal
 
 pub returns : goal.returns
 returns c =
-    first_lines c.args.chip c.args.t.now _ _ c.three.ensures c.clear.ensures c.enter.ensures
+    first_lines c.args.chip c.args.t.now _ _ c.own.ensures c.clear.ensures c.enter.ensures

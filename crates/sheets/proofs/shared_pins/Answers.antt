@@ -6,7 +6,7 @@ pub returns-then-id : goal.returns-then-id
 returns-then-id c = rw c.if-id.true c.bus_pins.ensures
 
 pub returns-then-id-2 : goal.returns-then-id-2
-returns-then-id-2 c = rw (c.if-id.false, c.if-id-2.true) c.three.ensures
+returns-then-id-2 c = rw (c.if-id.false, c.if-id-2.true) c.own.ensures
 
 pub returns : goal.returns
-returns c = rw (c.if-id.false, c.if-id-2.false) c.three-2.ensures
+returns c = rw (c.if-id.false, c.if-id-2.false) c.own-2.ensures

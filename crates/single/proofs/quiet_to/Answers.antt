@@ -17,6 +17,6 @@ returns-then-end-u c = quiet_none _ _ _
 pub returns : goal.returns
 returns c =
     let told = c.if-told-u.false in
-    let end = c.lesser-end.ensures in
+    let end = c.min-end.ensures in
     quiet_some _ _ _ c.if-u-lt3.false c.from.ensures c.from-2.ensures refl c.next_of.ensures
-    (omega (arith, told, end.0)) end.1 c.if-end-u.false c.lesser.ensures.0 c.lesser.ensures.1
+    (omega (arith, told, end)) (omega (arith, end)) c.if-end-u.false (omega (arith, c.min.ensures)) (omega (arith, c.min.ensures))
