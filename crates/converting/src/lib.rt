@@ -32,7 +32,8 @@ pub enum Outcome {
     Over,
 }
 
-pub fn told(answer: Result<Converted, Rule>) -> Result<Outcome, Rule>
+// A refusal, of whatever type, is handed on as it is.
+pub fn told<E>(answer: Result<Converted, E>) -> Result<Outcome, E>
     ensures { result ≡ outcome_of answer }
 {
     Ok(match answer? {

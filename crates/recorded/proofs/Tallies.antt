@@ -93,7 +93,7 @@ zeros zero i = refl
 zeros (suc n) zero = refl
 zeros (suc n) (suc i) = zeros n i
 
-none_yet : (k : ℕ) → tally_at (replicate 480 0) k ≡ tally_of []
+none_yet : (k : ℕ) → tally_at (replicate 480 0) k ≡ tally_of {E = Rule} []
 unfolding tally_at
 none_yet k =
     let at : (i : ℕ) → get_or {A = ℕ} (replicate 480 0) i 0 ≡ 0 = zeros 480 in

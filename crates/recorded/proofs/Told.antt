@@ -8,7 +8,7 @@ use lib.ListN.{replicate}
 use borrow.Author.Tests.{ne_eqb}
 use Rattle.parsing.specs.Scanning.{begin, step, scanned, read}
 use Rattle.parsing.specs.declared.Scan.{Scan}
-use Rattle.answering.specs.Text.{answer_text, tally_text}
+use Rattle.answering.specs.Text.{by_number, answer_text, tally_text}
 use Rattle.tallying.specs.Tallies.{tally_of}
 use Rattle.tallying.specs.declared.Tally.{Tally}
 use Rattle.gauges.specs.Numbers.{tally_at}
@@ -39,7 +39,7 @@ module _ (sensors : List ℕ) (elements : ℕ) where
       let q = asked_of elements (later n) (read l) in
       ap (λ (r : Run). r.tallies) (over_append sensors elements (run n begin ts t) l (10 ∷ fed ls))
       ∙ ap (λ (r : Run). (over sensors elements r (10 ∷ fed ls)).tallies) (inside_line n begin ts t l h.0)
-      ∙ after_lines ls (later n) (tallied sensors ts q) (t ++ answer_text (outcome_at sensors q) (later n)) h.1
+      ∙ after_lines ls (later n) (tallied sensors ts q) (t ++ answer_text (by_number (outcome_at sensors q)) (later n)) h.1
 
   -- a line of tallies for each element
   each_row :
