@@ -32,9 +32,12 @@ pub record Finding : Type 0 where
   pub claims : Claims
   pub fans : Optional Fans
 
+abbrev pub finding_by : {E : Type 0} → (E → ℕ) → Result Found E → Finding
+finding_by number (Ok f) = record { fault = 0; claims = f.claims; fans = f.fans }
+finding_by number (Err e) = record { fault = number e; claims = record { alone = 0; joint = 0; twice = 0 }; fans = None }
+
 abbrev pub finding : Result Found Rule → Finding
-finding (Ok f) = record { fault = 0; claims = f.claims; fans = f.fans }
-finding (Err r) = record { fault = rule_number r; claims = record { alone = 0; joint = 0; twice = 0 }; fans = None }
+finding = finding_by rule_number
 
 -- what is found where the rules of the element alone are judged, and what it claims and counts is known
 pub record Together (kept : Result (Unit {0}) Rule) (claims : Claims) (fans : Optional Fans) (r : Finding) : Type 0 where

@@ -1,2 +1,3 @@
+pub mod Stopping
 pub mod Steps
 pub mod Tracks

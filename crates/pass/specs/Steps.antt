@@ -12,9 +12,17 @@ pub record Step : Type 0 where
   pub stop : ℕ
   pub state : State
 
+-- the number of what stops, or 0
+abbrev pub fault_by : {A E : Type 0} → (E → ℕ) → Result A E → ℕ
+fault_by number (Ok a) = 0
+fault_by number (Err e) = number e
+
+abbrev pub stepped_by : {E : Type 0} → (E → ℕ) → State → Result State E → Step
+stepped_by number s (Ok t) = record { stop = 0; state = t }
+stepped_by number s (Err e) = record { stop = number e; state = s }
+
 abbrev pub stepped : State → Result State Rule → Step
-stepped s (Ok t) = record { stop = 0; state = t }
-stepped s (Err r) = record { stop = rule_number r; state = s }
+stepped = stepped_by rule_number
 
 -- a step, and the length of what was stepped over
 pub record Moved : Type 0 where

@@ -10,10 +10,13 @@ ghost use Rattle.format.specs.FanList.{comes_after, last_pin};
 ghost use Rattle.rules.specs.Broken.{or_else};
 ghost use Rattle.found.specs.Judged.{FansAre};
 ghost use Rattle.format.specs.Answers.{fault_of};
-ghost use Rattle.found.specs.Judged.{finding};
-ghost use Rattle.pass.specs.Steps.{stepped, moved, over};
+ghost use Rattle.found.specs.Judged.{finding_by};
+ghost use Rattle.pass.specs.Steps.{fault_by, stepped, stepped_by, moved, over};
 ghost use Rattle.pass.specs.Tracks.{flags, flags_of, Same, Low, Room, StepIs, TextJudged, PlacedStep, TakeIs, MoveIs, WalkIs};
 
+pub mod stops;
+
+use crate::stops::Stops;
 use claims::Held;
 use format::answers::Rule;
 use format::settings::Settings;
@@ -86,19 +89,19 @@ fn zone_step(b: &[u8], s: State, zs: &mut [bool; 256], su: &mut [bool; 256]) -> 
 }
 
 // 0Ch, of which 8 and 9 are known, with 12 against those before
-pub fn text_judged(
-    own: Result<(), Rule>,
+pub fn text_judged<E: Stops>(
+    own: Result<(), E>,
     number: u8,
     s: State,
     ss: &mut [bool; 256],
-) -> Result<State, Rule>
+) -> Result<State, E>
     requires { Room s }
-    ensures { TextJudged (fault_of own) number s ss.old (stepped s result) ss.new }
+    ensures { TextJudged (fault_by E.number_of own) number s ss.old (stepped_by E.number_of s result) ss.new }
 {
     own?;
     let t = usize::from(number);
     if ss[t] {
-        return Err(Rule::Twice);
+        return Err(E::by(Rule::Twice));
     }
     ss[t] = true;
     let held = s.held;
@@ -150,22 +153,23 @@ fn last_of(fans: Option<Fans>, last: usize) -> usize
     }
 }
 
-// An element that stands in a zone: the rule that it breaks, or what it leaves.
-pub fn placed_step(
-    found: Result<Found, Rule>,
+// An element that stands in a zone: its fault, or what it leaves.
+pub fn placed_step<E: Stops>(
+    found: Result<Found, E>,
     b: &[u8],
     at: usize,
     s: State,
     zu: &mut [bool; 256],
     su: &mut [bool; 256],
-) -> Result<State, Rule>
-    requires { Room s × (at < 65536) × ((finding found).fault ≡ 0 → 5 ≤ length b.now) }
-    ensures { PlacedStep (finding found) b.now at s zu.old su.old (stepped s result) zu.new su.new }
+) -> Result<State, E>
+    requires { Room s × (at < 65536) × ((finding_by E.number_of found).fault ≡ 0 → 5 ≤ length b.now) }
+    ensures { PlacedStep (finding_by E.number_of found) b.now at s zu.old su.old
+        (stepped_by E.number_of s result) zu.new su.new }
 {
     let f = found?;
     let fans = f.fans;
     if !follows(fans, s.last) {
-        return Err(Rule::Pin);
+        return Err(E::by(Rule::Pin));
     }
     let z = usize::from(b[4]);
     zu[z] = true;
