@@ -1,7 +1,5 @@
 -- One element more in the two arrays, by its fate; and what an entry at a position stands for.
 -- Assumes nothing.
-use Rattle.format.specs.Answers.{rule_number}
-use Rattle.format.specs.declared.answers.Rule.{Rule}
 use Prim.Native.Nat.{ℕ, zero, suc, ◌+◌, ◌<◌}
 use native.Mathlib.Omega.{arith}
 use native.Mathlib.Numerals.{add-one}
@@ -124,23 +122,24 @@ module _ (kept : List Kept) (log : List Note) (n m : Counts) (held : Kept) (few 
         go c t s p saving.unseen h w = absurd w
 
     pub leaves_settles :
-        (fate : Fate) (q : Rule) (j : ℕ)
-        → fate ≡ Leaves q
-        → j ≡ rule_number q
+        (fate : Fate) (j v : ℕ)
+        → fate ≡ Leaves j
+        → v ≡ j
         → j < 256
         → m.kept ≡ n.kept
         → m.lines ≡ n.lines + 1
-        → Settles kept log n held fate m kept (set log n.lines (leaving held.place j))
-    leaves_settles fate q j is number small e f = rw is (record { more_kept = omega (arith, e); more_lines = omega (arith, f); settles = go })
+        → Settles kept log n held fate m kept (set log n.lines (leaving held.place v))
+    leaves_settles fate j v is number small e f = rw is (record { more_kept = omega (arith, e); more_lines = omega (arith, f); settles = go })
       where
         go :
             (c : Chip) (t : List ℕ) (s : Saved) (p : ℕ) (g : saving.Fate)
             → Notes c t kept log n s
-            → Tells c t held p (Leaves q) g
-            → Notes c t kept (set log n.lines (leaving held.place j)) m (settled s p g)
+            → Tells c t held p (Leaves j) g
+            → Notes c t kept (set log n.lines (leaving held.place v)) m (settled s p g)
         go c t s p (saving.stays r) h w = absurd w
         go c t s p (saving.leaves k) h w =
-            noted_line c t kept log n s h (leaving held.place j) (line p k left_out) m fit e f (left_code held k j p low small (number ∙ w.0) w.1)
+            noted_line c t kept log n s h (leaving held.place v) (line p k left_out) m fit e f
+            (left_code held k v p low (omega (arith, number, small)) (number ∙ w.0) w.1)
         go c t s p (saving.mends r) h w = absurd w
         go c t s p saving.unseen h w = absurd w
 

@@ -1,6 +1,5 @@
 -- What the entries of the two arrays stand for.
 -- Assumes nothing.
-use Rattle.format.specs.Answers.{rule_number}
 use Rattle.std.specs.Prelude.{ℕ, ◌+◌, ◌<◌, ◌≤◌, ◌≡◌, Bool, true, cond, List, [], ◌∷◌, length, take}
 use Rattle.std.proofs.Math.Option.{none}
 use Rattle.format.specs.Records.{Record}
@@ -43,7 +42,7 @@ pub record Codes (n : Note) (l : Line) : Type 0 where
   pub place : n.place ≡ l.place
   pub low : l.place < 4096
   pub number : n.number ≡ l.number
-  pub small : l.number < 256
+  pub small : l.number < 512
   pub change : change_of n.cleared ≡ l.change
 
 -- both arrays, with so many entries in use, hold what is saved so far of the bytes
@@ -62,7 +61,7 @@ Tells c t held p Stays (saving.leaves k) = ⊥
 Tells c t held p Stays (saving.mends r) = ⊥
 Tells c t held p Stays saving.unseen = ⊥
 Tells c t held p (Leaves j) (saving.stays r) = ⊥
-Tells c t held p (Leaves j) (saving.leaves k) = (rule_number j ≡ k) × (held.place ≡ p)
+Tells c t held p (Leaves j) (saving.leaves k) = (j ≡ k) × (held.place ≡ p)
 Tells c t held p (Leaves j) (saving.mends r) = ⊥
 Tells c t held p (Leaves j) saving.unseen = ⊥
 Tells c t held p Mends (saving.stays r) = ⊥

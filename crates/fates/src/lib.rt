@@ -4,13 +4,11 @@
 ghost use Rattle.std.specs.Prelude.{◌≡◌, ◌<◌};
 ghost use Rattle.fates.specs.Noted.{Settles};
 
-use format::answers::Rule;
-
-// It stays; it is left out by a rule; its string index is cleared.
+// It stays; it is left out by the rule of a number; its string index is cleared.
 #[derive(Clone, Copy)]
 pub enum Fate {
     Stays,
-    Leaves(Rule),
+    Leaves(u8),
     Mends,
 }
 
@@ -21,11 +19,12 @@ pub struct Kept {
     pub cleared: bool,
 }
 
-// A change: the old place of an element, the number of the rule, and whether its string index is cleared; else it is left out.
+// A change: the old place of an element, the number of the rule, and whether its string index is cleared; else it is left out. The
+// number is a u16, since the lines that a log may stand for have numbers up to 511.
 #[derive(Clone, Copy)]
 pub struct Note {
     pub place: u16,
-    pub number: u8,
+    pub number: u16,
     pub cleared: bool,
 }
 
@@ -55,11 +54,10 @@ pub fn settle(
             kept[i] = held;
             counted(i + 1, j)
         }
-        Fate::Leaves(rule) => {
-            let number = rule.number();
+        Fate::Leaves(number) => {
             log[j] = Note {
                 place,
-                number,
+                number: u16::from(number),
                 cleared: false,
             };
             counted(i, j + 1)

@@ -33,4 +33,4 @@ pub record Scanned (c : Chip) (t : List ℕ) (kept : List Kept) (log : List Note
 -- 0 keeps, any other number leaves out
 pub record FateOf (stop : ℕ) (f : Fate) : Type 0 where
   pub good : stop ≡ 0 → f ≡ Stays
-  pub bad : (stop ≡ 0 → ⊥) → (r : Rule) × (f ≡ Leaves r) × (rule_number r ≡ stop)
+  pub bad : (stop ≡ 0 → ⊥) → (r : Rule) × (f ≡ Leaves (rule_number r)) × (rule_number r ≡ stop)

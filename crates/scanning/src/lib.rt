@@ -88,7 +88,7 @@ fn fate_of(stop: Option<Rule>) -> Fate
 {
     match stop {
         None => Fate::Stays,
-        Some(rule) => Fate::Leaves(rule),
+        Some(rule) => Fate::Leaves(rule.number()),
     }
 }
 

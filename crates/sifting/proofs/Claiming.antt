@@ -1,6 +1,5 @@
 -- 15: an element's claims after those of the kept ones, places aside.
 -- Assumes nothing.
-use Rattle.format.specs.declared.answers.Rule.TheVariants.{Clash}
 use Prim.Native.Nat.{ℕ}
 use native.Mathlib.Omega.{arith}
 use mathlib.Core.Path.{◌≡◌, refl, sym, ◌∙◌, ap, subst}
@@ -109,7 +108,7 @@ module _ (c : Chip) (t : List ℕ) (n : Kept) (k : At Record) (h : Keeps c t n k
 
     pub claim_leaves :
         (next.clash ≡ 65536 → ⊥)
-        → Tells c t n k.place (Leaves Clash) (by_claim d kept k.what) × Claimed d (afterwards kept (by_claim d kept k.what)) held
+        → Tells c t n k.place (Leaves 15) (by_claim d kept k.what) × Claimed d (afterwards kept (by_claim d kept k.what)) held
     claim_leaves e =
         let q : saving.is_none (contested d (kept ++ k.what ∷ [])) ≡ false = sym test ∙ ne_eqb next.clash 65536 e in
         rw q ((refl, h.place), w)

@@ -1,6 +1,5 @@
 -- What the bytes at the old place tell of an element that is kept: 13 and 14.
 -- Assumes nothing.
-use Rattle.format.specs.declared.answers.Rule.TheVariants.{NoZone}
 use Prim.Native.Nat.{ℕ}
 use mathlib.Core.Path.{◌≡◌, refl, sym, ◌∙◌, ap}
 use mathlib.Core.Bool.{Bool, true, false, cond}
@@ -64,7 +63,7 @@ module _ (c : Chip) (t : List ℕ) (n : Kept) (k : At Record) (h : Keeps c t n k
 
   pub zone_leaves :
       (ns : List ℕ) (kept : List Record) (m : Bool) → m ≡ all_among (zone_named (role h.r)) ns → m ≡ false → Tells c t n k.place
-      (Leaves NoZone) (by_zone ns kept k.what)
+      (Leaves 13) (by_zone ns kept k.what)
   zone_leaves ns kept m e z =
       let q : all_among (zone_named (role k.what)) ns ≡ false = ap (λ f. f ns) zone_same ∙ sym e ∙ z in
       rw q (refl, h.place)

@@ -90,7 +90,7 @@ fn by_zone(t: &[u8], kept: Kept, declared: &[bool; 256], chip: Chip) -> Fate
     if marked(t, usize::from(kept.place), declared, true) {
         Fate::Stays
     } else {
-        Fate::Leaves(Rule::NoZone)
+        Fate::Leaves(Rule::NoZone.number())
     }
 }
 
@@ -120,6 +120,6 @@ fn by_claim(t: &[u8], kept: Kept, held: Held, chip: Chip) -> Judged
     if next.clash == 65536 {
         fated(Fate::Stays, next)
     } else {
-        fated(Fate::Leaves(Rule::Clash), held)
+        fated(Fate::Leaves(Rule::Clash.number()), held)
     }
 }

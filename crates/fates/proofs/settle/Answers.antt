@@ -11,7 +11,7 @@ returns-in-Stays c =
 
 pub returns-in-Leaves : goal.returns-in-Leaves
 returns-in-Leaves c =
-    leaves_settles _ _ _ _ _ c.requires.0 c.requires.1 c.requires.2 _ _ _ c.in-Leaves.is c.number-number.ensures (omega arith)
+    leaves_settles _ _ _ _ _ c.requires.0 c.requires.1 c.requires.2 _ _ _ c.in-Leaves.is c.from.ensures (omega arith)
     c.counted-in-Leaves.ensures.0 c.counted-in-Leaves.ensures.1
 
 pub returns-in-Mends : goal.returns-in-Mends

@@ -11,4 +11,4 @@ returns-in-None c = rw c.in-None.is (record { good = λ _. refl; bad = λ n. abs
 pub returns-in-Some : goal.returns-in-Some
 returns-in-Some c =
     let above = rule_above c.in-Some.rule in
-    rw c.in-Some.is (record { good = λ n. absurd (omega (arith, above, n)); bad = λ _. (c.in-Some.rule, refl, refl) })
+    rw (c.in-Some.is, c.number.ensures) (record { good = λ n. absurd (omega (arith, above, n)); bad = λ _. (c.in-Some.rule, refl, refl) })

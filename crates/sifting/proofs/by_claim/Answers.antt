@@ -23,4 +23,5 @@ returns-else-next-eq65536 c =
     let cs = claims_there _ _ _ _ keeps d kept _ w _ _ (c.element_at-e.ensures keeps.r (rw c.from-at.ensures (here_there _ _ _ _ keeps)))
     c.claims_of.ensures in
     let is = c.claim-next.ensures w.made (claims_of k.what) (omega (arith, c.requires.1)) w.held cs in
-    rw (c.fated-else-next-eq65536.ensures.0, c.fated-else-next-eq65536.ensures.1) (claim_leaves _ _ _ _ keeps d kept _ w _ _ is c.if-next-eq65536.false)
+    rw (c.fated-else-next-eq65536.ensures.0, c.fated-else-next-eq65536.ensures.1, c.number.ensures)
+    (claim_leaves _ _ _ _ keeps d kept _ w _ _ is c.if-next-eq65536.false)

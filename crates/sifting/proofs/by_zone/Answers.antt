@@ -15,4 +15,5 @@ returns-then-marked c =
 pub returns-else-marked : goal.returns-else-marked
 returns-else-marked c =
     λ ns kept k keeps marks.
-    zone_leaves _ _ _ _ keeps ns kept _ (c.marked.ensures (role keeps.r) ns (rw c.from.ensures (role_there _ _ _ _ keeps)) marks) c.if-marked.false
+    rw c.number.ensures
+    (zone_leaves _ _ _ _ keeps ns kept _ (c.marked.ensures (role keeps.r) ns (rw c.from.ensures (role_there _ _ _ _ keeps)) marks) c.if-marked.false)
