@@ -25,7 +25,7 @@ fn answer(rt: &(impl Input + Print), zone: u8, settings: Settings) -> io::Result
     let n = read_input(rt, &mut input)?;
     match fans::in_zone(&input[..n], zone, settings) {
         Ok(v) => show(rt, v),
-        Err(refusal) => refuse(rt, refusal),
+        Err(refusal) => refuse(rt, refusal.rule.number(), refusal.place),
     }
 }
 

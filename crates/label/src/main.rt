@@ -24,7 +24,7 @@ fn put_source(rt: &impl Print, source: Result<Source, Refusal>) -> io::Result<()
     match source {
         Ok(Source::Text(_, _)) => put(rt, b"text\n"),
         Ok(Source::Lent) => put(rt, b"name\n"),
-        Err(refusal) => refuse(rt, refusal),
+        Err(refusal) => refuse(rt, refusal.rule.number(), refusal.place),
     }
 }
 

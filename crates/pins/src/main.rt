@@ -22,7 +22,7 @@ fn pins(rt: &(impl Input + Print), settings: Settings) -> io::Result<()> {
     let mut sheet = [65535u16; 25];
     match sheets::make(&input[..n], &mut sheet, settings) {
         Ok(_) => show(rt, &sheet, settings),
-        Err(refusal) => refuse(rt, refusal),
+        Err(refusal) => refuse(rt, refusal.rule.number(), refusal.place),
     }
 }
 

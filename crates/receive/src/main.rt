@@ -7,7 +7,7 @@ ghost use Rattle.std.specs.Prelude.{◌≡◌, ◌≤◌, length, IfOk, IfSome};
 
 use format::settings::Settings;
 use options::Chosen;
-use sending::read_full;
+use sending::{read_full, refuse};
 use std::io;
 use std::io::Read;
 use std::rt::Env;
@@ -70,7 +70,7 @@ fn answer(rt: &(impl Input + Print), size: usize, settings: Settings) -> io::Res
     }
     match receiving::end(&mut n, &first, &zs, &ss, &zu, &su, &zp, &sp) {
         Ok(k) => accept(rt, k),
-        Err(stop) => println!(rt; "R\t{}\t{}", stop.number, stop.place),
+        Err(stop) => refuse(rt, stop.number, stop.place),
     }
 }
 

@@ -22,7 +22,7 @@ fn answer(
             send(rt, lengths.table, out)?;
             send(errors, lengths.lines, lines)
         }
-        Err(refusal) => refuse(rt, refusal),
+        Err(refusal) => refuse(rt, refusal.rule.number(), refusal.place),
     }
 }
 

@@ -13,10 +13,16 @@ use std::{fmt, io};
 #[derive(Clone, Copy)]
 pub struct Hex<'a>(pub &'a [u8]);
 
+static DIGITS: [&str; 16] = [
+    "0", "1", "2", "3", "4", "5", "6", "7", "8", "9", "A", "B", "C", "D", "E", "F",
+];
+
+// By digits that stand ready: the library's `{:02X}` takes four times as long a byte (docs/LOOK-BACK.md).
 impl fmt::Display for Hex<'_> {
     fn fmt<W: fmt::Write>(&self, f: &mut fmt::Formatter<W>) -> fmt::Result {
         for b in self.0 {
-            write!(f, "{b:02X}")?;
+            f.write_str(DIGITS[usize::from(b / 16)])?;
+            f.write_str(DIGITS[usize::from(b % 16)])?;
         }
         Ok(())
     }
@@ -71,14 +77,14 @@ pub fn send(rt: &impl Print, n: usize, out: &[u8]) -> io::Result<()> {
 }
 
 // R, number, place.
-pub fn refuse(rt: &impl Print, refusal: Refusal) -> io::Result<()> {
-    println!(rt; "R\t{}\t{}", refusal.rule.number(), refusal.place)
+pub fn refuse(rt: &impl Print, number: u8, place: usize) -> io::Result<()> {
+    println!(rt; "R\t{number}\t{place}")
 }
 
 // What is written, which stands at the front of a buffer, or the refusal.
 pub fn answer(rt: &impl Print, written: Result<usize, Refusal>, out: &[u8]) -> io::Result<()> {
     match written {
         Ok(n) => send(rt, n, out),
-        Err(refusal) => refuse(rt, refusal),
+        Err(refusal) => refuse(rt, refusal.rule.number(), refusal.place),
     }
 }
