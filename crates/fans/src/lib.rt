@@ -27,7 +27,10 @@ pub struct Visit {
 pub fn in_zone(table: &[u8], zone: u8, settings: Settings) -> Result<Visit, Refusal>
     ensures { Zones settings table.now zone (told result) }
 {
-    reader::check(table, settings)?;
+    let answer = reader::check(table, settings);
+    let Ok(_) = answer else {
+        return Err(answer.unwrap_err());
+    };
     Ok(seek(table, zone))
 }
 

@@ -43,7 +43,10 @@ pub fn label<'a>(table: &'a [u8], k: usize, name: &'a [u8], settings: Settings) 
 pub fn find(table: &[u8], k: usize, settings: Settings) -> Result<Source, Refusal>
     ensures { Found settings table.now k (sourced result) }
 {
-    let n = reader::check(table, settings)?;
+    let answer = reader::check(table, settings);
+    let Ok(n) = answer else {
+        return Err(answer.unwrap_err());
+    };
     if n <= k {
         return Err(Rule::PastTheLast.at(0));
     }

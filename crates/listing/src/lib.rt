@@ -21,9 +21,11 @@ use walking::{Places, element_at, part_at};
 pub fn list(table: &[u8], out: &mut [u8; 4096], settings: Settings) -> usize
     ensures { Listed settings table.now out.old result out.new }
 {
-    if let Err(refusal) = reader::check(table, settings) {
+    let answer = reader::check(table, settings);
+    let Ok(_) = answer else {
+        let refusal = answer.unwrap_err();
         return put_refused(out, refusal.rule.number(), refusal.place);
-    }
+    };
     let chip = settings.chip;
     let mut end = put_table(out, table.len(), fields::description(table, chip));
     for at in Places::of(table) {

@@ -1,11 +1,12 @@
--- The place of element k's part: it is behind its fixed fields, within the table, and there is no second.
+-- The place of element k's part: it is behind its fixed fields, within the table, and there is no second; nor a second result.
 -- Assumes nothing.
 use Prim.Native.Nat.{ℕ, zero, suc, ◌+◌, ◌-◌, ◌≤◌}
 use native.Mathlib.Omega.{arith}
-use mathlib.Core.Path.{◌≡◌, sym, ◌∙◌, ap}
+use mathlib.Core.Path.{◌≡◌, refl, sym, ◌∙◌, ap}
 use mathlib.Core.List.{List, [], ◌∷◌}
 use mathlib.Core.Option.{some}
 use lib.ListN.{length, take, drop, length-append}
+use Rattle.std.specs.Prelude.{Result, Ok, Err}
 use Rattle.format.specs.Slots.{written, Bytes}
 use Rattle.format.specs.Records.{Record, element_of}
 use Rattle.format.specs.Layout.{fixed, part, layout, layouts, place_after}
@@ -14,14 +15,19 @@ use Rattle.format.specs.Asked.{nth, Gives, given, past, ungiven}
 use Rattle.format.specs.declared.records.Element.{Element as Case}
 use Rattle.format.specs.Answers.{Asked}
 use Rattle.format.specs.Answers.{Gives as Element}
+use Rattle.format.specs.Answers as answer
+use Rattle.format.specs.Answers.{Answered, told}
+use Rattle.format.specs.declared.answers.Refusal.{Refusal}
 use Rattle.format.proofs.Theorem.{one_list, accepts_passed}
 use Rattle.format.proofs.Opening.{table_length}
 use Rattle.format.proofs.Written.{length_written}
 use Rattle.format.proofs.Asking.{gives_unique}
+use Rattle.format.proofs.Refusals.{told_once}
 use Rattle.walking.specs.Walk.{Located}
 use Rattle.reader.specs.PartPlace.{Placed}
 use Rattle.reader.specs.PartPlace.{At, Refused}
-use Rattle.reader.specs.PartPlace.{placed_at, GivesPlace}
+use Rattle.reader.specs.PartPlace.{placed, placed_at, GivesPlace}
+use Rattle.reader.specs.declared.Span.{Span}
 use Rattle.format.specs.declared.settings.Settings.{Settings}
 
 pub placed_there :
@@ -113,3 +119,24 @@ only_place σ b k (Refused j q) (At p n) small g h = absurd (never σ b k p n j 
 only_place σ b k (Refused j q) (Refused j' q') small g h =
     let e = (gives_unique σ b k _ _ _ _ small g.gives h.gives).0 in
     cc
+
+-- what a result says of a place is said by no other result
+abbrev answered : Placed → Answered Span
+answered (At p n) = answer.Gives (record { place = p; len = n })
+answered (Refused k p) = answer.Refused k p
+
+placed_told : (r : Result Span Refusal) → answered (placed r) ≡ told r
+placed_told (Ok s) = refl
+placed_told (Err r) = refl
+
+pub placed_once : (r q : Result Span Refusal) → placed r ≡ placed q → r ≡ q
+placed_once r q e = told_once r q (sym (placed_told r) ∙ ap answered e ∙ placed_told q)
+
+-- so `part_place` has no second result
+pub only_place_result :
+    (σ : Settings) (b : List ℕ) (k : ℕ) (r r' : Result Span Refusal)
+    → Bytes b
+    → GivesPlace σ b k (placed r)
+    → GivesPlace σ b k (placed r')
+    → r ≡ r'
+only_place_result σ b k r r' small g h = placed_once r r' (only_place σ b k (placed r) (placed r') small g h)

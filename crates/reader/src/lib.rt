@@ -42,7 +42,10 @@ pub fn check(table: &[u8], settings: Settings) -> Result<usize, Refusal>
 pub fn description(table: &[u8], settings: Settings) -> Result<Description, Refusal>
     ensures { Describes settings table.now (told result) }
 {
-    read(table, settings)?;
+    let answer = read(table, settings);
+    let Ok(_) = answer else {
+        return Err(answer.unwrap_err());
+    };
     let chip = settings.chip;
     Ok(fields::description(table, chip))
 }
@@ -60,7 +63,10 @@ pub fn element(table: &[u8], k: usize, settings: Settings) -> Result<Element, Re
 fn place(table: &[u8], k: usize, settings: Settings) -> Result<usize, Refusal>
     ensures { Places settings table.now k result }
 {
-    let n = read(table, settings)?;
+    let answer = read(table, settings);
+    let Ok(n) = answer else {
+        return answer;
+    };
     if n <= k {
         return Err(Rule::PastTheLast.at(0));
     }

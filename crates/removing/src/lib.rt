@@ -45,7 +45,10 @@ fn judge(table: &[u8], k: usize, chip: Chip) -> Result<Out, Refusal>
         chip,
         rules: Rules::Ordinary,
     };
-    let n = reader::check(table, settings)?;
+    let answer = reader::check(table, settings);
+    let Ok(n) = answer else {
+        return Err(answer.unwrap_err());
+    };
     if n <= k {
         return Err(Rule::PastTheLast.at(0));
     }

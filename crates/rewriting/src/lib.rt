@@ -19,7 +19,10 @@ pub fn rewrite(table: &[u8], out: &mut [u8], chip: Chip) -> Result<usize, Refusa
         chip,
         rules: Rules::Ordinary,
     };
-    reader::check(table, settings)?;
+    let answer = reader::check(table, settings);
+    let Ok(_) = answer else {
+        return answer;
+    };
     if out.len() < table.len() {
         return Err(Rule::NoRoom.at(0));
     }

@@ -8,20 +8,21 @@ use Rattle.walking.proofs.Stepping.{came, over}
 use Rattle.listing.proofs.Turn.{refusal, begun, room, unpinned, turned, whole}
 use Rattle.listing.proofs.list.Goals as goal
 
-pub returns-in-Err : goal.returns-in-Err
-returns-in-Err c = refusal _ _ _ _ c.in-Err.ensures (rw c.number.ensures at c.put_refused.ensures)
+pub returns-in_default : goal.returns-in_default
+returns-in_default c =
+    refusal _ _ _ _ (rw c.unwrap_err-refusal.ensures at c.check-answer.ensures) (rw c.number.ensures at c.put_refused.ensures)
 
 pub description-requires : goal.description-requires
 description-requires c =
-    omega (arith, long _ _ c.in_default.ensures)
+    omega (arith, long _ _ (rw c.in-Ok.is at c.check-answer.ensures))
 
 pub of-at-items-requires : goal.of-at-items-requires
-of-at-items-requires c = verdict_divided _ _ c.in_default.ensures
+of-at-items-requires c = verdict_divided _ _ (rw c.in-Ok.is at c.check-answer.ensures)
 
 pub loop-at-init : goal.loop-at-init
 loop-at-init c =
     let o = c.of-at-items.ensures in
-    let v = c.in_default.ensures in
+    let v = rw c.in-Ok.is at c.check-answer.ensures in
     rw (c.into_iter-at-iterator.ensures.into_iter_gives, o.0, o.1)
     (verdict_divided _ _ v, tt, refl, begun _ _ _ _ v)
 

@@ -2,7 +2,6 @@
 -- Assumes nothing.
 use native.Mathlib.Omega.{arith}
 use mathlib.Core.Path.{refl}
-use Rattle.format.proofs.Refusals.{handed}
 use Rattle.reader.proofs.Asking.{long}
 use Rattle.walking.proofs.Left.{verdict_divided, here}
 use Rattle.walking.proofs.Stepping.{came, over}
@@ -10,23 +9,23 @@ use Rattle.rewriting.specs.Again.{refused}
 use Rattle.rewriting.proofs.Run.{too_short, begun, turned, ran}
 use Rattle.rewriting.proofs.rewrite.Goals as goal
 
-pub returns-in_err-check : goal.returns-in_err-check
-returns-in_err-check c = rw (handed _ _ c.from_residual.ensures.1) (refused c.in_err-check.ensures)
+pub returns-in_default : goal.returns-in_default
+returns-in_default c = rw c.in_default.is (refused (rw c.in_default.is at c.check-answer.ensures))
 
 pub returns-then-out-table : goal.returns-then-out-table
-returns-then-out-table c = rw c.at.ensures (too_short _ _ _ c.in_ok-check.ensures c.if-out-table.true)
+returns-then-out-table c = rw c.at.ensures (too_short _ _ _ (rw c.in-Ok.is at c.check-answer.ensures) c.if-out-table.true)
 
 pub description-requires : goal.description-requires
 description-requires c =
-    omega (arith, long _ _ c.in_ok-check.ensures)
+    omega (arith, long _ _ (rw c.in-Ok.is at c.check-answer.ensures))
 
 pub of-at-items-requires : goal.of-at-items-requires
-of-at-items-requires c = verdict_divided _ _ c.in_ok-check.ensures
+of-at-items-requires c = verdict_divided _ _ (rw c.in-Ok.is at c.check-answer.ensures)
 
 pub loop-at-init : goal.loop-at-init
 loop-at-init c =
     let o = c.of-at-items.ensures in
-    let v = c.in_ok-check.ensures in
+    let v = rw c.in-Ok.is at c.check-answer.ensures in
     rw (c.into_iter-at-iterator.ensures.into_iter_gives, o.0, o.1)
     (verdict_divided _ _ v, tt, refl, refl, begun _ _ _ v)
 
