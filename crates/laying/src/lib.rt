@@ -39,7 +39,10 @@ pub fn copy_into(buf: &mut [u8], at: usize, new: &[u8])
     requires { at + length new.now ≤ length buf.old }
     ensures { buf.new ≡ overwritten at new.now buf.old }
 {
-    buf[at..at + new.len()].copy_from_slice(new);
+    // Byte by byte: `copy_from_slice` would have the archive ask for memmove from outside.
+    for j in 0..new.len() {
+        buf[at + j] = new[j];
+    }
 }
 
 // The description of a table of 16 bytes.
