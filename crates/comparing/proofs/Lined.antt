@@ -6,8 +6,9 @@ use mathlib.Core.Path.{◌≡◌, sym, ◌∙◌, ap, subst}
 use mathlib.Core.Bool.{Bool, true, false, cond}
 use mathlib.Core.List.{List, [], ◌∷◌, ◌++◌, append_assoc}
 use lib.ListN.{length, length-append}
+use lib.Dec.{eqb}
 use borrow.Author.Tests.{eq-eqb, ne_eqb}
-use Rattle.spelling.specs.Spelling.{Put, decimal}
+use Rattle.spelling.specs.Spelling.{Put, decimal, dash}
 use Rattle.spelling.proofs.Putting.{then, put_none}
 use Rattle.listing.specs.Lines.{line}
 use Rattle.differing.specs.Fields.{hex, ascii}
@@ -27,6 +28,25 @@ pub behind :
     → Put c at (68 ∷ 9 ∷ [] ++ ((x ++ 9 ∷ []) ++ ((y ++ 9 ∷ []) ++ z))) r' e
 behind {c} {e = e} {at = at} {r' = r'} x y {z} p q =
     subst (λ (l : List ℕ). Put c at l r' e) (ap (λ (l : List ℕ). 68 ∷ 9 ∷ [] ++ l) (append_assoc (x ++ 9 ∷ []) (y ++ 9 ∷ []) z)) (then p q)
+
+-- a number's text, or `-` where the number stands for the missing one, and what ends the field
+module _ (k : ℕ) (text : List ℕ) {n absent : ℕ} {c : List ℕ} {at end : ℕ} where
+  pub missing :
+      {d : List ℕ} {r : ℕ}
+      → n ≡ absent
+      → 1 ≤ k
+      → Put c at (45 ∷ end ∷ []) r d
+      → Put c at (cond (eqb n absent) dash text ++ end ∷ []) r d × (r ≤ at + (k + 1))
+  missing e l p = (rw (eq-eqb n absent e) p, omega (arith, p.ends))
+
+  pub present :
+      {d d' : List ℕ} {r r' : ℕ}
+      → (n ≡ absent → ⊥)
+      → Put c at text r d
+      → r ≤ at + k
+      → Put d r (end ∷ []) r' d'
+      → Put c at (cond (eqb n absent) dash text ++ end ∷ []) r' d' × (r' ≤ at + (k + 1))
+  present e p l q = (rw (ne_eqb n absent e) (then p q), omega (arith, q.ends))
 
 -- bytes in hex and what ends the field: where they end, and the buffer is as long as it was
 pub ended_length :

@@ -96,7 +96,7 @@ fn put_field(out: &mut [u8], at: usize, a: usize, b: usize, i: usize, v: usize, 
     ensures { Put out.old at (field_line a b i v w) result out.new }
 {
     let e = put_front(out, at, Some(a), Some(b));
-    let f = put(out, e, name(i).as_bytes());
+    let f = put(out, e, name(i));
     let g = put_byte(out, f, 9);
     let h = put_content(out, g, v, 9);
     put_content(out, h, w, 10)

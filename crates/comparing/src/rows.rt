@@ -18,77 +18,78 @@ pub enum Way {
     LowBits,
 }
 
-// A field: its name, how it stands in the bytes, and at which offset.
+// A field: its name and how long that is, how it stands in the bytes, and at which offset. The letters stand in the row itself: a text
+// behind a reference would have to be relocated where the archive is loaded.
 #[derive(Clone, Copy)]
-struct Row(&'static str, Way, u8);
+struct Row([u8; 29], u8, Way, u8);
 
 // A kind's rows: the first of its own, how many they are, and how many it has before them.
 #[derive(Clone, Copy)]
 pub struct OfKind(pub u8, pub u8, pub u8);
 
-const ROWS: [Row; 59] = [
-    Row("string index", Way::Byte, 3),
-    Row("x pos", Way::Byte, 4),
-    Row("y pos", Way::Byte, 5),
-    Row("z pos", Way::Byte, 6),
-    Row("zone identifier", Way::Byte, 7),
-    Row("esa device type", Way::Byte, 3),
-    Row("string index", Way::Byte, 4),
-    Row("serial number", Way::Triple, 5),
-    Row("spwr", Way::TopBit, 8),
-    Row("power units", Way::LowBits, 8),
-    Row("hardware revision 0", Way::Pin, 9),
-    Row("hardware revision 1", Way::Pin, 10),
-    Row("hardware revision 2", Way::Pin, 11),
-    Row("bus type", Way::LowNibble, 8),
-    Row("device address", Way::Address, 8),
-    Row("temperature lsb read register", Way::Word, 11),
-    Row("temperature msb read register", Way::Word, 13),
-    Row("minimum value", Way::Word, 15),
-    Row("minimum temp", Way::Byte, 17),
-    Row("maximum value", Way::Word, 18),
-    Row("maximum temp", Way::Byte, 20),
-    Row("thermal analog type", Way::LowNibble, 8),
-    Row("pin", Way::Pin, 9),
-    Row("value0", Way::Word, 10),
-    Row("value25", Way::Word, 12),
-    Row("value50", Way::Word, 14),
-    Row("value75", Way::Word, 16),
-    Row("value100", Way::Word, 18),
-    Row("pwm", Way::Pin, 8),
-    Row("tach", Way::Pin, 9),
-    Row("ppr", Way::Byte, 10),
-    Row("minimum rpm", Way::Word, 11),
-    Row("maximum rpm", Way::Word, 13),
-    Row("minimum duty cycle", Way::Byte, 15),
-    Row("pin1", Way::Pin, 8),
-    Row("color1", Way::HighNibble, 9),
-    Row("purpose1", Way::LowNibble, 9),
-    Row("pin2", Way::Pin, 10),
-    Row("color2", Way::HighNibble, 11),
-    Row("purpose2", Way::LowNibble, 11),
-    Row("pin3", Way::Pin, 12),
-    Row("color3", Way::HighNibble, 13),
-    Row("purpose3", Way::LowNibble, 13),
-    Row("pin", Way::Pin, 8),
-    Row("full", Way::Word, 9),
-    Row("empty", Way::Word, 11),
-    Row("warning", Way::Word, 13),
-    Row("pin", Way::Pin, 8),
-    Row("vmax", Way::Byte, 9),
-    Row("vmin", Way::Byte, 10),
-    Row("pin", Way::Pin, 8),
-    Row("imin", Way::Word, 10),
-    Row("imax", Way::Word, 12),
-    Row("bus type", Way::LowNibble, 8),
-    Row("device address", Way::Address, 8),
-    Row("chip identifier", Way::Byte, 11),
-    Row("red", Way::Pin, 8),
-    Row("green", Way::Pin, 9),
-    Row("blue", Way::Pin, 10),
+static ROWS: [Row; 59] = [
+    Row(*b"string index                 ", 12, Way::Byte, 3),
+    Row(*b"x pos                        ", 5, Way::Byte, 4),
+    Row(*b"y pos                        ", 5, Way::Byte, 5),
+    Row(*b"z pos                        ", 5, Way::Byte, 6),
+    Row(*b"zone identifier              ", 15, Way::Byte, 7),
+    Row(*b"esa device type              ", 15, Way::Byte, 3),
+    Row(*b"string index                 ", 12, Way::Byte, 4),
+    Row(*b"serial number                ", 13, Way::Triple, 5),
+    Row(*b"spwr                         ", 4, Way::TopBit, 8),
+    Row(*b"power units                  ", 11, Way::LowBits, 8),
+    Row(*b"hardware revision 0          ", 19, Way::Pin, 9),
+    Row(*b"hardware revision 1          ", 19, Way::Pin, 10),
+    Row(*b"hardware revision 2          ", 19, Way::Pin, 11),
+    Row(*b"bus type                     ", 8, Way::LowNibble, 8),
+    Row(*b"device address               ", 14, Way::Address, 8),
+    Row(*b"temperature lsb read register", 29, Way::Word, 11),
+    Row(*b"temperature msb read register", 29, Way::Word, 13),
+    Row(*b"minimum value                ", 13, Way::Word, 15),
+    Row(*b"minimum temp                 ", 12, Way::Byte, 17),
+    Row(*b"maximum value                ", 13, Way::Word, 18),
+    Row(*b"maximum temp                 ", 12, Way::Byte, 20),
+    Row(*b"thermal analog type          ", 19, Way::LowNibble, 8),
+    Row(*b"pin                          ", 3, Way::Pin, 9),
+    Row(*b"value0                       ", 6, Way::Word, 10),
+    Row(*b"value25                      ", 7, Way::Word, 12),
+    Row(*b"value50                      ", 7, Way::Word, 14),
+    Row(*b"value75                      ", 7, Way::Word, 16),
+    Row(*b"value100                     ", 8, Way::Word, 18),
+    Row(*b"pwm                          ", 3, Way::Pin, 8),
+    Row(*b"tach                         ", 4, Way::Pin, 9),
+    Row(*b"ppr                          ", 3, Way::Byte, 10),
+    Row(*b"minimum rpm                  ", 11, Way::Word, 11),
+    Row(*b"maximum rpm                  ", 11, Way::Word, 13),
+    Row(*b"minimum duty cycle           ", 18, Way::Byte, 15),
+    Row(*b"pin1                         ", 4, Way::Pin, 8),
+    Row(*b"color1                       ", 6, Way::HighNibble, 9),
+    Row(*b"purpose1                     ", 8, Way::LowNibble, 9),
+    Row(*b"pin2                         ", 4, Way::Pin, 10),
+    Row(*b"color2                       ", 6, Way::HighNibble, 11),
+    Row(*b"purpose2                     ", 8, Way::LowNibble, 11),
+    Row(*b"pin3                         ", 4, Way::Pin, 12),
+    Row(*b"color3                       ", 6, Way::HighNibble, 13),
+    Row(*b"purpose3                     ", 8, Way::LowNibble, 13),
+    Row(*b"pin                          ", 3, Way::Pin, 8),
+    Row(*b"full                         ", 4, Way::Word, 9),
+    Row(*b"empty                        ", 5, Way::Word, 11),
+    Row(*b"warning                      ", 7, Way::Word, 13),
+    Row(*b"pin                          ", 3, Way::Pin, 8),
+    Row(*b"vmax                         ", 4, Way::Byte, 9),
+    Row(*b"vmin                         ", 4, Way::Byte, 10),
+    Row(*b"pin                          ", 3, Way::Pin, 8),
+    Row(*b"imin                         ", 4, Way::Word, 10),
+    Row(*b"imax                         ", 4, Way::Word, 12),
+    Row(*b"bus type                     ", 8, Way::LowNibble, 8),
+    Row(*b"device address               ", 14, Way::Address, 8),
+    Row(*b"chip identifier              ", 15, Way::Byte, 11),
+    Row(*b"red                          ", 3, Way::Pin, 8),
+    Row(*b"green                        ", 5, Way::Pin, 9),
+    Row(*b"blue                         ", 4, Way::Pin, 10),
 ];
 
-const KINDS: [OfKind; 15] = [
+static KINDS: [OfKind; 15] = [
     OfKind(0, 0, 0),
     OfKind(13, 8, 5),
     OfKind(21, 7, 5),
@@ -115,11 +116,13 @@ pub fn of_kind(id: usize) -> OfKind
 }
 
 // A row's name.
-pub fn name(i: usize) -> &'static str
+pub fn name(i: usize) -> &'static [u8]
     requires { i < 59 }
     ensures { (result.now ≡ name_text i) × (length result.now ≤ 29) }
 {
-    ROWS[i].0
+    let row = &ROWS[i];
+    let n = usize::from(row.1);
+    &row.0[..n]
 }
 
 // How a row's field stands in the bytes.
@@ -127,7 +130,7 @@ fn way_of(i: usize) -> Way
     requires { i < 59 }
     ensures { way_number result ≡ get_or ways i 0 }
 {
-    ROWS[i].1
+    ROWS[i].2
 }
 
 // A row's offset.
@@ -135,7 +138,7 @@ fn offset(i: usize) -> usize
     requires { i < 59 }
     ensures { (result ≡ get_or offsets i 0) × (result < 256) }
 {
-    usize::from(ROWS[i].2)
+    usize::from(ROWS[i].3)
 }
 
 // The byte at a place, 0 past the end.

@@ -9,6 +9,6 @@ use Rattle.comparing.proofs.lines.put_field.Goals as goal
 
 pub returns : goal.returns
 returns c =
-    let is : c.as_bytes.result.now ≡ name_text c.args.i = cc in
+    let is = c.name.ensures.0 in
     behind (decimal c.args.a) (decimal c.args.b) c.put_front-e.ensures.0
     (then (then (rw is at c.put-f.ensures) c.put_byte-g.ensures) (then c.put_content-h.ensures.0 c.put_content.ensures.0))
