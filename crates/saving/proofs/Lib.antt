@@ -17,3 +17,4 @@ pub mod Passing
 pub mod Repaired
 pub mod OneRun
 pub mod Theorems
+pub mod Once
